@@ -1,0 +1,4 @@
+pub mod Character
+pub mod Integer
+pub mod Lexeme
+pub mod Tokens
