@@ -1,11 +1,16 @@
 -- Where a text stands among the names.
-use Rattle.std.proofs.Common.{◌≡◌, ℕ, ◌+◌, ◌<◌, Bool, true, false, not, cond, List, [], ◌∷◌, ◌++◌, map, length, length-append, Option, Some, None, refl, ap, sym, ◌∙◌, arith, ltb}
-use Rattle.std.specs.Prelude.{◌||◌, nat_lt, position}
+use Rattle.std.proofs.Common.{◌≡◌, ℕ, ◌+◌, ◌<◌, Bool, true, false, not, cond, List, [], ◌∷◌, ◌++◌, map, length, Option, Some, None, refl, ap, sym, ◌∙◌, arith, get_or}
+use Rattle.std.specs.Prelude.{◌||◌, nat_lt, position, slice_get}
 use Rattle.std.specs.List.{prefix_len, position_or_len, list_any}
 use Rattle.std.specs.Str.{bytes_eq}
 use Rattle.std.proofs.lemmas.List.{length-map}
 use Rattle.std.proofs.lemmas.Bool.Decides.{nat_tests}
 use Rattle.std.proofs.lemmas.Slice.Eq.{bytes_eq-Decides}
+use Rattle.std.proofs.lemmas.List.Quantifiers.{position-Some}
+use Rattle.std.proofs.lemmas.Option.{slice_get-get_or}
+use Rattle.std.specs.Option.{option_map}
+use Rattle.rb_tree.specs.declared.span.NameId.{NameId}
+use Rattle.rb_tree.specs.Texts.{number_of}
 
 pub bytes_eq-same : (xs ys : List ℕ) → xs ≡ ys → bytes_eq xs ys ≡ true
 bytes_eq-same xs ys e = (bytes_eq-Decides xs ys).1 e
@@ -39,3 +44,13 @@ position_or_len-push p (y ∷ ys) x h = or_len_step p (p y) ys x (position_or_le
 -- where a text is found once it is among the names
 pub position_within : {X : Type 0} (p : X → Bool) (xs : List X) (n : ℕ) → n ≡ position_or_len p xs → n < length xs → Some n ≡ position p xs
 position_within p xs n e lt = let small : position_or_len p xs < length xs = rw (← e) lt in grind (arith, nat_tests)
+
+numbered_at : (at : Option ℕ) (id : NameId) → option_map (λ n. record { 0 = n }) at ≡ Some id → at ≡ Some id.0
+numbered_at None id h = absurd (cc)
+numbered_at (Some n) id h = let e : record { 0 = n } ≡ id = cc in ap (λ (x : NameId). Some x.0) e
+
+-- the number of a text leads back to the text
+pub slice_get-number_of : (text : List ℕ) (names : List (List ℕ)) (id : NameId) → number_of text names ≡ Some id → slice_get names id.0 ≡ Some text
+slice_get-number_of text names id h =
+    let f = position-Some (bytes_eq text) names id.0 [] (numbered_at (position (bytes_eq text) names) id h) in
+    slice_get-get_or names id.0 [] f.0 ∙ ap Some (sym ((bytes_eq-Decides text (get_or names id.0 [])).0 f.1))

@@ -1,0 +1,36 @@
+-- A program that is held, and no fault from outside.
+use Rattle.std.proofs.Common.{◌≡◌, ℕ, ◌≤◌, List, take, Option, Some, None, refl, sym, ap, ◌∙◌, subst, ◌⊎◌, inl, inr, arith}
+use Rattle.std.proofs.lemmas.List.{take_all}
+use Rattle.rb_tree.specs.declared.node.Program.{Program}
+use Rattle.rb_prog.specs.Edge.{Held, Bytes}
+use Rattle.rb_prog.specs.Transfer.{ReadOf, NotHeld}
+use Rattle.rb_prog.specs.declared.model.Entry.{Entry}
+use Rattle.rb_prog.specs.declared.model.End.{End}
+use Rattle.rb_prog.specs.declared.model.End.TheVariants as ending
+use Rattle.rb_prog.specs.Run.{Accepts, IsRefused, status_of, RunsSource, shown, refused, Runs, read, missing, failed}
+use Rattle.rb_prog.specs.Run as run
+
+ended : (end : End) (sunk : Type 0) → (status_of end ≡ 5 → sunk) → (sunk → ⊥) → (status_of end ≡ 0) ⊎ (status_of end ≡ 1) ⊎ (status_of end ≡ 8)
+ended (ending.Value value) sunk cause never = inl refl
+ended (ending.Raised fault at) sunk cause never = inr (inl refl)
+ended ending.Sink sunk cause never = absurd (never (cause refl))
+ended ending.Memory sunk cause never = inr (inr refl)
+
+source_ends : (bytes : List ℕ) (program : Program) (sunk : Type 0) (old new : Option (List ℕ)) (status : ℕ) (front : Option (List Entry)) → Accepts bytes program → RunsSource bytes old new status front
+    → (status ≡ 5 → sunk) → (sunk → ⊥) → (status ≡ 0) ⊎ (status ≡ 1) ⊎ (status ≡ 8)
+source_ends bytes program sunk old new _ _ a (shown {end} p r e) cause never = ended end sunk cause never
+source_ends bytes program sunk old new _ _ a (refused r n) cause never = absurd (r program a)
+source_ends bytes program sunk old new _ _ a (run.RunsSource.out_of_memory n) cause never = inr (inr refl)
+
+-- a source that is short enough is read whole
+all_read : (held bytes : List ℕ) (program : Program) → Accepts held program → bytes ≡ take 1048577 held → bytes ≡ held
+all_read held bytes program a e = let l = a.short in e ∙ take_all 1048577 held (omega arith)
+
+pub complete : (h : Held) (held : List ℕ) (program : Program) (read_failed sunk : Type 0) (old new : Option (List ℕ)) (status : ℕ) (front : Option (List Entry)) → Runs h read_failed old new status front
+    → h ≡ Bytes held → Accepts held program → (read_failed → ⊥) → (status ≡ 5 → sunk) → (sunk → ⊥) → (status ≡ 0) ⊎ (status ≡ 1) ⊎ (status ≡ 8)
+complete h held program read_failed sunk old new _ _ (read {bytes} {status} {front} r s) e a calm cause never =
+    let same : bytes ≡ held = all_read held bytes program a (subst (λ h. ReadOf h bytes) e r) in
+    source_ends held program sunk old new status front a (subst (λ b. RunsSource b old new status front) same s) cause never
+complete h held program read_failed sunk old new _ _ (missing m k) e a calm cause never = absurd (subst NotHeld e m)
+complete h held program read_failed sunk old new _ _ (failed f k) e a calm cause never = absurd (calm f)
+complete h held program read_failed sunk old new _ _ (run.Runs.out_of_memory k) e a calm cause never = inr (inr refl)

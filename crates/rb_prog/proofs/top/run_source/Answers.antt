@@ -1,0 +1,24 @@
+use Rattle.std.proofs.Common.{ap, sym, ◌∙◌, Err}
+use Rattle.rb_prog.specs.Run.{RunsSource, shown, refused, out_of_memory}
+use Rattle.rb_prog.proofs.Histories.{adds_none}
+use Rattle.rb_prog.proofs.Meant.{program_means}
+use Rattle.rb_prog.proofs.top.run_source.Goals as goal
+
+pub returns-in-Err-Source-clause-runs : goal.returns-in-Err-Source-clause-runs
+returns-in-Err-Source-clause-runs g c =
+    rw c.unrun.ensures (refused (c.in-Err-Source.ensures.refused (ap Err c.in-Err-Source.field-0-is)) (adds_none (g.K.Sink.told c.args.out)))
+
+pub returns-in-Err-Memory-clause-runs : goal.returns-in-Err-Memory-clause-runs
+returns-in-Err-Memory-clause-runs g c = rw c.unrun-in-Err-Memory.ensures (out_of_memory (adds_none (g.K.Sink.told c.args.out)))
+
+pub run_main-requires-clause-means : goal.run_main-requires-clause-means
+run_main-requires-clause-means g c =
+    let a = c.in-Ok.ensures.accepted in
+    program_means a.tokens c.in-Ok.program a.spelled
+
+pub returns-in_default-clause-runs : goal.returns-in_default-clause-runs
+returns-in_default-clause-runs g c =
+    rw c.unrun-in_default.ensures (out_of_memory (rw c.in_default.ensures.unmade (adds_none (g.K.Sink.told c.args.out))))
+
+pub returns-clause-runs : goal.returns-clause-runs
+returns-clause-runs g c = rw c.status_of.ensures (shown c.in-Ok.ensures.accepted c.in-Some.ensures.runs c.in-Some.ensures.ended)

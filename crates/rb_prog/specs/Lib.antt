@@ -1,0 +1,7 @@
+pub mod Edge
+pub mod Transfer
+pub mod History
+pub mod Meaning
+pub mod Keeps
+pub mod Walk
+pub mod Run
