@@ -1,0 +1,75 @@
+"""Times scripts by several hosts and prints ratios, and the start-up time and memory of the built program."""
+import os
+import shutil
+import statistics
+import subprocess
+import sys
+import tempfile
+import time
+
+RUNS = 7
+
+
+def once(command):
+    """Runs a command; answers its seconds, its output, its status and its peak memory in KiB."""
+    reading, writing = os.pipe()
+    begun = time.perf_counter()
+    child = os.posix_spawn(
+        command[0],
+        command,
+        os.environ,
+        file_actions=[(os.POSIX_SPAWN_DUP2, writing, 1), (os.POSIX_SPAWN_CLOSE, reading)],
+    )
+    os.close(writing)
+    with os.fdopen(reading, "rb") as output:
+        text = output.read()
+    _, status, usage = os.wait4(child, 0)
+    return time.perf_counter() - begun, text, os.waitstatus_to_exitcode(status), usage.ru_maxrss
+
+
+def median(command):
+    runs = [once(command) for _ in range(RUNS)]
+    return statistics.median(run[0] for run in runs), runs[0][1], runs[0][2], max(run[3] for run in runs)
+
+
+def main():
+    program, folder = sys.argv[1:3]
+    hosts = [("rbso", [os.path.abspath(program), "run"])]
+    for name in ("ruby", "mruby"):
+        path = shutil.which(name)
+        if path:
+            hosts.append((name, [path]))
+        else:
+            print(f"bench: {name} is not installed, skipped")
+    with tempfile.TemporaryDirectory() as made:
+        write_many_lines(os.path.join(made, "many_lines.rb"))
+        for place in (folder, made):
+            compare(hosts, place)
+
+
+def write_many_lines(path):
+    """A script of 30,000 lines: sums over fifty names, every second of them printed."""
+    with open(path, "w", encoding="ascii") as script:
+        script.write("a0 = 1\n")
+        for line in range(1, 20_000):
+            script.write(f"a{line % 50} = a{(line - 1) % 50} + {line}\n")
+            if line % 2 == 0:
+                script.write(f"puts a{line % 50} * 3\n")
+
+
+def compare(hosts, folder):
+    """Prints a line for each script of a folder and each host."""
+    for script in sorted(name for name in os.listdir(folder) if name.endswith(".rb")):
+        path = os.path.join(folder, script)
+        base = None
+        for name, words in hosts:
+            seconds, text, status, memory = median(words + [path])
+            if base is None:
+                base = (seconds, text)
+            same = "" if text == base[1] else ", OTHER OUTPUT"
+            ratio = seconds / base[0]
+            print(f"{script}: {name}: {seconds * 1000:.1f} ms, {ratio:.2f} of rbso, {memory} KiB, status {status}{same}")
+
+
+if __name__ == "__main__":
+    main()

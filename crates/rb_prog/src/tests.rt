@@ -1,0 +1,188 @@
+// Whole runs over files and sinks in memory. The expected values are worked out by hand from the language.
+
+use crate::edge::{MemoryFiles, MemorySink, OpenGate};
+use crate::model::{Call, End, Fault, Reply, Value};
+use crate::{Report, run};
+use rb_tree::{Items, Span, Text};
+use std::alloc::{AllocError, Global};
+use std::sync::Arc;
+use std::test::Fail;
+
+/// Enough for what the scripts here print.
+const ROOM: usize = 4096;
+
+/// The files that hold one script under `a.rb`.
+fn script(alloc: Global, source: &str, failing: Vec<u64>) -> Result<MemoryFiles, AllocError> {
+    let path = Items::from_slice(alloc, b"a.rb")?;
+    let bytes: Text = Items::from_slice(alloc, source.as_bytes())?;
+    Ok(MemoryFiles::new(vec![in alloc; (path, bytes)]?, failing))
+}
+
+/// The words, each as a text of its own.
+fn words(alloc: Global, texts: &[&str]) -> Result<Vec<String>, AllocError> {
+    let mut all = Vec::with_capacity(alloc, texts.len())?;
+    for text in texts {
+        all.push(String::from_str(alloc, text)?)?;
+    }
+    Ok(all)
+}
+
+/// A run of words over files, with writes that fail at the listed numbers.
+fn ran(
+    alloc: Global,
+    texts: &[&str],
+    files: &mut MemoryFiles,
+    failing: Vec<u64>,
+) -> Result<Report<MemorySink>, Fail> {
+    let words = words(alloc, texts)?;
+    let out = MemorySink::new(alloc, failing, ROOM)?;
+    let mut err = MemorySink::new(alloc, Vec::new(alloc), ROOM)?;
+    let gate = Arc::new(alloc, OpenGate {})?;
+    Ok(run(alloc, words.as_slice(), files, out, &mut err, gate))
+}
+
+/// A script, its output and its status.
+const SCRIPTS: [(&str, &str, u8); 24] = [
+    ("a = 6\nputs a * 7", "42\n", 0),
+    ("a = 6\nputs a * 7\n", "42\n", 0),
+    ("", "", 0),
+    ("\n\n  \n", "", 0),
+    ("puts 1", "1\n", 0),
+    ("  puts   1+2  ", "3\n", 0),
+    ("puts 1 -2\nputs 0*5", "-1\n0\n", 0),
+    ("a=1\nb=a\na=2\nputs a\nputs b", "2\n1\n", 0),
+    ("a = 3\na = a + a\nputs a", "6\n", 0),
+    ("puts 9223372036854775807", "9223372036854775807\n", 0),
+    (
+        "m = 0 - 9223372036854775807\nputs m - 1",
+        "-9223372036854775808\n",
+        0,
+    ),
+    ("puts 9223372036854775807 + 1", "", 1),
+    ("puts 1\nm = 9223372036854775807 * 2\nputs 2", "1\n", 1),
+    ("m = 0 - 9223372036854775807\nputs m - 2", "", 1),
+    ("puts b", "", 3),
+    ("b = b", "", 3),
+    ("puts 9223372036854775808", "", 3),
+    ("puts 1 + 2 + 3", "", 3),
+    ("puts -1", "", 3),
+    ("end = 1", "", 3),
+    ("puts = 1", "", 3),
+    ("puts 1;puts 2", "", 3),
+    ("puts 07", "", 3),
+    ("puts 1\r\n", "", 3),
+];
+
+#[test]
+fn scripts_have_their_output_and_status(rt: HostRuntime) -> Result<(), Fail> {
+    let alloc = rt.alloc();
+    for (source, output, status) in SCRIPTS {
+        let mut files = script(alloc, source, Vec::new(alloc))?;
+        let report = ran(alloc, &["run", "a.rb"], &mut files, Vec::new(alloc))?;
+        assert_eq!(rt; report.status, status, "{source}");
+        assert_eq!(rt; report.out.bytes(), output.as_bytes(), "{source}");
+        assert_eq!(rt; report.front.is_some(), status < 2, "{source}");
+    }
+    Ok(())
+}
+
+#[test]
+fn words_other_than_run_file_are_status_2(rt: HostRuntime) -> Result<(), Fail> {
+    let alloc = rt.alloc();
+    let all: [&[&str]; 7] = [
+        &[],
+        &["run"],
+        &["a.rb"],
+        &["run", "a.rb", "a.rb"],
+        &["run", "-"],
+        &["run", "--help"],
+        &["runs", "a.rb"],
+    ];
+    for texts in all {
+        let mut files = script(alloc, "puts 1", Vec::new(alloc))?;
+        let report = ran(alloc, texts, &mut files, Vec::new(alloc))?;
+        assert_eq!(rt; report.status, 2);
+        assert!(rt; report.out.bytes().is_empty());
+    }
+    Ok(())
+}
+
+#[test]
+fn a_missing_file_and_a_failing_read_are_status_4(rt: HostRuntime) -> Result<(), Fail> {
+    let alloc = rt.alloc();
+    let mut files = script(alloc, "puts 1", Vec::new(alloc))?;
+    let missing = ran(alloc, &["run", "none.rb"], &mut files, Vec::new(alloc))?;
+    assert_eq!(rt; missing.status, 4);
+    // The script is read in two calls, the second of which finds its end.
+    for (failing, status) in [(1, 4), (2, 4), (3, 0)] {
+        let mut files = script(alloc, "puts 1", vec![in alloc; failing]?)?;
+        let report = ran(alloc, &["run", "a.rb"], &mut files, Vec::new(alloc))?;
+        assert_eq!(rt; report.status, status);
+    }
+    Ok(())
+}
+
+#[test]
+fn a_failing_write_ends_the_run_behind_the_prints_before_it(rt: HostRuntime) -> Result<(), Fail> {
+    let alloc = rt.alloc();
+    let runs = [(1, "", 5), (2, "1\n", 5), (3, "1\n2\n", 5), (4, "1\n2\n3\n", 0)];
+    for (failing, output, status) in runs {
+        let mut files = script(alloc, "puts 1\nputs 2\nputs 3", Vec::new(alloc))?;
+        let failing = vec![in alloc; failing]?;
+        let report = ran(alloc, &["run", "a.rb"], &mut files, failing)?;
+        assert_eq!(rt; report.status, status);
+        assert_eq!(rt; report.out.bytes(), output.as_bytes());
+    }
+    Ok(())
+}
+
+#[test]
+fn a_source_has_at_most_1048576_bytes(rt: HostRuntime) -> Result<(), Fail> {
+    let alloc = rt.alloc();
+    for (size, status) in [(1_048_576, 0), (1_048_577, 3), (1_100_000, 3)] {
+        let path = Items::from_slice(alloc, b"a.rb")?;
+        let bytes = Items::from_vec(vec![in alloc; b' '; size]?);
+        let files = vec![in alloc; (path, bytes)]?;
+        let mut files = MemoryFiles::new(files, Vec::new(alloc));
+        let report = ran(alloc, &["run", "a.rb"], &mut files, Vec::new(alloc))?;
+        assert_eq!(rt; report.status, status);
+    }
+    Ok(())
+}
+
+/// The steps of a script's prints, its end, and the step of that.
+const HISTORIES: [(&str, &[u64], End, u64); 4] = [
+    ("", &[], End::Value(Value::Nil), 0),
+    ("a = 6\nputs a * 7", &[6], End::Value(Value::Nil), 6),
+    ("puts 1\nputs 2", &[2, 4], End::Value(Value::Nil), 4),
+    (
+        "puts 1\nputs 9223372036854775807 + 1",
+        &[2],
+        End::Raised(Fault::IntegerOverflow, Span { from: 32, to: 33 }),
+        6,
+    ),
+];
+
+#[test]
+fn a_history_has_each_print_and_the_end_with_their_steps(rt: HostRuntime) -> Result<(), Fail> {
+    let alloc = rt.alloc();
+    for (source, prints, end, last) in HISTORIES {
+        let mut files = script(alloc, source, Vec::new(alloc))?;
+        let report = ran(alloc, &["run", "a.rb"], &mut files, Vec::new(alloc))?;
+        let Some(front) = report.front else {
+            return Err(Fail);
+        };
+        let mut steps = Vec::new(alloc);
+        let mut ends = Vec::new(alloc);
+        for entry in front.entries() {
+            assert_eq!(rt; (entry.thread, entry.reply), (0, Reply::Done));
+            match &entry.call {
+                Call::Print(_) => steps.push(entry.step)?,
+                Call::End(end) => ends.push((*end, entry.step))?,
+            }
+        }
+        assert_eq!(rt; steps.as_slice(), prints, "{source}");
+        assert_eq!(rt; ends.as_slice(), [(end, last)].as_slice(), "{source}");
+    }
+    Ok(())
+}

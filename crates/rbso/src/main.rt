@@ -1,0 +1,50 @@
+//! `rbso`: runs a script of a stated Ruby subset.
+#![tactic(auto)]
+
+use rb_prog::edge::{ErrSink, OpenGate, RealFiles, StdSink};
+use rb_prog::run;
+use std::alloc::Global;
+use std::process::ExitCode;
+use std::rt::Env;
+use std::sync::Arc;
+use std::{env, io};
+
+/// The status of words that are none of the program's.
+const USAGE: u8 = 2;
+
+/// The status of a run for which memory was refused.
+const OUT_OF_MEMORY: u8 = 8;
+
+/// The arguments without the program's own name.
+fn words<R: Env + AllocGlobal>(rt: &R) -> io::Result<Vec<String>> {
+    let mut args = env::args(rt)?;
+    args.next();
+    Ok(args.collect(rt.alloc())?)
+}
+
+/// The status of a run over the real file, standard output and standard error.
+fn status(rt: &HostRuntime, alloc: Global) -> u8 {
+    let words = match words(rt) {
+        Ok(words) => words,
+        Err(error) if error.kind() == io::ErrorKind::InvalidData => return USAGE,
+        Err(_) => return OUT_OF_MEMORY,
+    };
+    let Ok(gate) = Arc::new(alloc, OpenGate {}) else {
+        return OUT_OF_MEMORY;
+    };
+    let mut files = RealFiles::new(alloc, rt);
+    let mut err = ErrSink::new(rt.stderr());
+    let report = run(
+        alloc,
+        words.as_slice(),
+        &mut files,
+        StdSink::new(rt),
+        &mut err,
+        gate,
+    );
+    report.status
+}
+
+fn main(rt: HostRuntime) -> ExitCode {
+    ExitCode::from(status(&rt, rt.alloc()))
+}
