@@ -1,0 +1,5 @@
+pub mod Digits
+pub mod Joined
+pub mod Lexemes
+pub mod Firsts
+pub mod Lexing

@@ -1,5 +1,5 @@
 -- Integer literals.
-use Rattle.std.specs.Prelude.{◌≡◌, ℕ, ◌+◌, ◌-◌, ◌*◌, ◌≤◌, ◌⊎◌, Bool, true, List, [], ◌∷◌, fold}
+use Rattle.std.specs.Prelude.{◌≡◌, ℕ, ◌+◌, ◌-◌, ◌*◌, ◌≤◌, ◌⊎◌, true, List, [], ◌∷◌, fold}
 use Rattle.std.specs.List.{list_all}
 use Rattle.rb_lexer.specs.Character.{is_digit}
 

@@ -1,4 +1,5 @@
 pub mod Character
+pub mod First
 pub mod Integer
 pub mod Lexeme
 pub mod Tokens

@@ -1,6 +1,5 @@
 -- The tokens of a source, after the lexical structure of Ruby, cut down to lines of integers and words.
 use Rattle.std.specs.Prelude.{◌≡◌, ℕ, ◌+◌, Bool, true, false, ◌&&◌, List, [], ◌∷◌, ◌++◌, length}
-use Rattle.rb_tree.specs.declared.span.Span.{Span}
 use Rattle.rb_lexer.specs.declared.token.Token.{Token}
 use Rattle.rb_lexer.specs.declared.token.TokenKind.{TokenKind}
 use Rattle.rb_lexer.specs.declared.token.TokenKind.TheVariants as kind

@@ -1,5 +1,7 @@
 // Why a source is refused.
 
+use std::alloc::{AllocError, AllocFailed};
+
 /// Why a source has no tokens.
 #[derive(Clone, Copy, Debug, PartialEq, Eq)]
 pub enum LexFault {
@@ -10,4 +12,26 @@ pub enum LexFault {
     TooLarge,
     /// Want of memory.
     Memory,
+}
+
+impl From<AllocError> for LexFault {
+    ghost use Rattle.rb_lexer.specs.declared.fault.LexFault.TheVariants.{Memory};
+    ghost use Rattle.std.specs.Prelude.{◌≡◌};
+
+    ghost from_gives = { λ _ fault. fault ≡ Memory };
+
+    fn from(_refused: AllocError) -> LexFault {
+        LexFault::Memory
+    }
+}
+
+impl<T: Drop> From<AllocFailed<T>> for LexFault {
+    ghost use Rattle.rb_lexer.specs.declared.fault.LexFault.TheVariants.{Memory};
+    ghost use Rattle.std.specs.Prelude.{◌≡◌};
+
+    ghost from_gives = { λ _ fault. fault ≡ Memory };
+
+    fn from(_refused: AllocFailed<T>) -> LexFault {
+        LexFault::Memory
+    }
 }

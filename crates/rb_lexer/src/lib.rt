@@ -1,8 +1,11 @@
 //! The tokens of a script.
 #![tactic(auto)]
 
+mod characters;
 mod fault;
+mod integer;
 mod lexer;
+mod scan;
 #[cfg(test)]
 mod tests;
 mod token;

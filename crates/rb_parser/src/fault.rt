@@ -1,5 +1,10 @@
 // Why tokens are refused.
 
+ghost use Rattle.std.specs.Prelude.{◌≡◌};
+ghost use Rattle.rb_parser.specs.declared.fault.ParseFault.TheVariants.{Memory};
+
+use std::alloc::AllocError;
+
 /// Why tokens are no program.
 #[derive(Clone, Copy, Debug, PartialEq, Eq)]
 pub enum ParseFault {
@@ -7,4 +12,12 @@ pub enum ParseFault {
     Syntax(u32),
     /// Want of memory.
     Memory,
+}
+
+impl From<AllocError> for ParseFault {
+    ghost from_gives = { λ _ fault. fault ≡ Memory };
+
+    fn from(_error: AllocError) -> ParseFault {
+        ParseFault::Memory
+    }
 }

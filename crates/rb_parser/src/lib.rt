@@ -2,9 +2,11 @@
 #![tactic(auto)]
 
 mod fault;
+mod line;
 mod parser;
 #[cfg(test)]
 mod tests;
+mod words;
 
 pub use fault::ParseFault;
 pub use parser::parse;

@@ -1,4 +1,4 @@
-pub mod Reading
+pub mod Turns
 pub mod Walking
 pub mod Histories
 pub mod Meant

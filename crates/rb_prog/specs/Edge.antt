@@ -1,21 +1,21 @@
--- What the outside tells.
-use Rattle.std.specs.Prelude.{◌≡◌, ℕ, ◌+◌, ◌<◌, ◌≤◌, ◌-◌, ◌^◌, ◌⊎◌, List, [], ◌∷◌, ◌++◌, length, take, drop, Option, Some, None}
-use Rattle.rb_prog.specs.declared.edge.Read.{Read}
-use Rattle.rb_prog.specs.declared.edge.Read.TheVariants as read
-use Rattle.rb_prog.specs.declared.edge.Write.{Write}
-use Rattle.rb_prog.specs.declared.edge.Write.TheVariants as write
+-- What the outside of the program tells.
+use Rattle.std.specs.Prelude.{◌≡◌, ℕ, ◌<◌, ◌≤◌, ◌-◌, ◌^◌, ◌⊎◌, List, [], ◌++◌, length, take, drop, Option, Some, None}
+use Rattle.rb_prog.specs.declared.edge.traits.Read.{Read}
+use Rattle.rb_prog.specs.declared.edge.traits.Read.TheVariants as read
+use Rattle.rb_prog.specs.declared.edge.traits.Write.{Write}
+use Rattle.rb_prog.specs.declared.edge.traits.Write.TheVariants as write
 
--- what is held under a path: it isn't told, there is nothing, or these bytes
+-- what is held under a path: the object does not tell, there is nothing, or there are these bytes
 pub data Held : Type 0 where
   Untold : Held
   Nothing : Held
   Bytes : (bytes : List ℕ) → Held
 
--- a count rose, or stands at its last value
+-- a count rose, or stands at the last value of a `u64`
 abbrev pub Rose : ℕ → ℕ → Type 0
 Rose before now = (before < now) ⊎ (now ≡ 2 ^ 64 - 1)
 
--- what a read answers of what is held; room is the length of the room, and bytes what stands in it afterwards
+-- what a read from the place `at` on may answer of what is held; `room` is the length of the room, and `bytes` what stands in it afterwards
 abbrev pub Reads : Held → ℕ → ℕ → List ℕ → Read → Type 0
 Reads Untold at room bytes (read.Got n) = n ≤ room
 Reads Nothing at room bytes (read.Got n) = ⊥
@@ -29,14 +29,14 @@ Reads Nothing at room bytes read.Missing = Unit {0}
 Reads (Bytes held) at room bytes read.Missing = ⊥
 Reads h at room bytes read.Failed = Unit {0}
 
--- what a write adds to what is told
+-- what a sink tells grew by these bytes at its end, where it tells
 abbrev pub Adds : Option (List ℕ) → Option (List ℕ) → List ℕ → Type 0
 Adds None None bytes = Unit {0}
 Adds None (Some new) bytes = ⊥
 Adds (Some old) None bytes = ⊥
 Adds (Some old) (Some new) bytes = new ≡ old ++ bytes
 
--- what a write answers
+-- what a write may answer: it took some bytes from the front, at least one where there is one, or it took nothing
 abbrev pub Writes : Option (List ℕ) → Option (List ℕ) → List ℕ → Write → Type 0
 Writes old new bytes (write.Took n) = (n ≤ length bytes) × (0 < length bytes → 0 < n) × Adds old new (take n bytes)
 Writes old new bytes write.Failed = Adds old new []

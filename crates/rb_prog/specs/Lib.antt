@@ -1,4 +1,5 @@
 pub mod Edge
+pub mod Memory
 pub mod Transfer
 pub mod History
 pub mod Meaning

@@ -3,13 +3,14 @@
 
 pub mod edge;
 mod history;
-mod locals;
 mod lines;
+mod locals;
 pub mod model;
+#[cfg(test)]
+mod tests;
 mod top;
 mod transfer;
 mod walk;
 
 pub use history::RunFront;
 pub use top::{Report, run};
-

@@ -169,9 +169,7 @@ fn a_history_has_each_print_and_the_end_with_their_steps(rt: HostRuntime) -> Res
     for (source, prints, end, last) in HISTORIES {
         let mut files = script(alloc, source, Vec::new(alloc))?;
         let report = ran(alloc, &["run", "a.rb"], &mut files, Vec::new(alloc))?;
-        let Some(front) = report.front else {
-            return Err(Fail);
-        };
+        let front = report.front.expect(&rt, "a history");
         let mut steps = Vec::new(alloc);
         let mut ends = Vec::new(alloc);
         for entry in front.entries() {

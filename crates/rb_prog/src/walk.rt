@@ -64,7 +64,7 @@ fn print<K: Sink>(
     if let Err(_) = history.reserve() {
         return Err(Cut::Memory);
     }
-    if !write_all(out, text.as_slice()) {
+    if let Err(_) = write_all(out, text.as_slice()) {
         return Err(Cut::Sink);
     }
     history.record(entry(steps, Call::Print(text)));

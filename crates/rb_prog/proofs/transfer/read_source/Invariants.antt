@@ -1,9 +1,9 @@
-use Rattle.std.proofs.Common.{◌≡◌, ◌≤◌, ◌-◌, ℕ, List, length, take, vec_len}
-use Rattle.rb_prog.specs.Transfer.{TakenOf}
+use Rattle.std.proofs.Common.{◌≡◌, ◌≤◌, ◌-◌, ℕ, List, length, vec_len}
+use Rattle.rb_prog.proofs.Turns.{TakenOf}
 use Rattle.rb_prog.proofs.transfer.read_source.Given as goal
 
-abbrev pub invariant-loop-room : goal.invariant-loop-room
-invariant-loop-room g l =
+abbrev pub invariant-turns : goal.invariant-turns
+invariant-turns g l =
     let held = g.F.Files.held in
     let faults = g.F.Files.faults in
     record {
@@ -13,5 +13,5 @@ invariant-loop-room g l =
       rises : faults l.fn.files ≤ faults l.files;
     }
 
-abbrev pub decreases-loop-room : goal.decreases-loop-room
-decreases-loop-room g l = 1048577 - vec_len l.bytes
+abbrev pub decreases-turns : goal.decreases-turns
+decreases-turns g l = 1048577 - vec_len l.bytes
