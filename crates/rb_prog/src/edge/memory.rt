@@ -121,6 +121,9 @@ impl Sink for MemorySink {
         ensures answer { result ≡ sink_answer (is_to_fail self.old.calls self.old.failing.items
             || is_too_long self.old.room self.old.told.items bytes.now) bytes.now }
         ensures calls { self.new.calls ≡ one_more self.old.calls }
+        ensures failed { self.new.failed ≡ (if is_to_fail self.old.calls self.old.failing.items
+            || is_too_long self.old.room self.old.told.items bytes.now
+            then one_more self.old.failed else self.old.failed) }
         ensures kept { (self.new.room ≡ self.old.room) × (self.new.failing ≡ self.old.failing) }
     {
         self.calls = self.calls.saturating_add(1);

@@ -1,6 +1,6 @@
 // The files and the standard streams of the system, which tell no content.
 
-ghost use Rattle.std.specs.Prelude.{◌≡◌, ◌≤◌, ℕ, None, length, IfOk};
+ghost use Rattle.std.specs.Prelude.{◌≡◌, ◌≤◌, ◌+◌, ◌-◌, ◌^◌, None, length, min, string_bytes, IfOk, IfSome, IsSomeAnd, IsTrue};
 ghost use Rattle.rb_prog.specs.Edge.{Rose, Untold, Writes};
 
 use super::traits::{Files, Read, Sink, Write};
@@ -10,12 +10,25 @@ use std::io;
 use std::io::{ErrorKind, Seek, SeekFrom, Stderr};
 use std::rt::Files as System;
 
-/// A file that stays open between two reads.
+/// A file that stays open between two reads. Where there was no memory for its path, it has none and serves one read.
 #[derive(Drop)]
 struct Opened<F> {
-    path: String,
+    path: Option<String>,
     file: F,
     at: u64,
+}
+
+impl<F> Opened<F> {
+    /// Whether this is the file under a path, standing at a place.
+    fn stands(&self, path: &str, at: u64) -> bool
+        ensures path { IsTrue result → IfSome self.now.path (λ kept. string_bytes kept ≡ path.now) }
+        ensures place { IsTrue result → self.now.at ≡ at }
+    {
+        match &self.path {
+            Some(kept) => kept.as_str() == path && self.at == at,
+            None => false,
+        }
+    }
 }
 
 /// The files of the system. The one that was read last stays open, so that reading on needs no seek.
@@ -42,10 +55,12 @@ impl<'a, R: System> RealFiles<'a, R> {
 
     /// The file under a path, standing at a place: the one that is open, where it stands there.
     fn opened(&mut self, path: &str, at: u64) -> io::Result<Opened<R::File>>
-        ensures { self.new.failed ≡ self.old.failed }
+        ensures path { IfOk result (λ it. IfSome it.path (λ kept. string_bytes kept ≡ path.now)) }
+        ensures place { IfOk result (λ it. it.at ≡ at) }
+        ensures failed { self.new.failed ≡ self.old.failed }
     {
         if let Some(last) = self.last.take() {
-            if last.path.as_str() == path && last.at == at {
+            if last.stands(path, at) {
                 return Ok(last);
             }
         }
@@ -53,13 +68,15 @@ impl<'a, R: System> RealFiles<'a, R> {
         if at > 0 {
             file.seek(SeekFrom::Start(at))?;
         }
-        let path = String::from_str(self.alloc, path)?;
+        let path = String::from_str(self.alloc, path).ok();
         Ok(Opened { path, file, at })
     }
 
     /// Reads on in the open file or in one that is opened. After an error no file is open.
     fn read_at(&mut self, path: &str, at: u64, room: &mut [u8]) -> io::Result<usize>
         ensures within { IfOk result (λ n. n ≤ length room.old) }
+        ensures stays_open { IfOk result (λ n. IsSomeAnd self.new.last (λ it. IfSome it.path (λ kept. string_bytes kept ≡ path.now))) }
+        ensures place { IfOk result (λ n. IsSomeAnd self.new.last (λ it. it.at ≡ min (at + n) (2 ^ 64 - 1))) }
         ensures failed { self.new.failed ≡ self.old.failed }
     {
         let mut opened = self.opened(path, at)?;
