@@ -1,5 +1,5 @@
 -- A program that is held, and no fault from outside.
-use Rattle.std.proofs.Common.{◌≡◌, ℕ, ◌≤◌, List, take, Option, Some, None, refl, sym, ap, ◌∙◌, subst, ◌⊎◌, inl, inr, arith}
+use Rattle.std.proofs.Common.{◌≡◌, ℕ, List, take, Option, refl, ◌∙◌, subst, ◌⊎◌, inl, inr, arith}
 use Rattle.std.proofs.lemmas.List.{take_all}
 use Rattle.rb_tree.specs.declared.node.Program.{Program}
 use Rattle.rb_prog.specs.Edge.{Held, Bytes}

@@ -7,7 +7,7 @@ use Rattle.rb_prog.specs.declared.model.End.{End as Ending}
 use Rattle.rb_prog.specs.declared.model.End.TheVariants as ending
 use Rattle.rb_prog.specs.declared.model.Entry.{Entry}
 use Rattle.rb_prog.specs.Meaning.{meaning}
-use Rattle.rb_prog.specs.History.{line_of, printed, ended, call_prints, prints, IsRun, finished, out_of_memory, sink_failed, Written}
+use Rattle.rb_prog.specs.History.{line_of, printed, ended, call_prints, prints, finished, out_of_memory, sink_failed}
 use Rattle.rb_prog.specs.History.{end_of}
 use Rattle.rb_prog.specs.Run.{IsRunOf}
 

@@ -1,6 +1,6 @@
 -- Each program that tokens spell has a meaning.
 use Rattle.std.proofs.Common.{◌≡◌, ℕ, ◌+◌, Bool, true, false, cond, List, [], ◌∷◌, ◌++◌, Option, Some, None, Result, Ok, Err, refl, sym, ap, ◌∙◌, subst, ◌⊎◌, inl, inr, arith, IsSome}
-use Rattle.std.specs.Prelude.{ℤ, ◌+ℤ◌, ◌-ℤ◌, ◌*ℤ◌, ◌==◌, ◌||◌, option_and_then, slice_get, codes}
+use Rattle.std.specs.Prelude.{ℤ, ◌==◌, ◌||◌, option_and_then, slice_get, codes}
 use Rattle.std.specs.Option.{option_map}
 use Rattle.std.specs.List.{list_any}
 use Rattle.std.specs.Str.{bytes_eq}
@@ -19,12 +19,9 @@ use Rattle.rb_prog.proofs.Histories.{append_none}
 use Rattle.rb_lexer.specs.declared.token.Token.{Token}
 use Rattle.rb_lexer.specs.declared.token.Mark.{Mark}
 use Rattle.rb_lexer.specs.declared.token.Mark.TheVariants as mark
-use Rattle.rb_parser.specs.Words.{puts, is_name, operator_of}
+use Rattle.rb_parser.specs.Words.{puts, operator_of}
 use Rattle.rb_parser.specs.Grammar.{IsLocal, Atom, int, local, Sum, plain, call, Line, nothing, assign, print, Lines, last, more, IsProgram}
-use Rattle.rb_prog.specs.declared.model.Entry.{Entry}
-use Rattle.rb_prog.specs.declared.lines.Deed.{Deed}
-use Rattle.rb_prog.specs.declared.lines.Deed.TheVariants as deed
-use Rattle.rb_prog.specs.Meaning.{Locals, value_of, fitted, operated, atom_value, operator_call, sum_value, assignment, printing, deed_of, nodes_of, followed, Meaning, meaning_of, meaning}
+use Rattle.rb_prog.specs.Meaning.{Locals, value_of, fitted, operated, atom_value, sum_value, assignment, printing, deed_of, nodes_of, followed, Meaning, meaning_of, meaning}
 use Rattle.rb_prog.specs.History.{printed}
 
 -- each local has a value
@@ -93,11 +90,12 @@ valued_set : (names words : List (List ℕ)) (locals : Locals) (text : List ℕ)
 valued_set names words locals text id n v h = record {
   value = λ t x l k.
       elim (new_local words text t (list_any (bytes_eq text) words) l) [
-        inl old ↦ chosen_is_some (id.0 == x.0) n (value_of locals x) (v.value t x old k)
-      | inr same ↦ (let e : Some id ≡ Some x = sym h ∙ (ap (λ w. number_of w names) (sym same) ∙ k) in
-          let f : id ≡ x = cc in
-          let g : (id.0 == x.0) ≡ true = let i : id.0 ≡ x.0 = ap (λ (y : NameId). y.0) f in grind (arith, nat_tests) in
-          is_some_of _ n (ap (λ b. cond b (Some n) (value_of locals x)) g)) ];
+        | inl old ↦ chosen_is_some (id.0 == x.0) n (value_of locals x) (v.value t x old k)
+        | inr same ↦ (let e : Some id ≡ Some x = sym h ∙ (ap (λ w. number_of w names) (sym same) ∙ k) in
+            let f : id ≡ x = cc in
+            let g : (id.0 == x.0) ≡ true = let i : id.0 ≡ x.0 = ap (λ (y : NameId). y.0) f in grind (arith, nat_tests) in
+            is_some_of _ n (ap (λ b. cond b (Some n) (value_of locals x)) g))
+      ];
 }
 
 -- a deed, where what is behind it means something
@@ -118,16 +116,16 @@ module _ (names : List (List ℕ)) where
       let layer = out-set_local id a e.at in
       let r = some_is (sum_value names locals (out-Node a)) (sum_has_value names words locals v ts a s) in
       let d : deed_of names locals (out-Node (node.SetLocal id a e.at)) ≡ Some (assignment id r.0)
-            = ap (deed_of names locals) layer ∙ (ap (option_and_then (λ text. option_and_then (λ value. Some (assignment id value)) (sum_value names locals (out-Node a)))) (slice_get-number_of text names id n)
-            ∙ ap (option_and_then (λ value. Some (assignment id value))) r.1) in
+      = ap (deed_of names locals) layer ∙ (ap (option_and_then (λ text. option_and_then (λ value. Some (assignment id value)) (sum_value names locals (out-Node a)))) (slice_get-number_of text names id n)
+      ∙ ap (option_and_then (λ value. Some (assignment id value))) r.1) in
       subst IsSome (sym (ap (option_and_then (λ d. followed d (meaning_of names ms) locals (steps + nodes_of (out-Node (node.SetLocal id a e.at))))) d))
       (assigned_means r.0 id (meaning_of names ms) locals (steps + nodes_of (out-Node (node.SetLocal id a e.at))) (λ m. f ((id, m) ∷ locals) (steps + nodes_of (out-Node (node.SetLocal id a e.at))) (valued_set names words locals text id m v n)))
   line_means words _ _ _ ms (print {id} {ts} {a} t i n s) f locals steps v =
       let r = some_is (sum_value names locals (out-Node a)) (sum_has_value names words locals v ts a s) in
       let d : deed_of names locals (out-Node (node.Call None id (a ∷ []) t.at)) ≡ Some (printing r.0)
-            = ap (deed_of names locals) (out-call None id (a ∷ []) t.at)
-            ∙ (ap (option_and_then (λ method. option_and_then (λ value. cond (bytes_eq method (codes "puts")) (Some (printing value)) None) (sum_value names locals (out-Node a)))) (slice_get-number_of puts names id n)
-            ∙ ap (option_and_then (λ value. Some (printing value))) r.1) in
+      = ap (deed_of names locals) (out-call None id (a ∷ []) t.at)
+      ∙ (ap (option_and_then (λ method. option_and_then (λ value. cond (bytes_eq method (codes "puts")) (Some (printing value)) None) (sum_value names locals (out-Node a)))) (slice_get-number_of puts names id n)
+      ∙ ap (option_and_then (λ value. Some (printing value))) r.1) in
       subst IsSome (sym (ap (option_and_then (λ d. followed d (meaning_of names ms) locals (steps + nodes_of (out-Node (node.Call None id (a ∷ []) t.at))))) d))
       (printed_means r.0 (meaning_of names ms) locals (steps + nodes_of (out-Node (node.Call None id (a ∷ []) t.at))) (f locals (steps + nodes_of (out-Node (node.Call None id (a ∷ []) t.at))) v))
 

@@ -1,5 +1,5 @@
 -- Line by line through what a program means.
-use Rattle.std.proofs.Common.{◌≡◌, ℕ, zero, ◌+◌, ◌<◌, ◌≤◌, Bool, true, false, cond, suc, List, [], ◌∷◌, ◌++◌, length, drop, get_or, Option, Some, None, Result, Ok, Err, refl, sym, ap, ◌∙◌, subst, arith, add-one, append_assoc}
+use Rattle.std.proofs.Common.{◌≡◌, ℕ, zero, ◌+◌, ◌<◌, ◌≤◌, Bool, true, false, cond, suc, List, [], ◌∷◌, ◌++◌, length, drop, get_or, Option, Some, None, Result, Ok, Err, refl, sym, ap, ◌∙◌, arith, add-one, append_assoc}
 use Rattle.std.specs.Prelude.{ℤ, option_and_then, slice_get, slice_set, ◌==◌, codes}
 use Rattle.std.proofs.Math.Seq.{drop-cons}
 use Rattle.std.proofs.lemmas.List.{drop_all}
@@ -13,7 +13,7 @@ use Rattle.rb_prog.specs.declared.model.Entry.{Entry}
 use Rattle.rb_prog.specs.declared.model.Fault.TheVariants.{IntegerOverflow}
 use Rattle.rb_prog.specs.declared.model.Value.TheVariants.{Nil}
 use Rattle.rb_prog.specs.declared.model.End.TheVariants as ending
-use Rattle.rb_prog.specs.Keeps.{held, kept_at, Keeps}
+use Rattle.rb_prog.specs.Keeps.{held, Keeps}
 use Rattle.rb_prog.specs.Meaning.{Locals, value_of, assignment, printing, sum_value, puts_call, deed_of, nodes_of, followed, meaning_of}
 use Rattle.rb_tree.specs.declared.node.Node.TheOpen.{Node-F}
 use Rattle.rb_tree.specs.declared.node.Node.TheOpen as node

@@ -1,5 +1,5 @@
 -- How the locals of a walk stand for a finite map.
-use Rattle.std.specs.Prelude.{◌≡◌, ℕ, ℤ, List, Option, Some, None, slice_get}
+use Rattle.std.specs.Prelude.{◌≡◌, ℤ, List, Option, Some, None, slice_get}
 use Rattle.rb_tree.specs.declared.span.NameId.{NameId}
 use Rattle.rb_prog.specs.Meaning.{Locals, value_of}
 

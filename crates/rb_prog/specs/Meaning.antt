@@ -1,9 +1,8 @@
 -- What a program of integer lines means: a finite map from names to integers, and the list of its entries.
 -- Integers, local variables and `puts` are Ruby's, but integers have 64 bits.
-use Rattle.std.specs.Prelude.{◌≡◌, ℕ, ◌+◌, ◌^◌, ℤ, pos, negsuc, ◌+ℤ◌, ◌-ℤ◌, ◌*ℤ◌, nat_lt, ◌==◌, Bool, List, [], ◌∷◌, ◌++◌, Option, Some, None, option_and_then, Result, Ok, Err, if◌then◌else◌, slice_get, codes}
+use Rattle.std.specs.Prelude.{ℕ, ◌+◌, ◌^◌, ℤ, pos, negsuc, ◌+ℤ◌, ◌-ℤ◌, ◌*ℤ◌, nat_lt, ◌==◌, Bool, List, [], ◌∷◌, Option, Some, None, option_and_then, Result, Ok, Err, if◌then◌else◌, slice_get, codes}
 use Rattle.std.specs.Option.{option_map}
 use Rattle.std.specs.Str.{bytes_eq}
-use Rattle.std.specs.Fmt.{signed_decimal}
 use Rattle.rb_tree.specs.declared.span.Span.{Span}
 use Rattle.rb_tree.specs.declared.span.NameId.{NameId}
 use Rattle.rb_tree.specs.declared.node.Node.{Node, out-Node}

@@ -125,7 +125,12 @@ fn a_missing_file_and_a_failing_read_are_status_4(rt: HostRuntime) -> Result<(),
 #[test]
 fn a_failing_write_ends_the_run_behind_the_prints_before_it(rt: HostRuntime) -> Result<(), Fail> {
     let alloc = rt.alloc();
-    let runs = [(1, "", 5), (2, "1\n", 5), (3, "1\n2\n", 5), (4, "1\n2\n3\n", 0)];
+    let runs = [
+        (1, "", 5),
+        (2, "1\n", 5),
+        (3, "1\n2\n", 5),
+        (4, "1\n2\n3\n", 0),
+    ];
     for (failing, output, status) in runs {
         let mut files = script(alloc, "puts 1\nputs 2\nputs 3", Vec::new(alloc))?;
         let failing = vec![in alloc; failing]?;

@@ -1,5 +1,5 @@
-use Rattle.std.proofs.Common.{ap, sym, ◌∙◌, Err}
-use Rattle.rb_prog.specs.Run.{RunsSource, shown, refused, out_of_memory}
+use Rattle.std.proofs.Common.{ap, Err}
+use Rattle.rb_prog.specs.Run.{shown, refused, out_of_memory}
 use Rattle.rb_prog.proofs.Histories.{adds_none}
 use Rattle.rb_prog.proofs.Meant.{program_means}
 use Rattle.rb_prog.proofs.top.run_source.Goals as goal

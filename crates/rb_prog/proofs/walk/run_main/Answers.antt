@@ -1,4 +1,4 @@
-use Rattle.std.proofs.Common.{ap, sym, ◌∙◌, ◌++◌, ◌∷◌, [], Some}
+use Rattle.std.proofs.Common.{ap, ◌∙◌, ◌++◌, ◌∷◌, []}
 use Rattle.rb_prog.specs.History.{end_of}
 use Rattle.rb_prog.proofs.Histories.{end_of-push}
 use Rattle.rb_prog.proofs.walk.run_main.Goals as goal

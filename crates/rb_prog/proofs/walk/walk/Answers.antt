@@ -1,5 +1,4 @@
-use Rattle.std.proofs.Common.{arith, rules, sym, ◌∙◌, ap, Some, length, ◌<◌, ◌≡◌, get_or, subst, ◌+◌, to_z, of_z, w64, length-set}
-use Rattle.rb_tree.specs.declared.span.NameId.{NameId}
+use Rattle.std.proofs.Common.{arith, rules, sym, ◌∙◌, ap, Some, length, ◌<◌, ◌≡◌, get_or, ◌+◌, to_z, of_z, w64, length-set}
 use Rattle.rb_prog.specs.Meaning.{meaning}
 use Rattle.rb_prog.specs.declared.lines.Deed.TheVariants.{Assign, Print, Overflow}
 use Rattle.rb_prog.proofs.Walking.{line_found, assigned_within, assigns, prints_on, print_comes, overflow_comes, end_comes}
@@ -25,7 +24,7 @@ returns-in-Err-Sink-clause-runs g c =
     let all = meaning c.args.program.now in
     let steps = c.loop-line.steps + c.nodes_of-steps.result in
     let f = line_found names lines all i c.loop-line.locals c.loop-line.steps entries
-          c.line-item.result (Print c.in-Print.n) c.nodes_of-steps.result u lt item (λ m k. ap Some (sym c.in-Print.is) ∙ c.in-Some.ensures m k) c.nodes_of-steps.ensures.value in
+    c.line-item.result (Print c.in-Print.n) c.nodes_of-steps.result u lt item (λ m k. ap Some (sym c.in-Print.is) ∙ c.in-Some.ensures m k) c.nodes_of-steps.ensures.value in
     let more = print_comes names lines all i c.loop-line.locals steps entries c.in-Print.n f in
     let z : to_z w64 (of_z w64 c.in-Print.n) ≡ c.in-Print.n = search rules in
     let p = rw (c.in-Err-Sink.field-0-is, z) at c.in-Err-Sink.ensures.prints in
@@ -44,7 +43,7 @@ returns-in-Err-Memory-clause-runs g c =
     let all = meaning c.args.program.now in
     let steps = c.loop-line.steps + c.nodes_of-steps.result in
     let f = line_found names lines all i c.loop-line.locals c.loop-line.steps entries
-          c.line-item.result (Print c.in-Print.n) c.nodes_of-steps.result u lt item (λ m k. ap Some (sym c.in-Print.is) ∙ c.in-Some.ensures m k) c.nodes_of-steps.ensures.value in
+    c.line-item.result (Print c.in-Print.n) c.nodes_of-steps.result u lt item (λ m k. ap Some (sym c.in-Print.is) ∙ c.in-Some.ensures m k) c.nodes_of-steps.ensures.value in
     let more = print_comes names lines all i c.loop-line.locals steps entries c.in-Print.n f in
     let z : to_z w64 (of_z w64 c.in-Print.n) ≡ c.in-Print.n = search rules in
     let p = rw (c.in-Err-Memory.field-0-is) at c.in-Err-Memory.ensures.prints in
@@ -63,7 +62,7 @@ returns-in-Overflow-clause-runs g c =
     let all = meaning c.args.program.now in
     let steps = c.loop-line.steps + c.nodes_of-steps.result in
     let f = line_found names lines all i c.loop-line.locals c.loop-line.steps entries
-          c.line-item.result (Overflow c.in-Overflow.at) c.nodes_of-steps.result u lt item (λ m k. ap Some (sym c.in-Overflow.is) ∙ c.in-Some.ensures m k) c.nodes_of-steps.ensures.value in
+    c.line-item.result (Overflow c.in-Overflow.at) c.nodes_of-steps.result u lt item (λ m k. ap Some (sym c.in-Overflow.is) ∙ c.in-Some.ensures m k) c.nodes_of-steps.ensures.value in
     run_finished c.args.program.now (g.K.Sink.told c.args.out.now) (g.K.Sink.told c.loop-line.out) entries steps _
     (overflow_comes names lines all i c.loop-line.locals steps entries c.in-Overflow.at f) c.loop-line.invariant.told
 
@@ -79,33 +78,34 @@ loop-line-preserved g c =
     let all = meaning c.args.program.now in
     let steps = c.loop-line.steps + c.nodes_of-steps.result in
     elim c.match-deed.branch [
-      in-Assign w ↦
-        let f = line_found names lines all i c.loop-line.locals c.loop-line.steps entries
+      | in-Assign w ↦
+          let f = line_found names lines all i c.loop-line.locals c.loop-line.steps entries
           c.line-item.result (Assign w.in-Assign.name w.in-Assign.n) c.nodes_of-steps.result u lt item (λ m k. ap Some (sym w.in-Assign.is) ∙ c.in-Some.ensures m k) c.nodes_of-steps.ensures.value in
-        let z : to_z w64 (of_z w64 w.in-Assign.n) ≡ w.in-Assign.n = search rules in
-        let within = assigned_within names c.loop-line.locals u.locals c.line-item.result w.in-Assign.name w.in-Assign.n c.loop-line.invariant.sized (ap Some (sym w.in-Assign.is) ∙ c.in-Some.ensures u.locals u.keeps) in
-        let set = rw z at w.set.ensures in
-        rw (w.locals-is, w.history-is, w.out-is, set) (record {
-          underway = assigns names lines all i c.loop-line.locals steps entries w.in-Assign.name w.in-Assign.n within f;
-          sized = length-set c.loop-line.locals w.in-Assign.name.0 (Some w.in-Assign.n) ∙ c.loop-line.invariant.sized;
-          few = omega (arith, c.nodes_of-steps.ensures.few, c.loop-line.invariant.few);
-          told = c.loop-line.invariant.told;
-          room = c.loop-line.invariant.room;
-          rises = c.loop-line.invariant.rises;
-        })
-    | in-Print+in-Ok w ↦
-        let f = line_found names lines all i c.loop-line.locals c.loop-line.steps entries
+          let z : to_z w64 (of_z w64 w.in-Assign.n) ≡ w.in-Assign.n = search rules in
+          let within = assigned_within names c.loop-line.locals u.locals c.line-item.result w.in-Assign.name w.in-Assign.n c.loop-line.invariant.sized (ap Some (sym w.in-Assign.is) ∙ c.in-Some.ensures u.locals u.keeps) in
+          let set = rw z at w.set.ensures in
+          rw (w.locals-is, w.history-is, w.out-is, set) (record {
+            underway = assigns names lines all i c.loop-line.locals steps entries w.in-Assign.name w.in-Assign.n within f;
+            sized = length-set c.loop-line.locals w.in-Assign.name.0 (Some w.in-Assign.n) ∙ c.loop-line.invariant.sized;
+            few = omega (arith, c.nodes_of-steps.ensures.few, c.loop-line.invariant.few);
+            told = c.loop-line.invariant.told;
+            room = c.loop-line.invariant.room;
+            rises = c.loop-line.invariant.rises;
+          })
+      | in-Print+in-Ok w ↦
+          let f = line_found names lines all i c.loop-line.locals c.loop-line.steps entries
           c.line-item.result (Print w.in-Print.n) c.nodes_of-steps.result u lt item (λ m k. ap Some (sym w.in-Print.is) ∙ c.in-Some.ensures m k) c.nodes_of-steps.ensures.value in
-        let z : to_z w64 (of_z w64 w.in-Print.n) ≡ w.in-Print.n = search rules in
-        let p = rw z at w.in-Ok.ensures.prints in
-        rw (w.locals-is, w.history-is, w.out-is) (record {
-          underway = rw p.0 (prints_on names lines all i c.loop-line.locals steps entries w.in-Print.n f);
-          sized = c.loop-line.invariant.sized;
-          few = omega (arith, c.nodes_of-steps.ensures.few, c.loop-line.invariant.few);
-          told = told_print (g.K.Sink.told c.args.out.now) (g.K.Sink.told c.loop-line.out) (g.K.Sink.told w.print.new.out) entries w.print.new.history.entries.items w.in-Print.n steps p.0 c.loop-line.invariant.told p.1;
-          room = w.in-Ok.ensures.room;
-          rises = omega (arith, c.loop-line.invariant.rises, w.in-Ok.ensures.rises);
-        }) ]
+          let z : to_z w64 (of_z w64 w.in-Print.n) ≡ w.in-Print.n = search rules in
+          let p = rw z at w.in-Ok.ensures.prints in
+          rw (w.locals-is, w.history-is, w.out-is) (record {
+            underway = rw p.0 (prints_on names lines all i c.loop-line.locals steps entries w.in-Print.n f);
+            sized = c.loop-line.invariant.sized;
+            few = omega (arith, c.nodes_of-steps.ensures.few, c.loop-line.invariant.few);
+            told = told_print (g.K.Sink.told c.args.out.now) (g.K.Sink.told c.loop-line.out) (g.K.Sink.told w.print.new.out) entries w.print.new.history.entries.items w.in-Print.n steps p.0 c.loop-line.invariant.told p.1;
+            room = w.in-Ok.ensures.room;
+            rises = omega (arith, c.loop-line.invariant.rises, w.in-Ok.ensures.rises);
+          })
+    ]
 
 pub returns-clause-runs : goal.returns-clause-runs
 returns-clause-runs g c =

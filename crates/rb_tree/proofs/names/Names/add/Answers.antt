@@ -1,4 +1,4 @@
-use Rattle.std.proofs.Common.{◌≡◌, ℕ, Bool, true, false, cond, List, [], ◌∷◌, ◌++◌, map, length, Some, refl, ap, sym, ◌∙◌, subst, ◌<◌, Vec}
+use Rattle.std.proofs.Common.{◌≡◌, ℕ, true, false, cond, List, [], ◌∷◌, ◌++◌, map, length, Some, ap, sym, ◌∙◌, subst, ◌<◌, Vec}
 use Rattle.std.specs.Option.{option_map}
 use Rattle.std.specs.List.{list_any, position_or_len}
 use Rattle.std.specs.Str.{bytes_eq}
@@ -26,7 +26,7 @@ numbered : (text : List ℕ) (keys new : List Key) (key : Key) (at : ℕ) → ke
     → Some (record { 0 = at }) ≡ number_of text (map (λ t. t.items) new)
 numbered text keys new key at e n i w =
     let first : position_or_len (λ t. bytes_eq text t.items) new ≡ position_or_len (λ t. bytes_eq text t.items) keys
-          = ap (position_or_len (λ t. bytes_eq text t.items)) n ∙ position_or_len-push (λ t. bytes_eq text t.items) keys key (bytes_eq-same text key.items (sym e)) in
+    = ap (position_or_len (λ t. bytes_eq text t.items)) n ∙ position_or_len-push (λ t. bytes_eq text t.items) keys key (bytes_eq-same text key.items (sym e)) in
     ap (option_map (λ m. record { 0 = m })) (position_within (λ t. bytes_eq text t.items) new at (i ∙ sym first) w ∙ sym (position-map (bytes_eq text) (λ t. t.items) new))
 
 pub returns-in-Some-clause-id : goal.returns-in-Some-clause-id

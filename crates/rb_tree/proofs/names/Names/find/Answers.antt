@@ -2,7 +2,6 @@ use Rattle.std.proofs.Common.{ap, sym, ◌∙◌}
 use Rattle.std.specs.Option.{option_map}
 use Rattle.std.specs.Str.{bytes_eq}
 use Rattle.rb_tree.specs.Texts.{number_of}
-use Rattle.rb_tree.specs.declared.span.NameId.{NameId}
 use Rattle.rb_tree.proofs.Numbering.{position-map}
 use Rattle.rb_tree.proofs.names.Names.find.Goals as goal
 
