@@ -11,25 +11,27 @@ RUNS = 7
 
 
 def once(command):
-    """Runs a command; answers its seconds, its output, its status and its peak memory in KiB."""
-    reading, writing = os.pipe()
+    """Runs a command; answers its seconds, its output and its status."""
     begun = time.perf_counter()
-    child = os.posix_spawn(
-        command[0],
-        command,
-        os.environ,
-        file_actions=[(os.POSIX_SPAWN_DUP2, writing, 1), (os.POSIX_SPAWN_CLOSE, reading)],
-    )
-    os.close(writing)
-    with os.fdopen(reading, "rb") as output:
-        text = output.read()
-    _, status, usage = os.wait4(child, 0)
-    return time.perf_counter() - begun, text, os.waitstatus_to_exitcode(status), usage.ru_maxrss
+    ran = subprocess.run(command, stdin=subprocess.DEVNULL, stdout=subprocess.PIPE, check=False)
+    return time.perf_counter() - begun, ran.stdout, ran.returncode
 
 
 def median(command):
+    """The median of the seconds of a few runs, and what the first of them wrote and answered."""
     runs = [once(command) for _ in range(RUNS)]
-    return statistics.median(run[0] for run in runs), runs[0][1], runs[0][2], max(run[3] for run in runs)
+    return statistics.median(run[0] for run in runs), runs[0][1], runs[0][2]
+
+
+def peak(command):
+    """The most memory that a run of a command has, as a text, by GNU time where it is installed."""
+    timer = shutil.which("time")
+    if not timer:
+        return "memory not measured"
+    ran = subprocess.run(
+        [timer, "-f", "%M", *command], stdin=subprocess.DEVNULL, stdout=subprocess.DEVNULL, stderr=subprocess.PIPE, check=False
+    )
+    return f"{int(ran.stderr.split()[-1]):,} KiB"
 
 
 def main():
@@ -63,12 +65,12 @@ def compare(hosts, folder):
         path = os.path.join(folder, script)
         base = None
         for name, words in hosts:
-            seconds, text, status, memory = median(words + [path])
+            seconds, text, status = median(words + [path])
             if base is None:
                 base = (seconds, text)
             same = "" if text == base[1] else ", OTHER OUTPUT"
             ratio = seconds / base[0]
-            print(f"{script}: {name}: {seconds * 1000:.1f} ms, {ratio:.2f} of rbso, {memory} KiB, status {status}{same}")
+            print(f"{script}: {name}: {seconds * 1000:.1f} ms, {ratio:.2f} of rbso, {peak(words + [path])}, status {status}{same}")
 
 
 if __name__ == "__main__":
