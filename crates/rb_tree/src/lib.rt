@@ -4,6 +4,8 @@
 mod names;
 mod node;
 mod span;
+#[cfg(test)]
+mod tests;
 
 pub use names::Names;
 pub use node::{Node, Program};
