@@ -1,5 +1,11 @@
+pub mod Runs
 pub mod Digits
-pub mod Joined
-pub mod Lexemes
-pub mod Firsts
-pub mod Lexing
+pub mod Tables
+pub mod Shapes
+pub mod Fronts
+pub mod OneKind
+pub mod Parts
+pub mod Unique
+pub mod TurnSteps
+pub mod Reading
+pub mod SpanOrder

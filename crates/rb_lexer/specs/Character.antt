@@ -1,4 +1,4 @@
--- Which characters words and integers are made of.
+-- Classes of characters, by their bytes.
 use Rattle.std.specs.Prelude.{ℕ, Bool, false, ◌&&◌, ◌||◌, nat_le, ◌==◌, List, [], ◌∷◌}
 
 -- `0` to `9`
@@ -13,15 +13,24 @@ is_lower b = nat_le 97 b && nat_le b 122
 abbrev pub is_upper : ℕ → Bool
 is_upper b = nat_le 65 b && nat_le b 90
 
--- what may stand in a word behind its first letter: a small letter, a digit or `_`
+-- what words go on with: a letter, a digit or `_`
 abbrev pub is_word_part : ℕ → Bool
-is_word_part b = is_lower b || is_digit b || b == 95
+is_word_part b = is_lower b || is_upper b || is_digit b || b == 95
 
--- what may not stand directly behind an integer or a word: a letter, a digit or `_`
-abbrev pub is_joined : ℕ → Bool
-is_joined b = is_word_part b || is_upper b
+-- white space: space, tab and carriage return
+abbrev pub is_blank : ℕ → Bool
+is_blank b = b == 32 || b == 9 || b == 13
 
--- whether bytes begin with such a character
-abbrev pub begins_joined : List ℕ → Bool
-begins_joined [] = false
-begins_joined (b ∷ bs) = is_joined b
+-- what ends a line: a line feed or `;`
+abbrev pub is_line_end : ℕ → Bool
+is_line_end b = b == 10 || b == 59
+
+-- whether bytes begin with this one
+abbrev pub begins_with : ℕ → List ℕ → Bool
+begins_with c [] = false
+begins_with c (b ∷ bs) = b == c
+
+-- whether bytes begin with a digit
+abbrev pub begins_with_digit : List ℕ → Bool
+begins_with_digit [] = false
+begins_with_digit (b ∷ bs) = is_digit b

@@ -1,5 +1,15 @@
 pub mod Character
-pub mod First
 pub mod Integer
+pub mod Word
+pub mod Mark
 pub mod Lexeme
+pub mod Part
+pub mod Modes
+pub mod Newlines
 pub mod Tokens
+pub mod Front
+pub mod Turns
+pub mod Stack
+pub mod Lines
+pub mod Extent
+pub mod Spans

@@ -1,33 +1,47 @@
-// Which characters words and integers are made of.
+// Classes of characters.
 
 ghost use Rattle.std.specs.Prelude.{◌≡◌};
-ghost use Rattle.std.specs.List.{prefix_len, list_all};
-ghost use Rattle.rb_lexer.specs.Character.{is_word_part, is_joined};
+ghost use Rattle.rb_lexer.specs.Character.{is_digit, is_upper, is_word_part, begins_with, begins_with_digit};
+ghost use Rattle.rb_lexer.specs.Extent.{is_name_start};
 
-/// Whether a character may stand in a word behind its first letter.
-pub fn is_word_part(byte: u8) -> bool
+/// Whether a character is a digit.
+pub(crate) fn is_digit(byte: u8) -> bool
+    ensures { result ≡ is_digit byte }
+{
+    byte.is_ascii_digit()
+}
+
+/// Whether a plain name may begin with a character.
+pub(crate) fn is_name_start(byte: u8) -> bool
+    ensures { result ≡ is_name_start byte }
+{
+    byte.is_ascii_lowercase() || byte == b'_'
+}
+
+/// Whether a class name may begin with a character.
+pub(crate) fn is_upper(byte: u8) -> bool
+    ensures { result ≡ is_upper byte }
+{
+    byte.is_ascii_uppercase()
+}
+
+/// Whether a word may go on with a character.
+pub(crate) fn is_word_part(byte: u8) -> bool
     ensures { result ≡ is_word_part byte }
 {
-    byte.is_ascii_lowercase() || byte.is_ascii_digit() || byte == b'_'
+    byte.is_ascii_alphanumeric() || byte == b'_'
 }
 
-/// Whether each of the bytes is such a character.
-pub fn are_word_parts(bytes: &[u8]) -> bool
-    ensures { result ≡ list_all is_word_part bytes.now }
+/// Whether bytes begin with this one.
+pub(crate) fn begins_with(byte: u8, bytes: &[u8]) -> bool
+    ensures { result ≡ begins_with byte bytes.now }
 {
-    bytes.iter().all(|b| is_word_part(*b))
+    !bytes.is_empty() && bytes[0] == byte
 }
 
-/// Whether a character is a letter, a digit or `_`, none of which may stand directly behind an integer or a word.
-pub fn is_joined(byte: u8) -> bool
-    ensures { result ≡ is_joined byte }
+/// Whether bytes begin with a digit.
+pub(crate) fn begins_with_digit(bytes: &[u8]) -> bool
+    ensures { result ≡ begins_with_digit bytes.now }
 {
-    is_word_part(byte) || byte.is_ascii_uppercase()
-}
-
-/// How long the run of letters, digits and `_` is that bytes begin with.
-pub fn joined_len(bytes: &[u8]) -> usize
-    ensures { result ≡ prefix_len is_joined bytes.now }
-{
-    bytes.iter().take_while(|b| is_joined(**b)).count()
+    !bytes.is_empty() && is_digit(bytes[0])
 }

@@ -2,12 +2,19 @@
 
 use std::alloc::{AllocError, AllocFailed};
 
-/// Why a source has no tokens.
+/// Why a source has no tokens. A place is an offset in bytes.
 #[derive(Clone, Copy, Debug, PartialEq, Eq)]
 pub enum LexFault {
-    /// A character that belongs to no token, or that stands directly after a token that it can't follow.
-    /// The place is not told yet, and is 0.
+    /// The bytes are not UTF-8. The place is the length of their longest prefix that is.
+    NotUtf8(u32),
+    /// A character that begins no token, or that stands directly behind an integer.
     BadCharacter(u32),
+    /// A text without its end, at its opening quote.
+    UnclosedText(u32),
+    /// A `\` with a character behind it that it can't escape.
+    BadEscape(u32),
+    /// An integer above 9223372036854775807, at its first digit.
+    IntegerTooWide(u32),
     /// More than 1,048,576 bytes.
     TooLarge,
     /// Want of memory.

@@ -3,13 +3,24 @@
 
 mod characters;
 mod fault;
-mod integer;
+mod front;
+#[cfg(test)]
+mod front_tests;
+mod integers;
+mod keywords;
 mod lexer;
-mod scan;
+mod marks;
+mod mode;
+mod newline;
+mod part;
+mod reader;
+mod stack;
 #[cfg(test)]
 mod tests;
 mod token;
+mod turn;
+mod words;
 
 pub use fault::LexFault;
 pub use lexer::lex;
-pub use token::{Mark, Token, TokenKind};
+pub use token::{Keyword, Mark, Token, TokenKind};

@@ -10,7 +10,7 @@ use Rattle.rb_lexer.specs.declared.token.TokenKind.{TokenKind}
 use Rattle.rb_lexer.specs.declared.token.TokenKind.TheVariants as kind
 use Rattle.rb_lexer.specs.declared.token.Mark.TheVariants as mark
 use Rattle.rb_parser.specs.declared.fault.ParseFault.TheVariants as fault
-use Rattle.rb_parser.specs.Words.{puts, is_name, operator_of}
+use Rattle.rb_parser.specs.Words.{puts, is_name, is_assign, operator_of}
 use Rattle.rb_parser.specs.Grammar.{Is, Numbered, Atom, int, local, Sum, plain, call, Line, nothing, assign, print}
 use Rattle.rb_parser.proofs.Locals.{among_has_number}
 use Rattle.rb_parser.specs.Refusal.{RefusedOnly, Operator, NoSum, NoLine}
@@ -40,7 +40,7 @@ operator_unique names o id id' p q =
 -- what a call with one operand on each side consists of
 abbrev pub IsCall : (names locals : List (List ℕ)) → (t o u : Token) → Node → Type 0
 IsCall names locals t o u n =
-    (a b : Node) × (id : NameId) × Atom names locals (t ∷ []) a × Operator names o id × Atom names locals (u ∷ []) b × (n ≡ node.Call (Some a) id (b ∷ []) o.at)
+    (a b : Node) × (id : NameId) × Atom names locals (t ∷ []) a × Operator names o id × Atom names locals (u ∷ []) b × (n ≡ node.Call (Some a) id (b ∷ []) None o.at)
 
 -- a sum by the number of its tokens
 abbrev pub SumOf : (names locals : List (List ℕ)) → List Token → Node → Type 0
@@ -59,7 +59,7 @@ of_plain (int t h) = int t h
 of_plain (local t h l i) = local t h l i
 
 of_call : {names locals : List (List ℕ)} {ts us : List Token} {a b : Node} (o : Token) (id : NameId) → Atom names locals ts a → Operator names o id → Atom names locals us b
-    → SumOf names locals (ts ++ o ∷ us) (node.Call (Some a) id (b ∷ []) o.at)
+    → SumOf names locals (ts ++ o ∷ us) (node.Call (Some a) id (b ∷ []) None o.at)
 of_call {a = a} {b = b} o id (int t h) p (int u k) = (a, b, id, int t h, p, int u k, refl)
 of_call {a = a} {b = b} o id (int t h) p (local u k l i) = (a, b, id, int t h, p, local u k l i, refl)
 of_call {a = a} {b = b} o id (local t h l i) p (int u k) = (a, b, id, local t h l i, p, int u k, refl)
@@ -75,9 +75,9 @@ same_sum names locals (t ∷ []) n m p q = atom_unique p q
 same_sum names locals (t ∷ o ∷ []) n m p q = absurd p
 same_sum names locals (t ∷ o ∷ u ∷ []) n m p q =
     p.6
-    ∙ ap (λ x. node.Call (Some x) p.2 (p.1 ∷ []) o.at) (atom_unique p.3 q.3)
-    ∙ ap (λ x. node.Call (Some q.0) x (p.1 ∷ []) o.at) (operator_unique names o p.2 q.2 p.4 q.4)
-    ∙ ap (λ x. node.Call (Some q.0) q.2 (x ∷ []) o.at) (atom_unique p.5 q.5)
+    ∙ ap (λ x. node.Call (Some x) p.2 (p.1 ∷ []) None o.at) (atom_unique p.3 q.3)
+    ∙ ap (λ x. node.Call (Some q.0) x (p.1 ∷ []) None o.at) (operator_unique names o p.2 q.2 p.4 q.4)
+    ∙ ap (λ x. node.Call (Some q.0) q.2 (x ∷ []) None o.at) (atom_unique p.5 q.5)
     ∙ sym q.6
 same_sum names locals (t ∷ o ∷ u ∷ v ∷ ts) n m p q = absurd p
 
@@ -99,7 +99,7 @@ line_unique {names = names} {locals = locals} (assign {text = text} {id = id} {a
 line_unique (assign {text = text} t e h n i k s) (print u h' i' s') = absurd (puts_no_name t.kind text h n h')
 line_unique (print t h i s) (assign {text = text} u e h' n' i' k' s') = absurd (puts_no_name t.kind text h' n' h)
 line_unique {names = names} (print {id = id} {a = a} t h i s) (print {id = id'} u h' i' s') =
-    (ap (λ x. node.Call None x (a ∷ []) t.at ∷ []) (same_id puts puts names id id' refl i i') ∙ ap (λ x. node.Call None id' (x ∷ []) t.at ∷ []) (sum_unique s s'), refl)
+    (ap (λ x. node.Call None x (a ∷ []) None t.at ∷ []) (same_id puts puts names id id' refl i i') ∙ ap (λ x. node.Call None id' (x ∷ []) None t.at ∷ []) (sum_unique s s'), refl)
 
 -- a word that no earlier line assigned is no atom
 pub no_local : {names locals : List (List ℕ)} {t : Token} {text : List ℕ} {a : Node} → t.kind ≡ kind.Ident text → number_of text locals ≡ None → Atom names locals (t ∷ []) a → ⊥
@@ -110,7 +110,7 @@ no_local {locals = locals} {t = t} {text = text} h m (local {text = other} u h' 
 -- a call whose parts are made
 pub made_call : (names locals : List (List ℕ)) (t o u : Token) (a b : Node) (id : NameId) (receiver : Node) (args : List Node)
     → Atom names locals (t ∷ []) a → Operator names o id → Atom names locals (u ∷ []) b → receiver ≡ a → args ≡ b ∷ []
-    → Sum names locals (t ∷ o ∷ u ∷ []) (node.Call (Some receiver) id args o.at)
+    → Sum names locals (t ∷ o ∷ u ∷ []) (node.Call (Some receiver) id args None o.at)
 made_call names locals t o u a b id receiver args p q r e f =
     rw (e, f) (call {ts = t ∷ []} {us = u ∷ []} {a = a} {b = b} {m = q.0} {operator = q.1} {id = id} o p q.2 q.3 q.4 r)
 
@@ -145,6 +145,36 @@ no_reserved tokens t ts text e h reserved other = rw e (barred h reserved other)
     barred {text = text} h reserved other ns after (assign {text = word} u e h' n i k s) =
         let b : false ≡ true = sym reserved ∙ ap is_name (same_word u.kind text word h h') ∙ n in let c : ⊥ = cc in c
     barred {text = text} h reserved other ns after (print u h' i s) = other (same_word u.kind text puts h h')
+
+pub assign_mark : (k : TokenKind) → is_assign k ≡ true → k ≡ kind.Mark mark.Assign
+assign_mark (kind.Mark mark.Assign) h = refl
+assign_mark k h = let b : ⊥ = cc in absurd b
+
+-- a line that begins with the name of a local is an assignment: it has the mark, the sum and the number of the name
+barred_mark : {names locals : List (List ℕ)} {t e : Token} {ts : List Token} {text : List ℕ} → Is t (kind.Ident text) → is_name text ≡ true → (Is e (kind.Mark mark.Assign) → ⊥) → NoLine names locals (t ∷ e ∷ ts)
+barred_mark h free other ns after (assign u v h' n i k s) = other k
+barred_mark {text = text} h free other ns after (print u h' i s) = puts_no_name u.kind text h free h'
+
+pub no_mark : (names locals : List (List ℕ)) (text : List ℕ) (t e : Token) (rest ts : List Token) → rest ≡ e ∷ ts → Is t (kind.Ident text) → is_name text ≡ true
+    → is_assign e.kind ≡ false → NoLine names locals (t ∷ rest)
+no_mark names locals text t e rest ts r h free other = rw r (barred_mark h free (λ i. let b : false ≡ true = sym other ∙ ap is_assign i in let c : ⊥ = cc in c))
+
+barred_sum : {names locals : List (List ℕ)} {t e : Token} {ts : List Token} {text : List ℕ} → Is t (kind.Ident text) → is_name text ≡ true → NoSum names locals ts → NoLine names locals (t ∷ e ∷ ts)
+barred_sum h free none ns after (assign {a = a} u v h' n i k s) = none a s
+barred_sum {text = text} h free none ns after (print u h' i s) = puts_no_name u.kind text h free h'
+
+pub no_assigned_sum : (names locals : List (List ℕ)) (text : List ℕ) (t e : Token) (rest ts : List Token) → rest ≡ e ∷ ts → Is t (kind.Ident text) → is_name text ≡ true
+    → NoSum names locals ts → NoLine names locals (t ∷ rest)
+no_assigned_sum names locals text t e rest ts r h free none = rw r (barred_sum h free none)
+
+barred_number : {names locals : List (List ℕ)} {t e : Token} {ts : List Token} {text : List ℕ} → Is t (kind.Ident text) → is_name text ≡ true → number_of text names ≡ None → NoLine names locals (t ∷ e ∷ ts)
+barred_number {names = names} {text = text} h free m ns after (assign {text = word} {id = id} u v h' n i k s) =
+    let b : None ≡ Some id = sym m ∙ ap (λ x. number_of x names) (same_word u.kind text word h h') ∙ i in let c : ⊥ = cc in c
+barred_number {text = text} h free m ns after (print u h' i s) = puts_no_name u.kind text h free h'
+
+pub no_number : (names locals : List (List ℕ)) (text : List ℕ) (t e : Token) (rest ts : List Token) → rest ≡ e ∷ ts → Is t (kind.Ident text) → is_name text ≡ true
+    → number_of text names ≡ None → NoLine names locals (t ∷ rest)
+no_number names locals text t e rest ts r h free m = rw r (barred_number h free m)
 
 -- an assignment whose parts are made
 pub made_assignment : (names locals : List (List ℕ)) (text : List ℕ) (t e : Token) (rest ts : List Token) (id : NameId) (a value : Node) (after : List (List ℕ))

@@ -2,6 +2,9 @@
 use Rattle.std.proofs.Common.{◌≡◌, ℕ, ◌+◌, ◌<◌, ◌≤◌, ◌⊎◌, inr, List, [], Option, Some, None, Result, Ok, Err, length, take, get_or, refl, ap, sym, ◌∙◌, arith}
 use Rattle.std.proofs.lemmas.List.Sums.{fold_more}
 use Rattle.rb_tree.specs.declared.node.Node.{Node}
+use Rattle.rb_tree.specs.declared.node.Block.{Block}
+use Rattle.rb_tree.specs.declared.node.Class.{Class}
+use Rattle.rb_tree.specs.declared.node.Method.{Method}
 use Rattle.rb_tree.specs.declared.node.Program.{Program}
 use Rattle.rb_lexer.specs.declared.token.Token.{Token}
 use Rattle.rb_parser.specs.declared.fault.ParseFault.{ParseFault}
@@ -30,9 +33,15 @@ pub only_program : (tokens : List Token) (p q : Program) → IsProgram tokens p 
 only_program tokens p q h k =
     let n : p.names ≡ q.names = h.named ∙ sym k.named in
     let m : p.main ≡ q.main = lines_unique h.spelled (renamed (sym n) k.spelled) in
-    let by_names : List (List ℕ) → Program = λ x. record { names = x; main = p.main } in
-    let by_main : List Node → Program = λ x. record { names = q.names; main = x } in
-    ap by_names n ∙ ap by_main m
+    let classes : p.classes ≡ q.classes = h.no_classes ∙ sym k.no_classes in
+    let functions : p.functions ≡ q.functions = h.no_functions ∙ sym k.no_functions in
+    let bodies : p.bodies ≡ q.bodies = h.no_bodies ∙ sym k.no_bodies in
+    let by_names : List (List ℕ) → Program = λ x. record { names = x; classes = p.classes; functions = p.functions; bodies = p.bodies; main = p.main } in
+    let by_classes : List Class → Program = λ x. record { names = q.names; classes = x; functions = p.functions; bodies = p.bodies; main = p.main } in
+    let by_functions : List Method → Program = λ x. record { names = q.names; classes = q.classes; functions = x; bodies = p.bodies; main = p.main } in
+    let by_bodies : List Block → Program = λ x. record { names = q.names; classes = q.classes; functions = q.functions; bodies = x; main = p.main } in
+    let by_main : List Node → Program = λ x. record { names = q.names; classes = q.classes; functions = q.functions; bodies = q.bodies; main = x } in
+    ap by_names n ∙ ap by_classes classes ∙ ap by_functions functions ∙ ap by_bodies bodies ∙ ap by_main m
 
 no_program : (tokens : List Token) (names : List (List ℕ)) → names ≡ names_of tokens → NoLines names [] tokens → (program : Program) → IsProgram tokens program → ⊥
 no_program tokens names e none program h = none program.main (renamed (h.named ∙ sym e) h.spelled)

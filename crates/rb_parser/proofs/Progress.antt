@@ -85,10 +85,8 @@ refused_so A B fault.Memory f h = tt
 -- a token that ends a line and is not the end is a new line
 pub is_newline : (k : TokenKind) → ends_line k ≡ true → (k ≡ kind.End → ⊥) → k ≡ kind.Newline
 is_newline kind.Newline h other = refl
-is_newline (kind.Int n) h other = let b : ⊥ = cc in absurd b
-is_newline (kind.Ident text) h other = let b : ⊥ = cc in absurd b
-is_newline (kind.Mark m) h other = let b : ⊥ = cc in absurd b
 is_newline kind.End h other = absurd (other refl)
+is_newline k h other = let b : ⊥ = cc in absurd b
 
 pub length-behind : (rest line : List Token) (end : Token) (behind : List Token) → rest ≡ line ++ end ∷ behind → length behind + 1 ≤ length rest
 length-behind rest line end behind e = omega (arith, ap length e, length-append line (end ∷ behind))

@@ -38,7 +38,7 @@ module _ (names : List (List ℕ)) where
     plain : {ts : List Token} {a : Node} → Atom locals ts a → Sum locals ts a
     call : {ts us : List Token} {a b : Node} {m : Mark} {operator : List ℕ} {id : NameId} (o : Token) → Atom locals ts a
         → Is o (kind.Mark m) → operator_of m ≡ Some operator → Numbered operator id → Atom locals us b
-        → Sum locals (ts ++ o ∷ us) (node.Call (Some a) id (b ∷ []) o.at)
+        → Sum locals (ts ++ o ∷ us) (node.Call (Some a) id (b ∷ []) None o.at)
 
   -- line = nothing | NAME "=" sum | "puts" sum, with the locals before it and behind it, and its nodes, one at most
   pub data Line (locals : List (List ℕ)) : List Token → List Node → List (List ℕ) → Type 0 where
@@ -46,7 +46,7 @@ module _ (names : List (List ℕ)) where
     assign : {text : List ℕ} {id : NameId} {ts : List Token} {a : Node} (t e : Token) → Is t (kind.Ident text) → is_name text ≡ true → Numbered text id
         → Is e (kind.Mark mark.Assign) → Sum locals ts a → Line locals (t ∷ e ∷ ts) (node.SetLocal id a e.at ∷ []) (with_text locals text)
     print : {id : NameId} {ts : List Token} {a : Node} (t : Token) → Is t (kind.Ident puts) → Numbered puts id
-        → Sum locals ts a → Line locals (t ∷ ts) (node.Call None id (a ∷ []) t.at ∷ []) locals
+        → Sum locals ts a → Line locals (t ∷ ts) (node.Call None id (a ∷ []) None t.at ∷ []) locals
 
   -- source = line {NEWLINE line} END
   pub data Lines : (locals : List (List ℕ)) → List Token → List Node → Type 0 where
@@ -67,3 +67,6 @@ names_of tokens = fold (λ names t. with_given names (name_given t.kind)) [] tok
 pub record IsProgram (tokens : List Token) (program : Program) : Type 0 where
   pub named : program.names ≡ names_of tokens
   pub spelled : Lines program.names [] tokens program.main
+  pub no_classes : program.classes ≡ []
+  pub no_functions : program.functions ≡ []
+  pub no_bodies : program.bodies ≡ []

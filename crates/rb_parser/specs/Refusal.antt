@@ -36,7 +36,5 @@ NoLines names locals tokens = (main : List Node) → Lines names locals tokens m
 -- whether a token of this kind ends a line
 abbrev pub ends_line : TokenKind → Bool
 ends_line kind.Newline = true
-ends_line (kind.Int n) = false
-ends_line (kind.Ident text) = false
-ends_line (kind.Mark m) = false
 ends_line kind.End = true
+ends_line k = false

@@ -10,8 +10,8 @@ ghost use Rattle.rb_parser.specs.Grammar.{Is, Atom, Sum, Line};
 ghost use Rattle.rb_parser.specs.Refusal.{RefusedOnly, Operator, NoSum, NoLine};
 
 use crate::fault::ParseFault;
-use crate::words::{PUTS, is_name, operator_of};
-use rb_lexer::{Mark, Token, TokenKind};
+use crate::words::{PUTS, is_assign, is_name, operator_of};
+use rb_lexer::{Token, TokenKind};
 use rb_tree::{Boxed, Items, NameId, Names, Node};
 use std::alloc::{AllocError, Global};
 
@@ -68,6 +68,7 @@ fn call(
         receiver: Some(Boxed::new(alloc, receiver)?),
         name,
         args: only_argument(alloc, argument)?,
+        block: None,
         at: mark.at,
     })
 }
@@ -113,6 +114,7 @@ fn print(
         receiver: None,
         name,
         args: only_argument(alloc, value)?,
+        block: None,
         at: puts.at,
     })
 }
@@ -135,9 +137,9 @@ fn assignment(
     let [mark, tokens @ ..] = rest else {
         return Err(ParseFault::Syntax(0));
     };
-    let TokenKind::Mark(Mark::Assign) = &mark.kind else {
+    if !is_assign(&mark.kind) {
         return Err(ParseFault::Syntax(0));
-    };
+    }
     let value = sum(alloc, names, locals, tokens)?;
     let Some(id) = names.find(name) else {
         return Err(ParseFault::Syntax(0));

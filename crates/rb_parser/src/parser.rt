@@ -107,5 +107,11 @@ pub fn parse(alloc: Global, tokens: &[Token]) -> Result<Program, ParseFault>
 {
     let names = names_of(alloc, tokens)?;
     let main = lines(alloc, &names, tokens)?;
-    Ok(Program { names, main })
+    Ok(Program {
+        names,
+        classes: Items::new(alloc),
+        functions: Items::new(alloc),
+        bodies: Items::new(alloc),
+        main,
+    })
 }

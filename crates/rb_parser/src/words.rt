@@ -9,19 +9,25 @@ use rb_lexer::{Mark, TokenKind};
 /// The method that prints lines.
 pub const PUTS: &[u8] = b"puts";
 
-/// Ruby's keywords, those included that no rule of the grammar has yet.
-const RESERVED_WORDS: [&[u8]; 35] = [
-    b"class", b"def", b"end", b"if", b"elsif", b"else", b"unless", b"while", b"until", b"then",
-    b"do", b"return", b"break", b"next", b"self", b"true", b"false", b"nil", b"alias", b"and",
-    b"begin", b"case", b"ensure", b"for", b"in", b"module", b"not", b"or", b"redo", b"rescue",
-    b"retry", b"super", b"undef", b"when", b"yield",
-];
+/// Whether an identifier ends in `?` or `!`.
+fn is_marked(word: &[u8]) -> bool
+    ensures { result ≡ spec.is_marked word.now }
+{
+    word.ends_with(b"?") || word.ends_with(b"!")
+}
 
-/// Whether a word may name a local variable.
+/// Whether an identifier may name a local variable.
 pub fn is_name(word: &[u8]) -> bool
     ensures { result ≡ spec.is_name word.now }
 {
-    word != PUTS && !RESERVED_WORDS.iter().any(|reserved| word == *reserved)
+    word != PUTS && !is_marked(word)
+}
+
+/// Whether a token of this kind is the mark of an assignment.
+pub fn is_assign(kind: &TokenKind) -> bool
+    ensures { result ≡ spec.is_assign kind.now }
+{
+    matches!(kind, TokenKind::Mark(Mark::Assign))
 }
 
 /// The method that a mark between two operands calls.
@@ -29,10 +35,10 @@ pub fn operator_of(mark: Mark) -> Option<&'static [u8]>
     ensures { option_copied result ≡ spec.operator_of mark }
 {
     match mark {
-        Mark::Assign => None,
         Mark::Plus => Some(b"+"),
         Mark::Minus => Some(b"-"),
         Mark::Times => Some(b"*"),
+        _ => None,
     }
 }
 
@@ -43,6 +49,6 @@ pub fn name_given(kind: &TokenKind) -> Option<&[u8]>
     match kind {
         TokenKind::Ident(text) => Some(text.as_slice()),
         TokenKind::Mark(mark) => operator_of(*mark),
-        TokenKind::Newline | TokenKind::Int(_) | TokenKind::End => None,
+        _ => None,
     }
 }

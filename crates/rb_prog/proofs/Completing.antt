@@ -1,13 +1,16 @@
 -- A program that is held, and no fault from outside.
-use Rattle.std.proofs.Common.{◌≡◌, ℕ, List, take, Option, refl, ◌∙◌, subst, ◌⊎◌, inl, inr, arith}
+use Rattle.std.proofs.Common.{◌≡◌, ◌≤◌, ℕ, List, length, take, Option, Ok, refl, ◌∙◌, subst, ◌⊎◌, inl, inr, arith}
 use Rattle.std.proofs.lemmas.List.{take_all}
 use Rattle.rb_tree.specs.declared.node.Program.{Program}
+use Rattle.rb_lexer.specs.declared.token.Token.{Token}
+use Rattle.rb_lexer.specs.Tokens.{Outcome, Lexes, too_large, not_utf8}
+use Rattle.rb_lexer.specs.Tokens as lexer
 use Rattle.rb_prog.specs.Edge.{Held, Bytes}
 use Rattle.rb_prog.specs.Transfer.{ReadOf, NotHeld}
 use Rattle.rb_prog.specs.declared.model.Entry.{Entry}
 use Rattle.rb_prog.specs.declared.model.End.{End}
 use Rattle.rb_prog.specs.declared.model.End.TheVariants as ending
-use Rattle.rb_prog.specs.Run.{Accepts, IsRefused, status_of, RunsSource, shown, refused, Runs, read, missing, failed}
+use Rattle.rb_prog.specs.Run.{Accepts, status_of, RunsSource, shown, refused, Runs, read, missing, failed}
 use Rattle.rb_prog.specs.Run as run
 
 ended : (end : End) (sunk : Type 0) → (status_of end ≡ 5 → sunk) → (sunk → ⊥) → (status_of end ≡ 0) ⊎ (status_of end ≡ 1) ⊎ (status_of end ≡ 8)
@@ -22,9 +25,15 @@ source_ends bytes program sunk old new _ _ a (shown {end} p r e) cause never = e
 source_ends bytes program sunk old new _ _ a (refused r n) cause never = absurd (r program a)
 source_ends bytes program sunk old new _ _ a (run.RunsSource.out_of_memory n) cause never = inr (inr refl)
 
--- a source that is short enough is read whole
+-- a source that has tokens is short
+short_of_tokens : (held : List ℕ) (outcome : Outcome) (tokens : List Token) → Lexes held outcome → outcome ≡ Ok tokens → length held ≤ 1048576
+short_of_tokens held _ tokens (too_large l) e = absurd (cc)
+short_of_tokens held _ tokens (not_utf8 l v n) e = absurd (cc)
+short_of_tokens held _ tokens (lexer.Lexes.read l u r) e = l
+
+-- and is read whole
 all_read : (held bytes : List ℕ) (program : Program) → Accepts held program → bytes ≡ take 1048577 held → bytes ≡ held
-all_read held bytes program a e = let l = a.short in e ∙ take_all 1048577 held (omega arith)
+all_read held bytes program a e = let l = short_of_tokens held (Ok a.tokens) a.tokens a.lexed refl in e ∙ take_all 1048577 held (omega arith)
 
 pub complete : (h : Held) (held : List ℕ) (program : Program) (read_failed sunk : Type 0) (old new : Option (List ℕ)) (status : ℕ) (front : Option (List Entry)) → Runs h read_failed old new status front
     → h ≡ Bytes held → Accepts held program → (read_failed → ⊥) → (status ≡ 5 → sunk) → (sunk → ⊥) → (status ≡ 0) ⊎ (status ≡ 1) ⊎ (status ≡ 8)

@@ -40,10 +40,10 @@ mapped_is_some f o h = let s = some_is o h in is_some_of (option_map f o) (f s.0
 
 -- operators
 operator_works : (m : Mark) (operator : List ℕ) (a b : ℤ) → operator_of m ≡ Some operator → IsSome (operated operator a b)
-operator_works mark.Assign operator a b h = absurd (cc)
 operator_works mark.Plus operator a b h = let e : codes "+" ≡ operator = cc in subst (λ o. IsSome (operated o a b)) e refl
 operator_works mark.Minus operator a b h = let e : codes "-" ≡ operator = cc in subst (λ o. IsSome (operated o a b)) e refl
 operator_works mark.Times operator a b h = let e : codes "*" ≡ operator = cc in subst (λ o. IsSome (operated o a b)) e refl
+operator_works m operator a b h = absurd (cc)
 
 all_there : (o : Option (List ℕ)) (operator : List ℕ) (m n : Option ℤ) (at : Span) → o ≡ Some operator → IsSome m → IsSome n → ((a b : ℤ) → IsSome (operated operator a b))
     → IsSome (option_and_then (λ p. option_and_then (λ a. option_and_then (λ b. option_and_then (λ r. Some (fitted r at)) (operated p a b)) n) m) o)
@@ -67,7 +67,7 @@ module _ (names words : List (List ℕ)) (locals : Locals) (v : Valued names wor
   pub sum_has_value : (ts : List Token) (a : Node) → Sum names words ts a → IsSome (sum_value names locals (out-Node a))
   sum_has_value _ _ (plain {ts} {a} s) = plain_has_value ts a s
   sum_has_value _ _ (call {ts} {us} {a} {b} {m} {operator} {id} o x i p n y) =
-      subst (λ l. IsSome (sum_value names locals l)) (sym (out-call (Some a) id (b ∷ []) o.at))
+      subst (λ l. IsSome (sum_value names locals l)) (sym (out-call (Some a) id (b ∷ []) None o.at))
       (all_there (slice_get names id.0) operator (atom_value locals (out-Node a)) (atom_value locals (out-Node b)) o.at (slice_get-number_of operator names id n)
       (atom_has_value ts a x) (atom_has_value us b y) (λ c d. operator_works m operator c d p))
 
@@ -122,12 +122,12 @@ module _ (names : List (List ℕ)) where
       (assigned_means r.0 id (meaning_of names ms) locals (steps + nodes_of (out-Node (node.SetLocal id a e.at))) (λ m. f ((id, m) ∷ locals) (steps + nodes_of (out-Node (node.SetLocal id a e.at))) (valued_set names words locals text id m v n)))
   line_means words _ _ _ ms (print {id} {ts} {a} t i n s) f locals steps v =
       let r = some_is (sum_value names locals (out-Node a)) (sum_has_value names words locals v ts a s) in
-      let d : deed_of names locals (out-Node (node.Call None id (a ∷ []) t.at)) ≡ Some (printing r.0)
-      = ap (deed_of names locals) (out-call None id (a ∷ []) t.at)
+      let d : deed_of names locals (out-Node (node.Call None id (a ∷ []) None t.at)) ≡ Some (printing r.0)
+      = ap (deed_of names locals) (out-call None id (a ∷ []) None t.at)
       ∙ (ap (option_and_then (λ method. option_and_then (λ value. cond (bytes_eq method (codes "puts")) (Some (printing value)) None) (sum_value names locals (out-Node a)))) (slice_get-number_of puts names id n)
       ∙ ap (option_and_then (λ value. Some (printing value))) r.1) in
-      subst IsSome (sym (ap (option_and_then (λ d. followed d (meaning_of names ms) locals (steps + nodes_of (out-Node (node.Call None id (a ∷ []) t.at))))) d))
-      (printed_means r.0 (meaning_of names ms) locals (steps + nodes_of (out-Node (node.Call None id (a ∷ []) t.at))) (f locals (steps + nodes_of (out-Node (node.Call None id (a ∷ []) t.at))) v))
+      subst IsSome (sym (ap (option_and_then (λ d. followed d (meaning_of names ms) locals (steps + nodes_of (out-Node (node.Call None id (a ∷ []) None t.at))))) d))
+      (printed_means r.0 (meaning_of names ms) locals (steps + nodes_of (out-Node (node.Call None id (a ∷ []) None t.at))) (f locals (steps + nodes_of (out-Node (node.Call None id (a ∷ []) None t.at))) v))
 
   lines_mean : (words : List (List ℕ)) (ts : List Token) (ns : List Node) → Lines names words ts ns → (locals : Locals) (steps : ℕ) → Valued names words locals → IsSome (meaning_of names ns locals steps)
   lines_mean words _ _ (last {after} {ts} {ns} e l i) locals steps v =

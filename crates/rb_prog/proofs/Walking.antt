@@ -7,6 +7,7 @@ use Rattle.std.specs.Option.{option_map}
 use Rattle.rb_tree.specs.declared.span.Span.{Span}
 use Rattle.rb_tree.specs.declared.span.NameId.{NameId}
 use Rattle.rb_tree.specs.declared.node.Node.{Node, out-Node}
+use Rattle.rb_tree.specs.declared.node.Block.{Block}
 use Rattle.rb_prog.specs.declared.lines.Deed.{Deed}
 use Rattle.rb_prog.specs.declared.lines.Deed.TheVariants as deed
 use Rattle.rb_prog.specs.declared.model.Entry.{Entry}
@@ -15,7 +16,7 @@ use Rattle.rb_prog.specs.declared.model.Value.TheVariants.{Nil}
 use Rattle.rb_prog.specs.declared.model.End.TheVariants as ending
 use Rattle.rb_prog.specs.Keeps.{held, Keeps}
 use Rattle.rb_prog.specs.Meaning.{Locals, value_of, assignment, printing, sum_value, puts_call, deed_of, nodes_of, followed, meaning_of}
-use Rattle.rb_tree.specs.declared.node.Node.TheOpen.{Node-F}
+use Rattle.rb_tree.specs.Layer.{NodeLayer}
 use Rattle.rb_tree.specs.declared.node.Node.TheOpen as node
 use Rattle.std.proofs.lemmas.Option.{slice_get_within}
 use Rattle.std.proofs.lemmas.Bool.Decides.{nat_tests}
@@ -84,21 +85,21 @@ put_names None value name n h = cc
 put_names (Some m) None name n h = cc
 put_names (Some m) (Some v) name n h = chosen_print (bytes_eq m (codes "puts")) v name n h
 
-puts_assigns_none : (names : List (List ℕ)) (locals : Locals) (receiver : Option Node) (id : NameId) (args : List Node) (name : NameId) (n : ℤ)
-    → puts_call names locals receiver id args ≡ Some (deed.Assign name n) → ⊥
-puts_assigns_none names locals None id [] name n h = cc
-puts_assigns_none names locals None id (a ∷ []) name n h = put_names (slice_get names id.0) (sum_value names locals (out-Node a)) name n h
-puts_assigns_none names locals None id (a ∷ b ∷ more) name n h = cc
-puts_assigns_none names locals (Some r) id args name n h = cc
+puts_assigns_none : (names : List (List ℕ)) (locals : Locals) (receiver : Option Node) (id : NameId) (args : List Node) (block : Option Block) (name : NameId) (n : ℤ)
+    → puts_call names locals receiver id args block ≡ Some (deed.Assign name n) → ⊥
+puts_assigns_none names locals None id [] block name n h = cc
+puts_assigns_none names locals None id (a ∷ []) None name n h = put_names (slice_get names id.0) (sum_value names locals (out-Node a)) name n h
+puts_assigns_none names locals None id (a ∷ []) (Some b) name n h = cc
+puts_assigns_none names locals None id (a ∷ b ∷ more) block name n h = cc
+puts_assigns_none names locals (Some r) id args block name n h = cc
 
-deed_names : (names : List (List ℕ)) (locals : Locals) (line : Node-F Node) (name : NameId) (n : ℤ)
+deed_names : (names : List (List ℕ)) (locals : Locals) (line : NodeLayer) (name : NameId) (n : ℤ)
     → deed_of names locals line ≡ Some (deed.Assign name n) → name.0 < length names
-deed_names names locals (node.Int m at) name n h = absurd (cc)
-deed_names names locals (node.Local x at) name n h = absurd (cc)
 deed_names names locals (node.SetLocal x sum at) name n h =
     let s = set_names (slice_get names x.0) (sum_value names locals (out-Node sum)) x name n h in
     slice_get_within names name.0 s.1.0 (ap (λ (y : NameId). slice_get names y.0) (sym s.0) ∙ s.1.1)
-deed_names names locals (node.Call receiver x args at) name n h = absurd (puts_assigns_none names locals receiver x args name n h)
+deed_names names locals (node.Call receiver x args block at) name n h = absurd (puts_assigns_none names locals receiver x args block name n h)
+deed_names names locals other name n h = absurd (cc)
 
 -- a name that a line assigns has its place
 pub assigned_within : (names : List (List ℕ)) (kept : List (Option ℤ)) (locals : Locals) (line : Node) (name : NameId) (n : ℤ) → length kept ≡ length names

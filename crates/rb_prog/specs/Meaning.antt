@@ -6,9 +6,10 @@ use Rattle.std.specs.Str.{bytes_eq}
 use Rattle.rb_tree.specs.declared.span.Span.{Span}
 use Rattle.rb_tree.specs.declared.span.NameId.{NameId}
 use Rattle.rb_tree.specs.declared.node.Node.{Node, out-Node}
-use Rattle.rb_tree.specs.declared.node.Node.TheOpen.{Node-F}
+use Rattle.rb_tree.specs.declared.node.Block.{Block}
 use Rattle.rb_tree.specs.declared.node.Node.TheOpen as node
 use Rattle.rb_tree.specs.declared.node.Program.{Program}
+use Rattle.rb_tree.specs.Layer.{NodeLayer}
 use Rattle.rb_prog.specs.declared.model.Entry.{Entry}
 use Rattle.rb_prog.specs.declared.model.Fault.TheVariants.{IntegerOverflow}
 use Rattle.rb_prog.specs.declared.model.Value.TheVariants.{Nil}
@@ -46,11 +47,10 @@ abbrev pub fitted : ℤ → Span → Result ℤ Span
 fitted n at = if fits n then Ok n else Err at
 
 -- an integer is itself, and a name what it stands for; other nodes are no atoms
-abbrev pub atom_value : Locals → Node-F Node → Option ℤ
+abbrev pub atom_value : Locals → NodeLayer → Option ℤ
 atom_value locals (node.Int n at) = Some n
-atom_value locals (node.Local name at) = value_of locals name
-atom_value locals (node.SetLocal name value at) = None
-atom_value locals (node.Call receiver name args at) = None
+atom_value locals (node.«Node::Local» name at) = value_of locals name
+atom_value locals other = None
 
 -- what a line does with the value of its sum
 abbrev pub assignment : NameId → Result ℤ Span → Deed
@@ -64,54 +64,49 @@ printing (Err at) = deed.Overflow at
 -- Nodes other than those of integer lines have no meaning here.
 module _ (names : List (List ℕ)) (locals : Locals) where
   -- the call of an operator on two atoms
-  abbrev pub operator_call : Option Node → NameId → List Node → Span → Option (Result ℤ Span)
-  operator_call (Some left) name (right ∷ []) at = do
+  abbrev pub operator_call : Option Node → NameId → List Node → Option Block → Span → Option (Result ℤ Span)
+  operator_call (Some left) name (right ∷ []) None at = do
     operator ← slice_get names name.0
     m ← atom_value locals (out-Node left)
     n ← atom_value locals (out-Node right)
     result ← operated operator m n
     Some (fitted result at)
-  operator_call receiver name args at = None
+  operator_call receiver name args block at = None
 
   -- an atom, or an operator's call
-  abbrev pub sum_value : Node-F Node → Option (Result ℤ Span)
+  abbrev pub sum_value : NodeLayer → Option (Result ℤ Span)
   sum_value (node.Int n at) = Some (Ok n)
-  sum_value (node.Local name at) = option_map Ok (value_of locals name)
-  sum_value (node.SetLocal name value at) = None
-  sum_value (node.Call receiver name args at) = operator_call receiver name args at
+  sum_value (node.«Node::Local» name at) = option_map Ok (value_of locals name)
+  sum_value (node.Call receiver name args block at) = operator_call receiver name args block at
+  sum_value other = None
 
   -- the call of `puts` with one argument
-  abbrev pub puts_call : Option Node → NameId → List Node → Option Deed
-  puts_call None name (argument ∷ []) = do
+  abbrev pub puts_call : Option Node → NameId → List Node → Option Block → Option Deed
+  puts_call None name (argument ∷ []) None = do
     method ← slice_get names name.0
     value ← sum_value (out-Node argument)
     if bytes_eq method (codes "puts") then Some (printing value) else None
-  puts_call receiver name args = None
+  puts_call receiver name args block = None
 
   -- what a line does
-  abbrev pub deed_of : Node-F Node → Option Deed
-  deed_of (node.Int n at) = None
-  deed_of (node.Local name at) = None
+  abbrev pub deed_of : NodeLayer → Option Deed
   deed_of (node.SetLocal name sum at) = do
     text ← slice_get names name.0
     value ← sum_value (out-Node sum)
     Some (assignment name value)
-  deed_of (node.Call receiver name args at) = puts_call receiver name args
+  deed_of (node.Call receiver name args block at) = puts_call receiver name args block
+  deed_of other = None
 
 -- how many nodes a sum has: an atom is one, and an operator stands over two
-abbrev pub nodes_of_sum : Node-F Node → ℕ
-nodes_of_sum (node.Int n at) = 1
-nodes_of_sum (node.Local name at) = 1
-nodes_of_sum (node.SetLocal name value at) = 1
-nodes_of_sum (node.Call receiver name args at) = 3
+abbrev pub nodes_of_sum : NodeLayer → ℕ
+nodes_of_sum (node.Call receiver name args block at) = 3
+nodes_of_sum other = 1
 
 -- how many nodes a line has, each of which is one step
-abbrev pub nodes_of : Node-F Node → ℕ
-nodes_of (node.Int n at) = 1
-nodes_of (node.Local name at) = 1
+abbrev pub nodes_of : NodeLayer → ℕ
 nodes_of (node.SetLocal name sum at) = 1 + nodes_of_sum (out-Node sum)
-nodes_of (node.Call receiver name [] at) = 1
-nodes_of (node.Call receiver name (argument ∷ more) at) = 1 + nodes_of_sum (out-Node argument)
+nodes_of (node.Call receiver name (argument ∷ more) block at) = 1 + nodes_of_sum (out-Node argument)
+nodes_of other = 1
 
 -- what is left to mean, by the locals and the count of steps
 abbrev pub Meaning : Type 0

@@ -1,9 +1,9 @@
 -- What the program answers to its words.
-use Rattle.std.specs.Prelude.{◌≡◌, ℕ, ◌≤◌, Bool, false, not, ◌&&◌, ◌==◌, List, [], ◌∷◌, length, Option, Some, None, if◌then◌else◌, codes}
+use Rattle.std.specs.Prelude.{◌≡◌, ℕ, Bool, false, not, ◌&&◌, ◌==◌, List, [], ◌∷◌, Option, Some, None, Ok, if◌then◌else◌, codes}
 use Rattle.std.specs.Str.{bytes_eq}
 use Rattle.rb_tree.specs.declared.node.Program.{Program}
 use Rattle.rb_lexer.specs.declared.token.Token.{Token}
-use Rattle.rb_lexer.specs.Tokens.{TokensOf, max_source}
+use Rattle.rb_lexer.specs.Tokens.{Lexes}
 use Rattle.rb_parser.specs.Grammar.{IsProgram}
 use Rattle.rb_prog.specs.Edge.{Held, Adds}
 use Rattle.rb_prog.specs.Transfer.{ReadOf, NotHeld}
@@ -23,11 +23,10 @@ abbrev pub path_of : List (List ℕ) → Option (List ℕ)
 path_of (command ∷ path ∷ []) = if bytes_eq command (codes "run") && not (is_option path) then Some path else None
 path_of words = None
 
--- a source of at most 1,048,576 bytes, whose tokens spell the program
+-- a source that has tokens, which spell the program
 pub record Accepts (source : List ℕ) (program : Program) : Type 0 where
-  pub short : length source ≤ max_source
   pub tokens : List Token
-  pub lexed : TokensOf source tokens
+  pub lexed : Lexes source (Ok tokens)
   pub spelled : IsProgram tokens program
 
 -- no program is accepted of a source

@@ -9,7 +9,7 @@ ghost use Rattle.rb_prog.specs.Meaning as spec;
 ghost use Rattle.rb_prog.specs.Meaning.{Locals as Map};
 
 use crate::locals::Locals;
-use rb_tree::{Boxed, NameId, Names, Node, Span};
+use rb_tree::{Block, Boxed, NameId, Names, Node, Span};
 
 /// What a line does once its nodes are evaluated.
 #[derive(Clone, Copy, Debug, PartialEq, Eq)]
@@ -53,7 +53,7 @@ fn atom_value(locals: &Locals, atom: &Node) -> Option<i64>
     match atom {
         Node::Int(n, _) => Some(*n),
         Node::Local(name, _) => locals.get(*name),
-        Node::SetLocal(..) | Node::Call { .. } => None,
+        _ => None,
     }
 }
 
@@ -64,14 +64,18 @@ fn operator_call(
     receiver: &Option<Boxed<Node>>,
     name: NameId,
     args: &[Node],
+    block: &Option<Boxed<Block>>,
     at: Span,
 ) -> Option<Result<i64, Span>>
     ensures { (map : Map) → Keeps locals.now map
-        → result ≡ spec.operator_call names.now map receiver.now name args.now at }
+        → result ≡ spec.operator_call names.now map receiver.now name args.now block.now at }
 {
     let Some(left) = receiver else {
         return None;
     };
+    if let Some(_) = block {
+        return None;
+    }
     let [right] = args else {
         return None;
     };
@@ -88,13 +92,14 @@ fn sum_value(names: &Names, locals: &Locals, sum: &Node) -> Option<Result<i64, S
     match sum {
         Node::Int(n, _) => Some(Ok(*n)),
         Node::Local(name, _) => Some(Ok(locals.get(*name)?)),
-        Node::SetLocal(..) => None,
         Node::Call {
             receiver,
             name,
             args,
+            block,
             at,
-        } => operator_call(names, locals, receiver, *name, args.as_slice(), *at),
+        } => operator_call(names, locals, receiver, *name, args.as_slice(), block, *at),
+        _ => None,
     }
 }
 
@@ -105,11 +110,15 @@ fn puts_call(
     receiver: &Option<Boxed<Node>>,
     name: NameId,
     args: &[Node],
+    block: &Option<Boxed<Block>>,
 ) -> Option<Deed>
     ensures { (map : Map) → Keeps locals.now map
-        → result ≡ spec.puts_call names.now map receiver.now name args.now }
+        → result ≡ spec.puts_call names.now map receiver.now name args.now block.now }
 {
     if let Some(_) = receiver {
+        return None;
+    }
+    if let Some(_) = block {
         return None;
     }
     let [argument] = args else {
@@ -129,7 +138,6 @@ pub(crate) fn deed_of(names: &Names, locals: &Locals, line: &Node) -> Option<Dee
     ensures { (map : Map) → Keeps locals.now map → result ≡ spec.deed_of names.now map (out-Node line.now) }
 {
     match line {
-        Node::Int(..) | Node::Local(..) => None,
         Node::SetLocal(name, sum, _) => {
             text_of(names, *name)?;
             match sum_value(names, locals, sum.get())? {
@@ -141,8 +149,10 @@ pub(crate) fn deed_of(names: &Names, locals: &Locals, line: &Node) -> Option<Dee
             receiver,
             name,
             args,
+            block,
             ..
-        } => puts_call(names, locals, receiver, *name, args.as_slice()),
+        } => puts_call(names, locals, receiver, *name, args.as_slice(), block),
+        _ => None,
     }
 }
 
@@ -152,8 +162,8 @@ fn nodes_of_sum(sum: &Node) -> u64
     ensures few { result ≤ 3 }
 {
     match sum {
-        Node::Int(..) | Node::Local(..) | Node::SetLocal(..) => 1,
         Node::Call { .. } => 3,
+        _ => 1,
     }
 }
 
@@ -163,11 +173,11 @@ pub(crate) fn nodes_of(line: &Node) -> u64
     ensures few { result ≤ 4 }
 {
     match line {
-        Node::Int(..) | Node::Local(..) => 1,
         Node::SetLocal(_, sum, _) => 1 + nodes_of_sum(sum.get()),
         Node::Call { args, .. } => match args.as_slice() {
             [] => 1,
             [argument, ..] => 1 + nodes_of_sum(argument),
         },
+        _ => 1,
     }
 }

@@ -42,7 +42,7 @@ fn ran(
 }
 
 /// A script, its output and its status.
-const SCRIPTS: [(&str, &str, u8); 24] = [
+const SCRIPTS: [(&str, &str, u8); 33] = [
     ("a = 6\nputs a * 7", "42\n", 0),
     ("a = 6\nputs a * 7\n", "42\n", 0),
     ("", "", 0),
@@ -68,9 +68,18 @@ const SCRIPTS: [(&str, &str, u8); 24] = [
     ("puts -1", "", 3),
     ("end = 1", "", 3),
     ("puts = 1", "", 3),
-    ("puts 1;puts 2", "", 3),
     ("puts 07", "", 3),
-    ("puts 1\r\n", "", 3),
+    ("puts 1;puts 2", "1\n2\n", 0),
+    ("puts 1\r\n", "1\n", 0),
+    ("a =\n6\nputs a", "6\n", 0),
+    ("puts 1 # one\nputs 2", "1\n2\n", 0),
+    ("\tputs\t1", "1\n", 0),
+    ("puts 1_000", "1000\n", 0),
+    ("a? = 1", "", 3),
+    ("puts \"a\"", "", 3),
+    ("puts 1.5", "", 3),
+    ("puts [1]", "", 3),
+    ("puts 'a", "", 3),
 ];
 
 #[test]

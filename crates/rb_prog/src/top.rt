@@ -4,6 +4,7 @@ ghost use Rattle.std.specs.Prelude.{◌≡◌, ◌⊎◌, ◌≤◌, ◌↔◌, 
 ghost use Rattle.std.specs.Option.{option_map};
 ghost use Rattle.std.specs.Borrow.{Bor};
 ghost use Rattle.rb_tree.specs.declared.node.Program.{Program as Tree};
+ghost use Rattle.rb_lexer.specs.declared.fault.LexFault.TheVariants as Unread;
 ghost use Rattle.rb_prog.specs.Edge.{Bytes, Adds, Rose};
 ghost use Rattle.rb_prog.specs.Run as spec;
 ghost use Rattle.rb_prog.specs.Run.{Accepts, IsRefused, RunsSource, Runs};
@@ -71,6 +72,16 @@ fn status_of(end: End) -> u8
     }
 }
 
+/// Why a source without tokens has no program.
+fn refusal_of(fault: LexFault) -> Refusal
+    ensures { (result ≡ Refusal.Memory) ↔ (fault ≡ Unread.Memory) }
+{
+    match fault {
+        LexFault::Memory => Refusal::Memory,
+        _ => Refusal::Source,
+    }
+}
+
 /// The program of a source.
 fn accept(alloc: Global, source: &[u8]) -> Result<Program, Refusal>
     ensures accepted { IfOk result (Accepts source.now) }
@@ -79,8 +90,7 @@ fn accept(alloc: Global, source: &[u8]) -> Result<Program, Refusal>
 {
     let tokens = match lex(alloc, source) {
         Ok(tokens) => tokens,
-        Err(LexFault::Memory) => return Err(Refusal::Memory),
-        Err(LexFault::TooLarge | LexFault::BadCharacter(_)) => return Err(Refusal::Source),
+        Err(fault) => return Err(refusal_of(fault)),
     };
     match parse(alloc, tokens.as_slice()) {
         Ok(program) => Ok(program),

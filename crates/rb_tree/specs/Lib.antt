@@ -1,1 +1,3 @@
 pub mod Texts
+pub mod Layer
+pub mod Place

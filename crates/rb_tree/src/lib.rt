@@ -3,12 +3,14 @@
 
 mod names;
 mod node;
+mod place;
 mod span;
 #[cfg(test)]
 mod tests;
 
 pub use names::Names;
-pub use node::{Node, Program};
+pub use node::{AssignOp, Block, Class, Method, Node, Param, Piece, Program, Target};
+pub use place::{line_column, place_of};
 pub use span::{NameId, Span};
 pub use sqlite_items::{Boxed, Items};
 

@@ -1,6 +1,6 @@
-// Names, by example.
+// Names and places, by example.
 
-use crate::{NameId, Names};
+use crate::{Boxed, NameId, Names, Node, Span, line_column, place_of};
 use std::test::Fail;
 
 #[test]
@@ -16,6 +16,7 @@ fn a_name_has_one_number_by_its_first_use(rt: HostRuntime) -> Result<(), Fail> {
         ("ab", 4),
     ];
     for (text, number) in uses {
+        assert!(rt; names.len() < 10);
         assert_eq!(rt; names.add(text.as_bytes())?, NameId(number), "{text}");
     }
     assert_eq!(rt; names.len(), 5);
@@ -28,5 +29,34 @@ fn a_name_has_one_number_by_its_first_use(rt: HostRuntime) -> Result<(), Fail> {
     if names.len() == 5 {
         assert_eq!(rt; names.text(NameId(4)), b"ab".as_slice());
     }
+    Ok(())
+}
+
+#[test]
+fn bytes_have_lines_and_columns_from_1(rt: HostRuntime) -> Result<(), Fail> {
+    let source = b"ab\n\nc\n".as_slice();
+    for (at, line, column) in [
+        (0, 1, 1),
+        (1, 1, 2),
+        (2, 1, 3),
+        (3, 2, 1),
+        (4, 3, 1),
+        (5, 3, 2),
+        (6, 4, 1),
+    ] {
+        if at <= 6 {
+            assert_eq!(rt; line_column(source, at), (line, column), "{at}");
+        }
+    }
+    Ok(())
+}
+
+#[test]
+fn a_node_stands_at_its_own_place(rt: HostRuntime) -> Result<(), Fail> {
+    let inner = Span { from: 4, to: 5 };
+    let outer = Span { from: 0, to: 3 };
+    assert_eq!(rt; place_of(&Node::True(inner)), inner);
+    let not = Node::Not(Boxed::new(rt.alloc(), Node::True(inner))?, outer);
+    assert_eq!(rt; place_of(&not), outer);
     Ok(())
 }

@@ -4,11 +4,11 @@ use Rattle.rb_parser.proofs.Naming.{only_program, refused_complete, refused_nowh
 use Rattle.rb_parser.proofs.parser.parse.Goals as goal
 
 pub returns-clause-sound : goal.returns-clause-sound
-returns-clause-sound c = record { named = c.in_ok-names.ensures; spelled = c.in_ok-main.ensures.sound }
+returns-clause-sound c = record { named = c.in_ok-names.ensures; spelled = c.in_ok-main.ensures.sound; no_classes = c.new.ensures; no_functions = c.new-2.ensures; no_bodies = c.new-3.ensures }
 
 pub returns-clause-complete : goal.returns-clause-complete
 returns-clause-complete c = λ program h.
-    inl (ap (λ p. Ok p) (only_program c.args.tokens.now _ program (record { named = c.in_ok-names.ensures; spelled = c.in_ok-main.ensures.sound }) h))
+    inl (ap (λ p. Ok p) (only_program c.args.tokens.now _ program (record { named = c.in_ok-names.ensures; spelled = c.in_ok-main.ensures.sound; no_classes = c.new.ensures; no_functions = c.new-2.ensures; no_bodies = c.new-3.ensures }) h))
 
 pub returns-in_err-main-clause-complete : goal.returns-in_err-main-clause-complete
 returns-in_err-main-clause-complete c =
