@@ -47,6 +47,27 @@ def main():
         write_many_lines(os.path.join(made, "many_lines.rb"))
         for place in (folder, made):
             compare(hosts, place)
+    with tempfile.TemporaryDirectory() as made:
+        write_large_sources(made)
+        compare(hosts[:1], made)
+
+
+LARGEST = 1_048_576
+
+
+def write_large_sources(folder):
+    """Sources of the largest size, each of one kind of token, to see that reading them stays linear."""
+    sources = {
+        "spaces.rb": " " * LARGEST,
+        "one_text.rb": '"' + "a" * (LARGEST - 2) + '"',
+        "nested_code.rb": '"#{' * (LARGEST // 3),
+        "lines_of_code.rb": "a = 1\n" * (LARGEST // 6),
+        "words.rb": "word " * (LARGEST // 5),
+        "one_comment.rb": "#" * LARGEST,
+    }
+    for name, text in sources.items():
+        with open(os.path.join(folder, name), "w", encoding="ascii") as script:
+            script.write(text)
 
 
 def write_many_lines(path):
