@@ -9,3 +9,4 @@ pub mod Unique
 pub mod TurnSteps
 pub mod Reading
 pub mod SpanOrder
+pub mod Between

@@ -59,7 +59,7 @@ drop-step true false false t xs ys from to h k x y = (h, k, x)
 drop-step false d c t xs ys from to h k x y = (h, k, y)
 
 -- tokens stand in their order without the line feeds that are dropped
-dropped-order : (dropping : Bool) (tokens : List Token) (from to : ℕ) → StandInOrder from to tokens → StandInOrder from to (without_dropped dropping tokens)
+pub dropped-order : (dropping : Bool) (tokens : List Token) (from to : ℕ) → StandInOrder from to tokens → StandInOrder from to (without_dropped dropping tokens)
 dropped-order dropping [] from to s = s
 dropped-order dropping (t ∷ ts) from to s =
     drop-step (is_newline t.kind) dropping (closing_next ts) t (without_dropped true ts) (without_dropped (drops_newline t.kind) ts) from to s.0 s.1 (dropped-order true ts t.at.to to s.2)

@@ -9,14 +9,14 @@ abbrev pub StandInOrder : (from to : ℕ) → List Token → Type 0
 StandInOrder from to [] = from ≤ to
 StandInOrder from to (t ∷ ts) = (from ≤ t.at.from) × (t.at.from ≤ t.at.to) × StandInOrder t.at.to to ts
 
--- Bytes that are no token: white space, comments and line ends, in any order. A comment ends before a line feed or with the bytes.
-pub data IsBetween : List ℕ → Type 0 where
-  nothing : IsBetween []
-  blank : {b : ℕ} {rest : List ℕ} → is_blank b ≡ true → IsBetween rest → IsBetween (b ∷ rest)
-  line_end : {b : ℕ} {rest : List ℕ} → is_line_end b ≡ true → IsBetween rest → IsBetween (b ∷ rest)
-  comment : (bytes rest : List ℕ) → IsComment bytes rest → IsBetween rest → IsBetween (bytes ++ rest)
+-- Bytes that are no token, and what stands behind them: white space, comments and line ends, in any order. A comment ends before a line feed or with the source.
+pub data IsBetween (behind : List ℕ) : List ℕ → Type 0 where
+  nothing : IsBetween behind []
+  blank : {b : ℕ} {rest : List ℕ} → is_blank b ≡ true → IsBetween behind rest → IsBetween behind (b ∷ rest)
+  line_end : {b : ℕ} {rest : List ℕ} → is_line_end b ≡ true → IsBetween behind rest → IsBetween behind (b ∷ rest)
+  comment : (bytes rest : List ℕ) → IsComment bytes (rest ++ behind) → IsBetween behind rest → IsBetween behind (bytes ++ rest)
 
--- Before each token, from a place on, stands nothing but such bytes.
+-- From a place on, nothing but such bytes stands before each token and behind the last.
 abbrev pub AllBetween : List ℕ → (from : ℕ) → List Token → Type 0
-AllBetween source from [] = Unit {0}
-AllBetween source from (t ∷ ts) = IsBetween (take (t.at.from - from) (drop from source)) × AllBetween source t.at.to ts
+AllBetween source from [] = IsBetween [] (drop from source)
+AllBetween source from (t ∷ ts) = IsBetween (drop t.at.from source) (take (t.at.from - from) (drop from source)) × AllBetween source t.at.to ts

@@ -1,7 +1,7 @@
 // From bytes to tokens.
 
 ghost use Rattle.std.specs.Prelude.{◌≡◌, ◌+◌, ◌≤◌, ◌<◌, ◌↔◌, ℕ, Ok, Err, length, IfOk, vec_len};
-ghost use Rattle.rb_lexer.specs.Spans.{StandInOrder};
+ghost use Rattle.rb_lexer.specs.Spans.{StandInOrder, AllBetween};
 ghost use Rattle.rb_lexer.specs.Tokens.{Lexes, Outcome, Answers, max_source};
 
 use crate::fault::LexFault;
@@ -22,6 +22,8 @@ pub fn lex(alloc: Global, source: &[u8]) -> Result<Vec<Token>, LexFault>
     ensures complete { (outcome : Outcome) → Lexes source.now outcome → Answers (λ o. o ≡ outcome) result }
     // Each token stands behind the one before it, and within the source.
     ensures ordered { IfOk result (λ tokens. StandInOrder 0 (length source.now) tokens.items) }
+    // Before, between and behind the tokens stand white space, comments and line ends alone.
+    ensures between { IfOk result (λ tokens. AllBetween source.now 0 tokens.items) }
     ensures few { IfOk result (λ tokens. vec_len tokens ≤ length source.now + 1) }
 {
     if source.len() > MAX_SOURCE {

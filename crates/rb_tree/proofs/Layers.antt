@@ -1,5 +1,5 @@
 -- One layer of a node.
-use Rattle.std.proofs.Common.{◌≡◌, List, Option, refl, rules}
+use Rattle.std.proofs.Common.{◌≡◌, List, Option, rules}
 use Rattle.std.specs.Prelude.{ℤ}
 use Rattle.rb_tree.specs.declared.span.Span.{Span}
 use Rattle.rb_tree.specs.declared.span.NameId.{NameId}

@@ -1,5 +1,5 @@
 -- Where nodes and bytes stand.
-use Rattle.std.specs.Prelude.{ℕ, ◌+◌, ◌==◌, Bool, not, List, take}
+use Rattle.std.specs.Prelude.{ℕ, ◌+◌, ◌==◌, not, List, take}
 use Rattle.std.specs.List.{count_by, suffix_len}
 use Rattle.rb_tree.specs.declared.span.Span.{Span}
 use Rattle.rb_tree.specs.declared.node.Node.TheOpen as node

@@ -4,6 +4,7 @@ use Rattle.rb_lexer.specs.Tokens.{Lexes, Outcome, too_large, not_utf8, read}
 use Rattle.rb_lexer.specs.Turns.{ReadsFromStart}
 use Rattle.rb_lexer.proofs.Reading.{answers-weaker}
 use Rattle.rb_lexer.proofs.SpanOrder.{answers-order}
+use Rattle.rb_lexer.proofs.Between.{answers-between}
 use Rattle.rb_lexer.proofs.Unique.{lexes-unique}
 use Rattle.rb_lexer.proofs.lexer.lex.Goals as goal
 
@@ -28,3 +29,6 @@ returns-clause-complete c = λ outcome h. answers-weaker (Lexes c.args.source.no
 
 pub returns-clause-ordered : goal.returns-clause-ordered
 returns-clause-ordered c = answers-order c.args.source.now c.read.result (returns-clause-sound c)
+
+pub returns-clause-between : goal.returns-clause-between
+returns-clause-between c = answers-between c.args.source.now c.read.result (returns-clause-sound c)

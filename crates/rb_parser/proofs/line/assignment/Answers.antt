@@ -1,4 +1,4 @@
-use Rattle.std.proofs.Common.{◌≡◌, Option, refl, sym, ◌∙◌, arith}
+use Rattle.std.proofs.Common.{refl, sym}
 use Rattle.std.proofs.lemmas.Result.{err_from_is_err_and}
 use Rattle.rb_tree.specs.declared.node.Node.{Node}
 use Rattle.rb_parser.proofs.Shapes.{first_and_rest}
