@@ -1,3 +1,4 @@
 pub mod Texts
 pub mod Layer
 pub mod Place
+pub mod Height

@@ -1,6 +1,7 @@
 //! The syntax tree of a script, the places of its nodes and the names in it.
 #![tactic(auto)]
 
+mod measure;
 mod names;
 mod node;
 mod place;
@@ -8,6 +9,7 @@ mod span;
 #[cfg(test)]
 mod tests;
 
+pub use measure::height;
 pub use names::Names;
 pub use node::{AssignOp, Block, Class, Method, Node, Param, Piece, Program, Target};
 pub use place::{line_column, place_of};
