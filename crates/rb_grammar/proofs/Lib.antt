@@ -1,0 +1,15 @@
+pub mod Looks
+pub mod Follow
+pub mod First
+pub mod Apart
+pub mod Steps
+pub mod Sound
+pub mod Complete
+pub mod Local
+pub mod Settled
+pub mod Nested
+pub mod Wider
+pub mod Whole
+pub mod Examples
+pub mod Turns
+pub mod Naming

@@ -1,0 +1,67 @@
+-- Each name that the tokens of a script give has its number.
+use Rattle.std.proofs.Common.{◌≡◌, ℕ, suc, ◌+◌, ◌<◌, Bool, true, false, ◌||◌, not, cond, List, [], ◌∷◌, ◌++◌, length, fold, Option, Some, None, position, bytes_eq, refl, sym, ◌∙◌, ap, arith}
+use Rattle.std.specs.List.{list_any, position_or_len}
+use Rattle.std.specs.Option.{option_map}
+use Rattle.std.proofs.lemmas.List.Folds.{list_any-append}
+use Rattle.rb_tree.specs.Texts.{number_of, with_text}
+use Rattle.rb_tree.proofs.Numbering.{bytes_eq-same, position_within}
+use Rattle.rb_grammar.specs.Tree.{Text}
+use Rattle.rb_grammar.specs.Program.{in_order, id_or_first}
+use Rattle.rb_grammar.specs.Faithful.{Each}
+use Rattle.rb_grammar.specs.Laws.{NamesAll}
+
+or_first : (a b : Bool) → a ≡ true → (a || b) ≡ true
+or_first true b e = refl
+or_first false b e = absurd (cc)
+
+or_second : (a b : Bool) → b ≡ true → (a || b) ≡ true
+or_second true b e = refl
+or_second false b e = e
+
+-- a text is among the names
+abbrev Named : Text → List Text → Type 0
+Named text names = list_any (bytes_eq text) names ≡ true
+
+-- a text is found before the end where it is among the names
+found_step : (b : Bool) (n m : ℕ) → (b ≡ false → n < m) → cond (not b) (1 + n) 0 < suc m
+found_step true n m h = omega arith
+found_step false n m h = let less = h refl in omega arith
+
+found_before : (p : Text → Bool) (names : List Text) → list_any p names ≡ true → position_or_len p names < length names
+found_before p [] e = absurd (cc)
+found_before p (x ∷ xs) e = found_step (p x) (position_or_len p xs) (length xs) (λ none. found_before p xs (sym (ap (λ b. b || list_any p xs) none) ∙ e))
+
+numbered : (at : Option ℕ) (n : ℕ) → Some n ≡ at → option_map (λ k. record { 0 = k }) at ≡ Some (id_or_first (option_map (λ k. record { 0 = k }) at))
+numbered (Some k) n e = refl
+numbered None n e = absurd (cc)
+
+-- a text among the names has its number
+named_has_number : (text : Text) (names : List Text) → Named text names → number_of text names ≡ Some (id_or_first (number_of text names))
+named_has_number text names h =
+    numbered (position (bytes_eq text) names) (position_or_len (bytes_eq text) names)
+    (position_within (bytes_eq text) names (position_or_len (bytes_eq text) names) refl (found_before (bytes_eq text) names h))
+
+-- one more name keeps those that are there, and is there itself
+kept_by : (text new : Text) (names : List Text) (b : Bool) → Named text names → Named text (cond b names (names ++ new ∷ []))
+kept_by text new names true h = h
+kept_by text new names false h = list_any-append (bytes_eq text) names (new ∷ []) ∙ or_first _ _ h
+
+added_by : (text : Text) (names : List Text) (b : Bool) → list_any (bytes_eq text) names ≡ b → Named text (cond b names (names ++ text ∷ []))
+added_by text names true h = h
+added_by text names false h = list_any-append (bytes_eq text) names (text ∷ []) ∙ or_second _ _ (or_first _ _ (bytes_eq-same text text refl))
+
+kept_by_all : (text : Text) (texts names : List Text) → Named text names → Named text (fold (λ ns x. with_text ns x) names texts)
+kept_by_all text [] names h = h
+kept_by_all text (x ∷ xs) names h = kept_by_all text xs (with_text names x) (kept_by text x names (list_any (bytes_eq x) names) h)
+
+-- all texts are among the names that they are added to
+all_named : (texts names : List Text) → Each (λ text. Named text (fold (λ ns x. with_text ns x) names texts)) texts
+all_named [] names = tt
+all_named (x ∷ xs) names = (kept_by_all x xs (with_text names x) (added_by x names (list_any (bytes_eq x) names) refl), all_named xs (with_text names x))
+
+each_more : {P Q : Text → Type 0} → ((x : Text) → P x → Q x) → (xs : List Text) → Each P xs → Each Q xs
+each_more f [] h = tt
+each_more f (x ∷ xs) h = (f x h.0, each_more f xs h.1)
+
+pub names_all : NamesAll
+names_all found = each_more (λ text. named_has_number text (in_order found.names)) found.names (all_named found.names [])

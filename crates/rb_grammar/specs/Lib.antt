@@ -1,0 +1,13 @@
+pub mod Look
+pub mod Tree
+pub mod Scope
+pub mod Phrase
+pub mod Rule
+pub mod Grammar
+pub mod Heads
+pub mod Reading
+pub mod Nesting
+pub mod Script
+pub mod Faithful
+pub mod Program
+pub mod Laws

@@ -1,0 +1,46 @@
+// The laws of the grammar and of its reader.
+
+ghost use Rattle.rb_grammar.specs.Laws as law;
+
+/// What the reader reads is spelled so.
+pub fn sound()
+    ensures { law.IsSound }
+{}
+
+/// What is spelled within the limits is read so.
+pub fn complete()
+    ensures { law.IsComplete }
+{}
+
+/// The reader has an answer for any tokens.
+pub fn total()
+    ensures { law.IsTotal }
+{}
+
+/// One token list spells one script, and so one program, whatever the limits.
+pub fn one_tree()
+    ensures script { law.HasOneScript }
+    ensures program { law.HasOneProgram }
+{}
+
+/// Where a token is refused, no script of any height and nesting begins with the tokens up to and including it.
+pub fn nothing_begins_so()
+    ensures { law.RefusesRightly }
+{}
+
+/// Answers hang on no token behind the one at which the reader ends, and stay within wider limits.
+pub fn local()
+    ensures refused { law.RefusesLocally }
+    ensures read { law.ReadsLocally }
+{}
+
+/// Something is nested too deep only where a limit is passed, and always where a script is not within the limits.
+pub fn too_nested()
+    ensures only { law.NestsRightly }
+    ensures always { law.KeepsLimits }
+{}
+
+/// Each name that the tokens of a script give has its number.
+pub fn names_all()
+    ensures { law.NamesAll }
+{}
