@@ -13,3 +13,8 @@ pub mod Whole
 pub mod Examples
 pub mod Turns
 pub mod Naming
+pub mod Placed
+pub mod FaithfulTrees
+pub mod Faithfully
+pub mod FaithfulItems
+pub mod FaithfulScript

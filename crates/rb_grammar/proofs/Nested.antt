@@ -1,5 +1,5 @@
 -- The reader answers that something is nested too deep only where a limit is passed.
-use Rattle.std.proofs.Common.{◌≡◌, ℕ, zero, suc, Bool, true, false, ◌||◌, nat_le, List, [], ◌∷◌, sym, subst, inl, inr}
+use Rattle.std.proofs.Common.{◌≡◌, ℕ, zero, suc, ◌≤◌, Bool, true, false, ◌||◌, nat_le, List, [], ◌∷◌, sym, subst, inl, inr, arith}
 use Rattle.std.proofs.lemmas.Bool.{leb-true, leb-false}
 use Rattle.rb_tree.specs.declared.span.Span.{Span}
 use Rattle.rb_lexer.specs.declared.token.Token.{Token}
@@ -14,6 +14,8 @@ use Rattle.rb_grammar.specs.Nesting.{Event, opens_at, builds_node, Reaching, Rea
 use Rattle.rb_grammar.specs.Nesting as w
 use Rattle.rb_grammar.proofs.Steps.{when_tells, nested_tells, nest_tells}
 use Rattle.rb_grammar.proofs.Sound.{reading_sound}
+use Rattle.rb_grammar.proofs.Faithfully.{Good, Given, Keeps}
+use Rattle.rb_grammar.proofs.FaithfulScript.{keeps, spelled_faithful}
 
 -- some way comes to an event that passes a limit at this place
 pub record Over (limit levels : ℕ) (at : Span) (way : ℕ → Event → Type 0) : Type 0 where
@@ -40,80 +42,88 @@ first_open limit levels here at none same =
 module _ (limit : ℕ) (reader : ℕ → Reading) (inner : ℕ → Spelling) (reach : ℕ → Reaching)
     (sound : (l : ℕ) (n : Phrase) (s : Scope) (seen : Bool) (ts : List Token) (v : Value n) (s' : Scope) (seen' : Bool) (us : List Token)
     → reader l n s seen ts ≡ read v s' seen' us → inner l n s ts v s' us)
+    (good : (l : ℕ) (n : Phrase) (s : Scope) (ts : List Token) (v : Value n) (s' : Scope) (us : List Token)
+    → Given limit n → inner l n s ts v s' us → Good limit n v)
     (over : (l : ℕ) (n : Phrase) (s : Scope) (seen : Bool) (ts : List Token) (at : Span)
-    → reader l n s seen ts ≡ too_nested at → Over limit l at (reach l n s ts))
+    → Given limit n → reader l n s seen ts ≡ too_nested at → Over limit l at (reach l n s ts))
     (levels : ℕ) where
-  -- a rule that passes a limit comes there, where the phrases in it do
-  pub run_nested : {A : Type 0} (r : Rule A) (s : Scope) (seen : Bool) (ts : List Token) (at : Span)
+  -- A rule that passes a limit comes there, where the phrases in it do. A node that is built is no more than one too high, where the
+  -- rule keeps to what is faithful.
+  pub run_nested : {A : Type 0} (P : A → Type 0) (r : Rule A) → Keeps limit r P → (s : Scope) (seen : Bool) (ts : List Token) (at : Span)
       → run limit reader levels r s seen ts ≡ too_nested at → Over limit levels at (Reaches limit inner reach levels r s ts)
-  run_nested (done b) s seen ts at e = absurd (cc)
-  run_nested refuse s seen ts at e = absurd (cc)
-  run_nested (token test k) s seen [] at e = absurd (cc)
-  run_nested (token test k) s seen (t ∷ ts) at e =
+  run_nested P (done b) kept s seen ts at e = absurd (cc)
+  run_nested P refuse kept s seen ts at e = absurd (cc)
+  run_nested P (token test k) kept s seen [] at e = absurd (cc)
+  run_nested P (token test k) kept s seen (t ∷ ts) at e =
       elim (when_tells (test (class_of t.kind) t.spaced) (run limit reader levels (k t) s false ts) (refused (from_refused seen (t ∷ ts))) (too_nested at) e) [
-        | inl h ↦ further (λ n e. w.takes h.0) (run_nested (k t) s false ts at h.1)
+        | inl h ↦ further (λ n e. w.takes h.0) (run_nested P (k t) (kept t) s false ts at h.1)
         | inr h ↦ absurd (let f = h.1 in cc)
       ]
-  run_nested (phrase m k) s seen ts at e =
+  run_nested P (phrase m k) kept s seen ts at e =
       elim (nested_tells (reader levels m s seen ts) (λ v. run limit reader levels (k v)) at e) [
-        | inl h ↦ further (λ n e. w.within) (over levels m s seen ts at h)
-        | inr g ↦ further (λ n e. w.behind (sound levels m s seen ts g.value g.scopes g.looked g.rest g.before)) (run_nested (k g.value) g.scopes g.looked g.rest at g.behind)
+        | inl h ↦ further (λ n e. w.within) (over levels m s seen ts at kept.0 h)
+        | inr g ↦ (let i = sound levels m s seen ts g.value g.scopes g.looked g.rest g.before in
+            further (λ n e. w.behind i)
+            (run_nested P (k g.value) (kept.1 g.value (good levels m s ts g.value g.scopes g.rest kept.0 i)) g.scopes g.looked g.rest at g.behind))
       ]
-  run_nested (nested here m k) s seen ts at e =
+  run_nested P (nested here m k) kept s seen ts at e =
       elim (nest_tells limit reader levels here levels (λ left. and_then (reader left m s seen ts) (λ v. run limit reader levels (k v))) (too_nested at) e) [
         | inl h ↦ record { count = 1; event = opens_at here; goes = w.comes_to_open; passes = first_open limit levels here at h.0 (let f = h.1 in cc) }
         | inr o ↦ elim (nested_tells (reader o.left m s seen ts) (λ v. run limit reader levels (k v)) at o.inside) [
-          | inl h ↦ (let i = over o.left m s seen ts at h in
+          | inl h ↦ (let i = over o.left m s seen ts at kept.0 h in
               record {
                 count = suc i.count;
                 event = i.event;
                 goes = w.within_open o.levels i.goes;
                 passes = subst (λ (l : ℕ). Passes limit l at (suc i.count) i.event) (sym o.levels) (deeper i.passes);
               })
-          | inr g ↦ further (λ n e. w.behind_open o.levels (sound o.left m s seen ts g.value g.scopes g.looked g.rest g.before))
-              (run_nested (k g.value) g.scopes g.looked g.rest at g.behind)
+          | inr g ↦ (let i = sound o.left m s seen ts g.value g.scopes g.looked g.rest g.before in
+              further (λ n e. w.behind_open o.levels i)
+              (run_nested P (k g.value) (kept.1 g.value (good o.left m s ts g.value g.scopes g.rest kept.0 i)) g.scopes g.looked g.rest at g.behind))
         ]
       ]
-  run_nested (built b r) s seen ts at e =
+  run_nested P (built b r) kept s seen ts at e =
       elim (when_tells (nat_le b.height limit) (run limit reader levels r s seen ts) (too_nested b.at) (too_nested at) e) [
-        | inl h ↦ further (λ n e. w.builds (leb-true _ _ h.0)) (run_nested r s seen ts at h.1)
-        | inr h ↦ record { count = 0; event = builds_node b; goes = w.comes_to_build; passes = w.too_high b (leb-false _ _ h.0) (let f = h.1 in cc) }
+        | inl h ↦ further (λ n e. w.builds (leb-true _ _ h.0)) (run_nested P r (kept.1 (leb-true _ _ h.0)) s seen ts at h.1)
+        | inr h ↦ (let high = leb-false b.height limit h.0 in
+            record { count = 0; event = builds_node b; goes = w.comes_to_build; passes = w.too_high b (omega (arith, high, kept.0)) (let f = h.1 in cc) })
       ]
-  run_nested (either q r) s seen ts at e =
+  run_nested P (either q r) kept s seen ts at e =
       elim (when_tells (begins q ts) (run limit reader levels q s seen ts) (run limit reader levels r s seen ts) (too_nested at) e) [
-        | inl h ↦ further (λ n e. w.first) (run_nested q s seen ts at h.1)
-        | inr h ↦ further (λ n e. w.second) (run_nested r s seen ts at h.1)
+        | inl h ↦ further (λ n e. w.first) (run_nested P q kept.0 s seen ts at h.1)
+        | inr h ↦ further (λ n e. w.second) (run_nested P r kept.1 s seen ts at h.1)
       ]
-  run_nested (look test r) s seen ts at e =
+  run_nested P (look test r) kept s seen ts at e =
       elim (when_tells (next_meets test ts) (run limit reader levels r s seen ts) (refused (from_refused seen ts)) (too_nested at) e) [
-        | inl h ↦ further (λ n e. w.looks h.0) (run_nested r s seen ts at h.1)
+        | inl h ↦ further (λ n e. w.looks h.0) (run_nested P r kept s seen ts at h.1)
         | inr h ↦ absurd (let f = h.1 in cc)
       ]
-  run_nested (pick true q r) s seen ts at e = further (λ n e. w.picks) (run_nested q s seen ts at e)
-  run_nested (pick false q r) s seen ts at e = further (λ n e. w.picks_not) (run_nested r s seen ts at e)
-  run_nested (known text q r) s seen ts at e =
+  run_nested P (pick true q r) kept s seen ts at e = further (λ n e. w.picks) (run_nested P q kept.0 s seen ts at e)
+  run_nested P (pick false q r) kept s seen ts at e = further (λ n e. w.picks_not) (run_nested P r kept.1 s seen ts at e)
+  run_nested P (known text q r) kept s seen ts at e =
       elim (when_tells (is_local text s) (run limit reader levels q s seen ts) (run limit reader levels r s seen ts) (too_nested at) e) [
-        | inl h ↦ further (λ n e. w.knows h.0) (run_nested q s seen ts at h.1)
-        | inr h ↦ further (λ n e. w.knows_not h.0) (run_nested r s seen ts at h.1)
+        | inl h ↦ further (λ n e. w.knows h.0) (run_nested P q kept.0 s seen ts at h.1)
+        | inr h ↦ further (λ n e. w.knows_not h.0) (run_nested P r kept.1 s seen ts at h.1)
       ]
-  run_nested (ahead q r) s seen ts at e =
+  run_nested P (ahead q r) kept s seen ts at e =
       elim (when_tells (arguments_follow ts) (run limit reader levels q s (is_looked_behind ts || seen) ts)
       (run limit reader levels r s (is_looked_behind ts || seen) ts) (too_nested at) e) [
-        | inl h ↦ further (λ n e. w.commands h.0) (run_nested q s (is_looked_behind ts || seen) ts at h.1)
-        | inr h ↦ further (λ n e. w.commands_not h.0) (run_nested r s (is_looked_behind ts || seen) ts at h.1)
+        | inl h ↦ further (λ n e. w.commands h.0) (run_nested P q kept.0 s (is_looked_behind ts || seen) ts at h.1)
+        | inr h ↦ further (λ n e. w.commands_not h.0) (run_nested P r kept.1 s (is_looked_behind ts || seen) ts at h.1)
       ]
-  run_nested (scope f r) s seen ts at e = further (λ n e. w.changes) (run_nested r (f s) seen ts at e)
+  run_nested P (scope f r) kept s seen ts at e = further (λ n e. w.changes) (run_nested P r kept (f s) seen ts at e)
 
 -- where the reader passes a limit in so many turns, a way so deep comes there
-pub reading_over : (limit turns levels : ℕ) (m : Phrase) (s : Scope) (seen : Bool) (ts : List Token) (at : Span)
-    → reading limit turns levels m s seen ts ≡ too_nested at → Over limit levels at (reached limit turns levels m s ts)
-reading_over limit zero levels m s seen ts at e = absurd (cc)
-reading_over limit (suc turns) levels m s seen ts at e =
-    run_nested limit (reading limit turns) (spelled limit turns) (reached limit turns) (reading_sound limit turns) (reading_over limit turns) levels (rule m) s seen ts at e
+pub reading_over : (limit : ℕ) → 2 ≤ limit → (turns levels : ℕ) (m : Phrase) (s : Scope) (seen : Bool) (ts : List Token) (at : Span)
+    → Given limit m → reading limit turns levels m s seen ts ≡ too_nested at → Over limit levels at (reached limit turns levels m s ts)
+reading_over limit two zero levels m s seen ts at g e = absurd (cc)
+reading_over limit two (suc turns) levels m s seen ts at g e =
+    run_nested limit (reading limit turns) (spelled limit turns) (reached limit turns) (reading_sound limit turns) (spelled_faithful limit two turns)
+    (reading_over limit two turns) levels (Good limit m) (rule m) (keeps limit two m g) s seen ts at e
 
 -- the reader answers that something is nested too deep only where a limit is passed
-pub reading_nested : (limit turns levels : ℕ) (m : Phrase) (s : Scope) (seen : Bool) (ts : List Token) (at : Span)
-    → reading limit turns levels m s seen ts ≡ too_nested at → TooNestedAt limit levels m s ts at
-reading_nested limit turns levels m s seen ts at e =
-    let o = reading_over limit turns levels m s seen ts at e in
+pub reading_nested : (limit : ℕ) → 2 ≤ limit → (turns levels : ℕ) (m : Phrase) (s : Scope) (seen : Bool) (ts : List Token) (at : Span)
+    → Given limit m → reading limit turns levels m s seen ts ≡ too_nested at → TooNestedAt limit levels m s ts at
+reading_nested limit two turns levels m s seen ts at g e =
+    let o = reading_over limit two turns levels m s seen ts at g e in
     record { depth = turns; count = o.count; event = o.event; way = o.goes; passes = o.passes }

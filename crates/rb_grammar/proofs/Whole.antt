@@ -16,6 +16,7 @@ use Rattle.rb_grammar.proofs.Local.{script_refused, script_wider, script_refused
 use Rattle.rb_grammar.proofs.Settled.{reading_kept}
 use Rattle.rb_grammar.proofs.Turns.{script_answered}
 use Rattle.rb_grammar.proofs.Nested.{reading_nested}
+use Rattle.rb_grammar.proofs.FaithfulItems.{no_items_faithful}
 
 -- a script that is spelled is read, in as many turns as its derivation is deep
 pub script_reads : (limit levels : ℕ) (tokens : List Token) (found : Items) (d : IsScript limit levels tokens found)
@@ -124,8 +125,10 @@ never_nested limit levels tokens at e found d =
     (let clash = sym one.2 ∙ e in cc)
 
 pub script_nests : NestsRightly
-script_nests limit levels tokens at e =
-    (reading_nested limit (turns_for tokens) levels (p.items no_items) top_level false tokens at e, never_nested limit levels tokens at e)
+script_nests limit levels two tokens at e = (
+  reading_nested limit two (turns_for tokens) levels (p.items no_items) top_level false tokens at (no_items_faithful limit) e,
+  never_nested limit levels tokens at e,
+)
 
 -- what the reader can answer where a script of wider limits is spelled
 kept_answer : (limit limit' levels levels' : ℕ) (tokens : List Token) (found : Items) → IsScript limit' levels' tokens found

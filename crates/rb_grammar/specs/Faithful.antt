@@ -1,7 +1,7 @@
 -- A tree says what its node is: how high it is, where it stands, and which names and thread bodies are in it.
 use Rattle.std.specs.Prelude.{◌≡◌, ℕ, ◌≤◌, List, [], ◌∷◌, map}
 use Rattle.rb_tree.specs.declared.node.Node.{out-Node}
-use Rattle.rb_tree.specs.Height.{height}
+use Rattle.rb_tree.specs.Height.{height, block_height}
 use Rattle.rb_tree.specs.Place.{place}
 use Rattle.rb_grammar.specs.Tree.{Text, Numbering, Thread, Tree, MethodTree, ClassTree, Items, nodes, method_by, class_by}
 
@@ -23,6 +23,8 @@ pub record IsFaithful (limit : ℕ) (a : Tree) : Type 0 where
   -- its node, and the bodies of its threads, hang on the numbers of its names and threads alone
   pub named : (n m : Numbering) → Agree a.names a.threads n m → a.node n ≡ a.node m
   pub bodied : (n m : Numbering) → Agree a.names a.threads n m → Each (λ t. t.block n ≡ t.block m) a.threads
+  -- and no node in those bodies is higher than limit
+  pub bodies_low : (n : Numbering) → Each (λ t. block_height (t.block n) ≤ limit) a.threads
 
 abbrev pub MethodIsFaithful : ℕ → MethodTree → Type 0
 MethodIsFaithful limit m = Each (IsFaithful limit) m.body
@@ -42,4 +44,5 @@ pub record ItemsAreFaithful (limit : ℕ) (found : Items) : Type 0 where
   pub classes : Each (ClassIsFaithful limit) found.classes
   pub functions : Each (MethodIsFaithful limit) found.functions
   pub main : Each (IsFaithful limit) found.main
+  pub bodies_low : (n : Numbering) → Each (λ t. block_height (t.block n) ≤ limit) found.threads
   pub named : (n m : Numbering) → Agree found.names found.threads n m → SameScript n m found

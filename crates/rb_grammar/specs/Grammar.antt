@@ -68,6 +68,11 @@ operand (p.head h) k = refuse
 abbrev pub as_value : Tree → Part
 as_value a = p.plain (p.value a)
 
+-- a node, and nothing behind it
+abbrev pub finished : Tree → Rule Tree
+finished a = built a (done a)
+
+-- the same, as an operand that is no target
 abbrev pub made : Tree → Rule Part
 made a = built a (done (as_value a))
 
@@ -152,6 +157,7 @@ operator_of c.modulo_assign = op.Modulo
 operator_of c.or_assign = op.OrElse
 operator_of other = op.AndThen
 
+-- what an assignment comes to
 abbrev pub assign : TargetTree → Token → Tree → Rule Part
 assign target t a =
     pick (is_one (c.assign ∷ []) t) (made (tree.assigned target t.at a)) (made (tree.operated target (operator_of (class_of t.kind)) t.at a))
@@ -173,10 +179,14 @@ decided t a k = pick (is_one (c.unless_word ∷ c.until_word ∷ []) t) (built (
 abbrev pub modifiers : List Class
 modifiers = c.if_word ∷ c.unless_word ∷ c.while_word ∷ c.until_word ∷ []
 
+-- a statement goes on behind a modifier
+abbrev pub modified_by : Tree → Rule Tree
+modified_by a = built a (phrase (p.modified a) done)
+
+-- a statement with a modifier and its condition
 abbrev pub modify : Token → Tree → Tree → Rule Tree
 modify t a condition =
-    let changed : Tree → Rule Tree = λ b. built b (phrase (p.modified b) done) in
-    pick (is_one (c.while_word ∷ c.until_word ∷ []) t) (changed (tree.loop_behind t.at a condition)) (changed (tree.choice_behind t.at a condition))
+    pick (is_one (c.while_word ∷ c.until_word ∷ []) t) (modified_by (tree.loop_behind t.at a condition)) (modified_by (tree.choice_behind t.at a condition))
 
 -- ---- blocks and calls
 
@@ -217,34 +227,47 @@ going_on d a = built a (phrase (p.postfix_rest d (as_value a)) done)
 -- `. IDENT` without brackets and without a block: a head, or a call that may be a target
 abbrev pub plain_member : Bool → Tree → Word → Rule Part
 plain_member d a w =
-    ahead (done (p.head (p.of_call (Some a) w))) (pick (is_marked w.text) (going_on d (tree.call (Some a) w [])) (phrase (p.postfix_rest d (p.plain (p.member a w))) done))
+    ahead (done (p.head (p.of_call (Some a) w)))
+    (pick (is_marked w.text) (going_on d (tree.call (Some a) w [])) (phrase (p.postfix_rest d (p.plain (p.member a w))) done))
 
 -- IDENT without brackets: a local, a head, or a call that may be a target
 abbrev pub plain_name : Word → Rule Part
 plain_name w =
-    known w.text (done (p.plain (p.variable w))) (ahead (done (p.head (p.of_call None w))) (pick (is_marked w.text) (done (as_value (tree.call None w []))) (done (p.plain (p.bare w)))))
+    known w.text (done (p.plain (p.variable w)))
+    (ahead (done (p.head (p.of_call None w))) (pick (is_marked w.text) (done (as_value (tree.call None w []))) (done (p.plain (p.bare w)))))
 
--- behind `. IDENT`: ["(" [args] ")"] [block]
+-- IDENT ["(" [args] ")"]
+abbrev pub named : Word → Rule Part
+named w = any (token (glued c.open_paren) (λ o. nested o.at p.arguments (λ args. made (tree.call None w args))) ∷ plain_name w ∷ [])
+
+-- . IDENT "(" [args] ")" [block]
+abbrev pub called_with : Bool → Tree → Word → List Tree → Rule Part
+called_with d a w args = with_block_of w.text d (λ b. going_on d (tree.call_with_block a w args b)) (going_on d (tree.call (Some a) w args))
+
+-- . IDENT ["(" [args] ")"] [block]
 abbrev pub called : Bool → Tree → Word → Rule Part
 called d a w = any (
-    token (glued c.open_paren) (λ o. nested o.at p.arguments (λ args.
-    with_block_of w.text d (λ b. going_on d (tree.call_with_block a w args b)) (going_on d (tree.call (Some a) w args))))
+    token (glued c.open_paren) (λ o. nested o.at p.arguments (λ args. called_with d a w args))
     ∷ with_block_of w.text d (λ b. going_on d (tree.call_with_block a w [] b)) (plain_member d a w)
     ∷ [])
 
--- `Thread.new` with its brackets or none, and its block
-abbrev pub thread : Bool → Token → Rule Part
-thread d t = any (
-    token (glued c.open_paren) (λ o. nested o.at p.arguments (λ args. with_block d (λ b. made (tree.thread_new t.at args b)) refuse))
-    ∷ with_block d (λ b. made (tree.thread_new t.at [] b)) refuse
-    ∷ [])
+-- the block behind `Thread.new` and its arguments, which has to be there
+abbrev pub thread_with : Bool → Token → List Tree → Rule Part
+thread_with d t args = with_block d (λ b. made (tree.thread_new t.at args b)) refuse
 
--- `CONST.new` of another class: with brackets, as a head, or without arguments
+-- `Thread.new` ["(" [args] ")"] block
+abbrev pub thread : Bool → Token → Rule Part
+thread d t = any (token (glued c.open_paren) (λ o. nested o.at p.arguments (thread_with d t)) ∷ thread_with d t [] ∷ [])
+
+-- CONST.new ["(" [args] ")"], where the class is another one: with brackets, as a head, or without arguments
 abbrev pub object : Text → Token → Rule Part
 object class t = any (
     token (glued c.open_paren) (λ o. nested o.at p.arguments (λ args. made (tree.new class t.at args)))
     ∷ ahead (done (p.head (p.of_new class t.at))) (done (as_value (tree.new class t.at [])))
     ∷ [])
+
+abbrev pub constructed : Bool → Text → Token → Rule Part
+constructed d class t = pick (bytes_eq class (codes "Thread")) (thread d t) (object class t)
 
 -- ---- lists of one kind
 
@@ -255,7 +278,14 @@ identifiers = c.word ∷ c.marked ∷ c.attribute ∷ c.new ∷ []
 abbrev pub names : List Class
 names = c.word ∷ c.attribute ∷ c.new ∷ []
 
--- ---- the phrases
+-- ---- parts of rules
+
+-- behind `return`: its value, or nothing; `if`, `unless`, `while` and `until` begin a modifier there
+abbrev pub returned : Token → Rule Tree
+returned t = any (
+    look (other_than (one_of modifiers)) (phrase (p.expression true) (λ a. finished (tree.return_value t.at a)))
+    ∷ done (tree.return_nothing t.at)
+    ∷ [])
 
 -- the arguments of a command behind its head
 abbrev pub command_of : Head → List Tree → Tree
@@ -263,8 +293,44 @@ command_of (p.of_call receiver w) args = tree.call receiver w args
 command_of (p.of_new class at) args = tree.new class at args
 
 abbrev pub commanded : Part → Rule Tree
-commanded (p.head h) = phrase p.command_arguments (λ args. let b : Tree = command_of h args in built b (done b))
+commanded (p.head h) = phrase p.command_arguments (λ args. finished (command_of h args))
 commanded (p.plain o) = operand (p.plain o) done
+
+-- behind a minus where an operand may stand: an integer directly behind it, which is negative then, or another operand
+abbrev pub negative : Bool → Token → Rule Part
+negative d t = any (
+    token (glued c.int) (λ i. phrase (p.postfix_rest d (as_value (tree.integer (neg_ℤ (integer_of i.kind)) t.at))) done)
+    ∷ look (other_than (glued c.int)) (nested t.at (p.unary d) (λ part. operand part (λ a. made (tree.minus t.at a))))
+    ∷ [])
+
+-- the name of a method with `=`
+abbrev pub setter : Token → Word
+setter t = record { text = tree.setter_of (text_of t.kind); at = t.at }
+
+-- behind the name of a method
+abbrev pub method_named : Token → Rule MethodTree
+method_named t = any (
+    token (glued c.assign) (λ e. token (is c.open_paren) (λ o. nested o.at p.one_param (λ w. phrase (p.method_body (setter t) (w ∷ [])) done)))
+    ∷ token (is c.open_paren) (λ o. nested o.at p.params (λ ws. phrase (p.method_body (word_of t) ws) done))
+    ∷ look (other_than (is c.open_paren)) (phrase (p.method_body (word_of t) []) done)
+    ∷ [])
+
+-- a closing bracket, or one more
+abbrev pub closed_or : {A : Type 0} → Class → A → Rule A → Rule A
+closed_or closer found more = any (token (is closer) (λ e. done found) ∷ more ∷ [])
+
+-- behind a condition: then body {"elsif" expr then body} ["else" body] "end"
+abbrev pub chosen : {A : Type 0} → Bool → Token → Tree → (Tree → Rule A) → Rule A
+chosen may_go_on t condition k =
+    phrase p.then (λ o. phrase (p.body []) (λ first. phrase (p.otherwise may_go_on) (λ second.
+    built (tree.choice t.at condition first second) (k (tree.choice t.at condition first second)))))
+
+-- behind the condition of a loop: ("do" | NL) body "end"
+abbrev pub looped : Token → Tree → Rule Tree
+looped t condition =
+    token (one_of (c.do_word ∷ c.line ∷ [])) (λ o. phrase (p.body []) (λ b. token (is c.end_word) (λ e. finished (tree.loop t.at condition b))))
+
+-- ---- the phrases
 
 unfoldable pub rule : (n : Phrase) → Rule (Value n)
 -- program = {NL} [item {NL {NL} item} {NL}] END
@@ -296,17 +362,8 @@ rule (p.symbols_rest found) = any (
     ∷ [])
 -- def = "def" IDENT ["="] ["(" [IDENT {"," IDENT}] ")"] body "end"
 -- The `=` is not spaced, and one parameter in brackets follows it. A bracket behind the name opens the parameters.
-rule p.method_rest =
-    token (one_of identifiers) (λ t. scope enter_method (any (
-    token (glued c.assign) (λ e. token (is c.open_paren) (λ o. nested o.at p.one_param (λ w.
-    phrase (p.method_body (record { text = tree.setter_of (text_of t.kind); at = t.at }) (w ∷ [])) done)))
-    ∷ token (is c.open_paren) (λ o. nested o.at p.params (λ ws. phrase (p.method_body (word_of t) ws) done))
-    ∷ look (other_than (is c.open_paren)) (phrase (p.method_body (word_of t) []) done)
-    ∷ [])))
-rule p.params = any (
-    token (is c.close_paren) (λ t. done [])
-    ∷ token (one_of names) (λ t. phrase (p.params_rest (word_of t ∷ [])) done)
-    ∷ [])
+rule p.method_rest = token (one_of identifiers) (λ t. scope enter_method (method_named t))
+rule p.params = closed_or c.close_paren [] (token (one_of names) (λ t. phrase (p.params_rest (word_of t ∷ [])) done))
 rule (p.params_rest found) = any (
     token (is c.comma) (λ t. token (one_of names) (λ w. phrase (p.params_rest (found ++ word_of w ∷ [])) done))
     ∷ token (is c.close_paren) (λ t. done found)
@@ -328,10 +385,7 @@ rule (p.body_rest found) = any (
 -- Behind `return` these four words begin a modifier.
 rule p.statement = phrase p.simple (λ a. phrase (p.modified a) done)
 rule p.simple = any (
-    token (is c.return_word) (λ t. any (
-    look (other_than (one_of modifiers)) (phrase (p.expression true) (λ a. let b : Tree = tree.return_value t.at a in built b (done b)))
-    ∷ done (tree.return_nothing t.at)
-    ∷ []))
+    token (is c.return_word) returned
     ∷ token (is c.break_word) (λ t. done (tree.constant node.Break t.at))
     ∷ token (is c.next_word) (λ t. done (tree.constant node.Next t.at))
     ∷ phrase (p.expression true) done
@@ -374,10 +428,7 @@ rule (p.chain_rest d tier part) = unless_head part (any (
 -- A minus directly before an integer is part of the integer, which then begins a postfix.
 rule (p.unary d) = any (
     token (is c.bang) (λ t. nested t.at (p.unary d) (λ part. operand part (λ a. made (tree.negated t.at a))))
-    ∷ token (is c.minus) (λ t. any (
-    token (glued c.int) (λ i. phrase (p.postfix_rest d (as_value (tree.integer (neg_ℤ (integer_of i.kind)) t.at))) done)
-    ∷ look (other_than (glued c.int)) (nested t.at (p.unary d) (λ part. operand part (λ a. made (tree.minus t.at a))))
-    ∷ []))
+    ∷ token (is c.minus) (negative d)
     ∷ phrase (p.postfix d) done
     ∷ [])
 -- postfix = primary { "." IDENT ["(" [args] ")"] [block] | "[" arg "]" }
@@ -389,10 +440,7 @@ rule (p.postfix_rest d part) = unless_head part (any (
     ∷ done part
     ∷ []))
 -- args = arg {"," arg}, up to the bracket that closes them
-rule p.arguments = any (
-    token (is c.close_paren) (λ t. done [])
-    ∷ phrase (p.argument true) (λ a. phrase (p.arguments_rest (a ∷ [])) done)
-    ∷ [])
+rule p.arguments = closed_or c.close_paren [] (phrase (p.argument true) (λ a. phrase (p.arguments_rest (a ∷ [])) done))
 rule (p.arguments_rest found) = any (
     token (is c.comma) (λ t. phrase (p.argument true) (λ a. phrase (p.arguments_rest (found ++ a ∷ [])) done))
     ∷ token (is c.close_paren) (λ t. done found)
@@ -413,38 +461,22 @@ rule (p.primary d) = any (
     ∷ token (is c.self_word) (λ t. done (as_value (tree.constant node.SelfRef t.at)))
     ∷ token (is c.field) (λ t. done (p.plain (p.of_field (word_of t))))
     ∷ token (is c.global) (λ t. done (p.plain (p.of_global (word_of t))))
-    ∷ token (one_of identifiers) (λ t. any (
-    token (glued c.open_paren) (λ o. nested o.at p.arguments (λ args. made (tree.call None (word_of t) args)))
-    ∷ plain_name (word_of t)
-    ∷ []))
-    ∷ token (is c.constant) (λ t. token (is c.dot) (λ o. token (is c.new) (λ w.
-    pick (bytes_eq (text_of t.kind) (codes "Thread")) (thread d w) (object (text_of t.kind) w))))
+    ∷ token (one_of identifiers) (λ t. named (word_of t))
+    ∷ token (is c.constant) (λ t. token (is c.dot) (λ o. token (is c.new) (constructed d (text_of t.kind))))
     ∷ token (is c.open_bracket) (λ t. nested t.at p.array_rest (λ items. made (tree.array t.at items)))
     ∷ token (is c.open_brace) (λ t. nested t.at p.hash_rest (λ pairs. made (tree.hash t.at pairs)))
     ∷ token (is c.open_paren) (λ t. nested t.at p.group_rest (λ a. done (as_value a)))
     ∷ token (one_of (c.if_word ∷ c.unless_word ∷ [])) (λ t. nested t.at (p.conditional t) (λ a. done (as_value a)))
     ∷ token (one_of (c.while_word ∷ c.until_word ∷ [])) (λ t. nested t.at (p.loop_rest t) (λ a. done (as_value a)))
     ∷ [])
-rule p.array_rest = any (
-    token (is c.close_bracket) (λ t. done [])
-    ∷ phrase (p.argument true) (λ a. phrase (p.array_items_rest (a ∷ [])) done)
-    ∷ [])
+rule p.array_rest = closed_or c.close_bracket [] (phrase (p.argument true) (λ a. phrase (p.array_items_rest (a ∷ [])) done))
 rule (p.array_items_rest found) = any (
-    token (is c.comma) (λ t. any (
-    token (is c.close_bracket) (λ e. done found)
-    ∷ phrase (p.argument true) (λ a. phrase (p.array_items_rest (found ++ a ∷ [])) done)
-    ∷ []))
+    token (is c.comma) (λ t. closed_or c.close_bracket found (phrase (p.argument true) (λ a. phrase (p.array_items_rest (found ++ a ∷ [])) done)))
     ∷ token (is c.close_bracket) (λ t. done found)
     ∷ [])
-rule p.hash_rest = any (
-    token (is c.close_brace) (λ t. done [])
-    ∷ phrase p.pair (λ ab. phrase (p.pairs_rest (ab ∷ [])) done)
-    ∷ [])
+rule p.hash_rest = closed_or c.close_brace [] (phrase p.pair (λ ab. phrase (p.pairs_rest (ab ∷ [])) done))
 rule (p.pairs_rest found) = any (
-    token (is c.comma) (λ t. any (
-    token (is c.close_brace) (λ e. done found)
-    ∷ phrase p.pair (λ ab. phrase (p.pairs_rest (found ++ ab ∷ [])) done)
-    ∷ []))
+    token (is c.comma) (λ t. closed_or c.close_brace found (phrase p.pair (λ ab. phrase (p.pairs_rest (found ++ ab ∷ [])) done)))
     ∷ token (is c.close_brace) (λ t. done found)
     ∷ [])
 -- pair = arg "=>" arg | LABEL arg
@@ -453,24 +485,20 @@ rule p.pair = any (
     ∷ phrase (p.argument true) (λ a. token (is c.arrow) (λ t. phrase (p.argument true) (λ b. done (a, b))))
     ∷ [])
 rule p.group_rest = phrase p.statement (λ a. token (is c.close_paren) (λ t. done a))
+-- a condition with its bodies, and a loop, behind their words
+rule (p.conditional t) = phrase (p.expression true) (λ a. decided t a (λ condition. chosen (is_one (c.if_word ∷ []) t) t condition done))
 -- then = "then" | NL ["then"]
-rule (p.conditional t) =
-    phrase (p.expression true) (λ a. decided t a (λ condition. phrase p.then (λ o. phrase (p.body []) (λ first.
-    phrase (p.otherwise (is_one (c.if_word ∷ []) t)) (λ second. let b : Tree = tree.choice t.at condition first second in built b (done b))))))
 rule p.then = any (
     token (is c.then_word) (λ t. done tt)
     ∷ token (is c.line) (λ t. any (token (is c.then_word) (λ w. done tt) ∷ done tt ∷ []))
     ∷ [])
--- what stands behind the body of a condition, up to its `end`; `elsif` only behind `if`
+-- behind the first body, up to the `end`; `elsif` does not stand behind `unless`
 rule (p.otherwise may_go_on) = any (
-    token (allowed may_go_on c.elsif_word) (λ t. phrase (p.expression true) (λ condition. phrase p.then (λ o. phrase (p.body []) (λ first.
-    phrase (p.otherwise true) (λ second. let b : Tree = tree.choice t.at condition first second in built b (done (b ∷ [])))))))
+    token (allowed may_go_on c.elsif_word) (λ t. phrase (p.expression true) (λ condition. chosen true t condition (λ a. done (a ∷ []))))
     ∷ token (is c.else_word) (λ t. phrase (p.body []) (λ b. token (is c.end_word) (λ e. done b)))
     ∷ token (is c.end_word) (λ t. done [])
     ∷ [])
-rule (p.loop_rest t) =
-    phrase (p.expression false) (λ a. decided t a (λ condition. token (one_of (c.do_word ∷ c.line ∷ [])) (λ o. phrase (p.body []) (λ b.
-    token (is c.end_word) (λ e. let both : Tree = tree.loop t.at condition b in built both (done both))))))
+rule (p.loop_rest t) = phrase (p.expression false) (λ a. decided t a (looped t))
 -- text = TextOpen { TextPiece | CodeOpen stmt CodeClose } TextClose
 rule (p.text_rest found) = any (
     token (is c.text_piece) (λ t. phrase (p.text_rest (found ++ tree.bytes (text_of t.kind) ∷ [])) done)

@@ -11,7 +11,7 @@ use Rattle.rb_grammar.specs.Phrase as p
 use Rattle.rb_grammar.specs.Rule.{next_is_glued}
 use Rattle.rb_grammar.specs.Reading.{read, refused, too_nested, reading, Settled, read_script}
 use Rattle.rb_grammar.specs.Nesting.{TooNestedAt}
-use Rattle.rb_grammar.specs.Script.{IsScript, BeginsNone}
+use Rattle.rb_grammar.specs.Script.{EndsOnce, IsScript, BeginsNone}
 use Rattle.rb_grammar.specs.Program.{in_order, numbering_of, IsProgram}
 use Rattle.rb_grammar.specs.Faithful.{Each, ItemsAreFaithful}
 
@@ -44,6 +44,12 @@ abbrev pub RefusesRightly : Type 0
 RefusesRightly = (limit levels : ℕ) (tokens : List Token) (t : Token) (post : List Token)
     → read_script limit levels tokens ≡ refused (t ∷ post) → BeginsNone tokens t.at.from
 
+-- Where the last token is the one end, the reader refuses one of the tokens or reads them all.
+abbrev pub EndsWithTokens : Type 0
+EndsWithTokens = (limit levels : ℕ) (tokens : List Token) → EndsOnce tokens
+    → ((us : List Token) → read_script limit levels tokens ≡ refused us → (t : Token) × (post : List Token) × (us ≡ t ∷ post))
+    × ((found : Items) (s : Scope) (seen : Bool) (us : List Token) → read_script limit levels tokens ≡ read found s seen us → us ≡ [])
+
 -- A refusal hangs on no token behind the one that is refused, and stays within wider limits.
 abbrev pub RefusesLocally : Type 0
 RefusesLocally = (limit limit' levels levels' : ℕ) → limit ≤ limit' → levels ≤ levels' → (front : List Token) (t : Token) (post other : List Token)
@@ -61,7 +67,7 @@ ReadsLocally = (limit limit' turns turns' levels levels' : ℕ) → limit ≤ li
 -- The reader answers that something is nested too deep only where a limit is passed at that place, and only where no script
 -- within the limits is spelled.
 abbrev pub NestsRightly : Type 0
-NestsRightly = (limit levels : ℕ) (tokens : List Token) (at : Span) → read_script limit levels tokens ≡ too_nested at
+NestsRightly = (limit levels : ℕ) → 2 ≤ limit → (tokens : List Token) (at : Span) → read_script limit levels tokens ≡ too_nested at
     → TooNestedAt limit levels (p.items no_items) top_level tokens at × ((found : Items) → IsScript limit levels tokens found → ⊥)
 
 -- A script that is not within the limits is answered so: it is never read, and never refused as no script.
@@ -76,4 +82,4 @@ NamesAll = (found : Items) → Each (λ text. number_of text (in_order found.nam
 -- What the trees of a script say of their nodes is so: heights, places, and that their numbers hang on the names that the tokens
 -- give and on the threads alone. No node is higher than limit.
 abbrev pub IsFaithfulTo : Type 0
-IsFaithfulTo = (limit levels : ℕ) (tokens : List Token) (found : Items) → 1 ≤ limit → IsScript limit levels tokens found → ItemsAreFaithful limit found
+IsFaithfulTo = (limit levels : ℕ) (tokens : List Token) (found : Items) → 2 ≤ limit → IsScript limit levels tokens found → ItemsAreFaithful limit found

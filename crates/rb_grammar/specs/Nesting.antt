@@ -1,5 +1,5 @@
 -- How a rule comes to where a limit is passed: what is open at a place, and which node is built.
-use Rattle.std.specs.Prelude.{◌≡◌, ℕ, zero, suc, ◌≤◌, ◌<◌, true, false, List, ◌∷◌}
+use Rattle.std.specs.Prelude.{◌≡◌, ℕ, zero, suc, ◌≤◌, true, false, List, ◌∷◌}
 use Rattle.rb_tree.specs.declared.span.Span.{Span}
 use Rattle.rb_lexer.specs.declared.token.Token.{Token}
 use Rattle.rb_grammar.specs.Look.{Test, class_of}
@@ -51,10 +51,10 @@ abbrev pub reached : ℕ → ℕ → ℕ → Reaching
 reached limit zero levels m s ts n e = ⊥
 reached limit (suc depth) levels m s ts n e = Reaches limit (spelled limit depth) (reached limit depth) levels (rule m) s ts n e
 
--- an event passes a limit at this place: one more than levels are open, or a node higher than limit is built
+-- an event passes a limit at this place: one more than levels are open, or a node one higher than limit is built
 pub data Passes (limit levels : ℕ) (at : Span) : ℕ → Event → Type 0 where
   too_many_open : Passes limit levels at (suc levels) (opens_at at)
-  too_high : {n : ℕ} (b : Tree) → limit < b.height → b.at ≡ at → Passes limit levels at n (builds_node b)
+  too_high : {n : ℕ} (b : Tree) → b.height ≡ suc limit → b.at ≡ at → Passes limit levels at n (builds_node b)
 
 -- reading a phrase comes to an event that passes a limit at this place
 pub record TooNestedAt (limit levels : ℕ) (m : Phrase) (s : Scope) (ts : List Token) (at : Span) : Type 0 where

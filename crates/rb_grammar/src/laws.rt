@@ -44,3 +44,8 @@ pub fn too_nested()
 pub fn names_all()
     ensures { law.NamesAll }
 {}
+
+/// What the trees of a script say of their nodes is so, and no node is higher than the limit.
+pub fn faithful()
+    ensures { law.IsFaithfulTo }
+{}
