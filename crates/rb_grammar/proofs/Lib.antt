@@ -18,3 +18,4 @@ pub mod FaithfulTrees
 pub mod Faithfully
 pub mod FaithfulItems
 pub mod FaithfulScript
+pub mod Ends
