@@ -6,7 +6,7 @@ use Rattle.rb_grammar.specs.Look.{Class, Test, class_of, is}
 use Rattle.rb_grammar.specs.Look as c
 use Rattle.rb_grammar.specs.Scope.{Scope}
 use Rattle.rb_grammar.specs.Phrase.{Phrase, Value}
-use Rattle.rb_grammar.specs.Rule.{Rule, next_meets, next_is_glued, arguments_follow, begins_arguments, Spelling, Spells, stops, takes, holds, opens, builds, first, second, looks, picks, picks_not, knows, knows_not, commands, commands_not, changes}
+use Rattle.rb_grammar.specs.Rule.{Rule, next_meets, next_touches, arguments_follow, begins_arguments, Spelling, Spells, stops, takes, holds, opens, builds, first, second, looks, picks, picks_not, knows, knows_not, touches, touches_not, commands, commands_not, changes}
 use Rattle.rb_grammar.specs.Grammar.{rule, spelled}
 use Rattle.rb_grammar.specs.Heads.{starts, may_be_empty, empty, heads, next_class, next_spaced, may_begin_arguments}
 use Rattle.rb_grammar.specs.Reading.{Outcome, read, and_then, when, run, nest, reading, is_looked_behind}
@@ -68,10 +68,10 @@ first_or false b d e = and_left b d e
 arguments_begin : (ts : List Token) → arguments_follow ts ≡ true → at_next may_begin_arguments ts ≡ true
 arguments_begin [] e = absurd (cc)
 arguments_begin (t ∷ ts) e =
-    let spaced = and_left t.spaced (begins_arguments (class_of t.kind) t.spaced || (is c.minus (class_of t.kind) t.spaced && next_is_glued ts)) e in
-    let one = and_right t.spaced (begins_arguments (class_of t.kind) t.spaced || (is c.minus (class_of t.kind) t.spaced && next_is_glued ts)) e in
+    let spaced = and_left t.spaced (begins_arguments (class_of t.kind) t.spaced || (is c.minus (class_of t.kind) t.spaced && next_touches t.at ts)) e in
+    let one = and_right t.spaced (begins_arguments (class_of t.kind) t.spaced || (is c.minus (class_of t.kind) t.spaced && next_touches t.at ts)) e in
     and_both t.spaced (begins_arguments (class_of t.kind) t.spaced || is c.minus (class_of t.kind) t.spaced) spaced
-    (first_or (begins_arguments (class_of t.kind) t.spaced) (is c.minus (class_of t.kind) t.spaced) (next_is_glued ts) one)
+    (first_or (begins_arguments (class_of t.kind) t.spaced) (is c.minus (class_of t.kind) t.spaced) (next_touches t.at ts) one)
 
 -- ---- the first token of what is spelled
 
@@ -95,7 +95,9 @@ module _ (limit : ℕ) (inner : ℕ → Spelling) (begun : (l : ℕ) (n : Phrase
   rule_begun r s ts a s' us (picks {p = p} {q = q} d) at_end e = or_first _ _ (rule_begun p s ts a s' us d at_end e)
   rule_begun r s ts a s' us (picks_not {p = p} {q = q} d) at_end e = or_second _ _ (rule_begun q s ts a s' us d at_end e)
   rule_begun r s ts a s' us (knows {p = p} {q = q} h d) at_end e = or_first _ _ (rule_begun p s ts a s' us d at_end e)
+  rule_begun r s ts a s' us (touches {p = p} {q = q} h d) at_end e = or_first _ _ (rule_begun p s ts a s' us d at_end e)
   rule_begun r s ts a s' us (knows_not {p = p} {q = q} h d) at_end e = or_second _ _ (rule_begun q s ts a s' us d at_end e)
+  rule_begun r s ts a s' us (touches_not {p = p} {q = q} h d) at_end e = or_second _ _ (rule_begun q s ts a s' us d at_end e)
   rule_begun r s ts a s' us (commands {p = p} {q = q} h d) at_end e = or_first _ _ (and_both _ _ (arguments_begin ts h) (rule_begun p s ts a s' us d at_end e))
   rule_begun r s ts a s' us (commands_not {p = p} {q = q} h d) at_end e = or_second _ _ (rule_begun q s ts a s' us d at_end e)
   rule_begun r s ts a s' us (changes {f = f} {p = p} d) at_end e = rule_begun p (f s) ts a s' us d at_end e
@@ -163,7 +165,13 @@ module _ (limit depth : ℕ) (reads : (levels : ℕ) → PhraseReads limit depth
   rule_reads r s ts a s' us (knows {p = p} local d) behind h e seen =
       let go = rule_reads p s ts a s' us d behind h.0 e seen in
       (go.0, chosen _ _ _ _ local go.1)
+  rule_reads r s ts a s' us (touches {p = p} local d) behind h e seen =
+      let go = rule_reads p s ts a s' us d behind h.0 e seen in
+      (go.0, chosen _ _ _ _ local go.1)
   rule_reads r s ts a s' us (knows_not {q = q} local d) behind h e seen =
+      let go = rule_reads q s ts a s' us d behind h.1 e seen in
+      (go.0, passed _ _ _ _ local go.1)
+  rule_reads r s ts a s' us (touches_not {q = q} local d) behind h e seen =
       let go = rule_reads q s ts a s' us d behind h.1 e seen in
       (go.0, passed _ _ _ _ local go.1)
   rule_reads r s ts a s' us (commands {p = p} follow d) behind h e seen =

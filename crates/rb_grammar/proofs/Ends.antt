@@ -16,8 +16,8 @@ use Rattle.rb_grammar.specs.Scope.{Scope, is_local, top_level}
 use Rattle.rb_grammar.specs.Phrase.{Part, Tier, Phrase, Value}
 use Rattle.rb_grammar.specs.Phrase.{or_tier, and_tier, equal_tier, less_tier, shift_tier, sum_tier, product_tier, unary_tier}
 use Rattle.rb_grammar.specs.Phrase as p
-use Rattle.rb_grammar.specs.Rule.{Rule, done, refuse, token, phrase, nested, built, either, look, pick, known, ahead, scope, next_meets, arguments_follow}
-use Rattle.rb_grammar.specs.Grammar.{rule, allowed, closing, operators, operand, joined, chained, assigning, target_of, called, thread, commanded}
+use Rattle.rb_grammar.specs.Rule.{Rule, done, refuse, token, phrase, nested, built, either, look, pick, known, touching, ahead, scope, next_meets, next_touches, arguments_follow}
+use Rattle.rb_grammar.specs.Grammar.{rule, allowed, closing, operators, operand, joined, chained, assigning, target_of, called, thread, commanded, opposite}
 use Rattle.rb_grammar.specs.Heads.{begins}
 use Rattle.rb_grammar.specs.Reading.{Outcome, read, refused, too_nested, spent, Reader, Reading, from_refused, is_looked_behind, and_then, when, nest, run, reading, read_script, turns_for}
 use Rattle.rb_grammar.specs.Script.{EndsOnce}
@@ -48,6 +48,7 @@ NoEnd (either q r) = NoEnd q × NoEnd r
 NoEnd (look test r) = NoEnd r
 NoEnd (pick b q r) = NoEnd q × NoEnd r
 NoEnd (known text q r) = NoEnd q × NoEnd r
+NoEnd (touching place q r) = NoEnd q × NoEnd r
 NoEnd (ahead q r) = NoEnd q × NoEnd r
 NoEnd (scope f r) = NoEnd r
 
@@ -106,6 +107,10 @@ assigning_no_end : (d : Bool) (part : Part) (target : Option TargetTree) → NoE
 assigning_no_end d part None = tt
 assigning_no_end d part (Some target) = search tt
 
+-- nor does the operand of a minus
+opposite_no_end : (d : Bool) (t : Token) → NoEnd (opposite d t)
+opposite_no_end d t = (refl, λ part. operand_no_end part _ (λ a. tt))
+
 -- the rule of a phrase that does not go on to the end of a script takes no end
 no_end : (n : Phrase) → is_whole n ≡ false → NoEnd (rule n)
 unfolding rule
@@ -129,10 +134,13 @@ no_end (p.chain d unary_tier) e = search tt
 no_end (p.chain_rest d tier (p.plain o)) e =
     ((misses_operators tier, λ t. (refl, λ next. operand_no_end next _ (λ b. joined_no_end d tier t _ b))), tt)
 no_end (p.chain_rest d tier (p.head h)) e = tt
-no_end (p.unary d) e =
-    (((λ spaced. refl), λ t. (refl, λ part. operand_no_end part _ (λ a. tt))),
-    (((λ spaced. refl), λ t. (((λ spaced. refl), λ i. (refl, λ v. tt)), (refl, λ part. operand_no_end part _ (λ a. tt)))),
-    (refl, λ v. tt)))
+no_end (p.unary d) e = (
+  ((λ spaced. refl), λ t. (refl, λ part. operand_no_end part _ (λ a. tt))),
+  (
+    ((λ spaced. refl), λ t. ((((λ spaced. refl), λ i. (refl, λ v. tt)), opposite_no_end d t), opposite_no_end d t)),
+    (refl, λ v. tt),
+  ),
+)
 no_end (p.postfix_rest d (p.plain o)) e = search (called_no_end d) depth 12
 no_end (p.postfix_rest d (p.head h)) e = tt
 no_end (p.primary d) e = search (thread_no_end d) depth 12
@@ -305,6 +313,9 @@ module _ (limit : ℕ) (reader : ℕ → Reading) (before : AllLeave false Befor
       (λ holds. run_before q s seen ts clear.0 once held) (λ fails. run_before r s seen ts clear.1 once held)
   run_before (known text q r) s seen ts clear once held =
       leaves_when Before (is_local text s) (λ u. run limit reader levels q s seen ts) (λ u. run limit reader levels r s seen ts)
+      (λ holds. run_before q s seen ts clear.0 once held) (λ fails. run_before r s seen ts clear.1 once held)
+  run_before (touching place q r) s seen ts clear once held =
+      leaves_when Before (next_touches place ts) (λ u. run limit reader levels q s seen ts) (λ u. run limit reader levels r s seen ts)
       (λ holds. run_before q s seen ts clear.0 once held) (λ fails. run_before r s seen ts clear.1 once held)
   run_before (ahead q r) s seen ts clear once held =
       let flag : Bool = is_looked_behind ts || seen in

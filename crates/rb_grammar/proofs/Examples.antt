@@ -70,6 +70,18 @@ a_minus_with_space_on_both_sides_is_an_operator : SpellOne (glued (kind.Ident (c
 unfolding rule spaced glued at id whole script
 a_minus_with_space_on_both_sides_is_an_operator = spelled_one _ _ _ _ refl _ refl
 
+-- f - \n1
+a_minus_before_a_line_end_is_an_operator : SpellOne (glued (kind.Ident (codes "f")) 0 1 ∷ spaced (kind.Mark mark.Minus) 2 3 ∷ glued (kind.Int (pos 1)) 5 6 ∷ glued kind.End 6 6 ∷ [])
+    (script (codes "f" ∷ codes "-" ∷ []) (node.Call (Some (node.Call None (id 0) [] None (at 0 1))) (id 1) (whole 1 5 ∷ []) None (at 2 3) ∷ []))
+unfolding rule spaced glued at id whole script
+a_minus_before_a_line_end_is_an_operator = spelled_one _ _ _ _ refl _ refl
+
+-- x = -\n1
+a_minus_before_a_line_end_is_no_part_of_an_integer : SpellOne (glued (kind.Ident (codes "x")) 0 1 ∷ spaced (kind.Mark mark.Assign) 2 3 ∷ spaced (kind.Mark mark.Minus) 4 5 ∷ glued (kind.Int (pos 1)) 6 7 ∷ glued kind.End 7 7 ∷ [])
+    (script (codes "x" ∷ codes "-@" ∷ []) (node.SetLocal (id 0) (node.Call (Some (whole 1 6)) (id 1) [] None (at 4 5)) (at 2 3) ∷ []))
+unfolding rule spaced glued at id whole script
+a_minus_before_a_line_end_is_no_part_of_an_integer = spelled_one _ _ _ _ refl _ refl
+
 -- f -x
 a_minus_before_a_word_begins_an_argument : SpellOne (glued (kind.Ident (codes "f")) 0 1 ∷ spaced (kind.Mark mark.Minus) 2 3 ∷ glued (kind.Ident (codes "x")) 3 4 ∷ glued kind.End 4 4 ∷ [])
     (script (codes "f" ∷ codes "-@" ∷ codes "x" ∷ []) (node.Call None (id 0) (node.Call (Some (node.Call None (id 2) [] None (at 3 4))) (id 1) [] None (at 2 3) ∷ []) None (at 0 1) ∷ []))

@@ -273,7 +273,10 @@ module _ (limit : ℕ) (two : 2 ≤ limit) where
     λ t. (tt, λ part e. keeps_operand (PartIsFaithful limit) part _ e (λ a f. negated_made limit t.at a f)),
     (
       λ t. (
-        λ j. (integer_faithful limit (neg_ℤ (integer_of j.kind)) t.at one, λ v h. h),
+        (
+          λ j. (integer_faithful limit (neg_ℤ (integer_of j.kind)) t.at one, λ v h. h),
+          (tt, λ part e. keeps_operand (PartIsFaithful limit) part _ e (λ a f. minus_made limit t.at a f)),
+        ),
         (tt, λ part e. keeps_operand (PartIsFaithful limit) part _ e (λ a f. minus_made limit t.at a f)),
       ),
       (tt, λ v h. h),

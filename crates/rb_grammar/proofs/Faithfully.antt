@@ -7,7 +7,7 @@ use Rattle.std.specs.Prelude.{◌≡◌, map}
 use Rattle.rb_grammar.specs.Scope.{Scope}
 use Rattle.rb_grammar.specs.Phrase.{Operand, Head, Part, Phrase, Value}
 use Rattle.rb_grammar.specs.Phrase as p
-use Rattle.rb_grammar.specs.Rule.{Rule, done, refuse, token, phrase, nested, built, either, look, pick, known, ahead, scope, Spelling, Spells}
+use Rattle.rb_grammar.specs.Rule.{Rule, done, refuse, token, phrase, nested, built, either, look, pick, known, touching, ahead, scope, Spelling, Spells}
 use Rattle.rb_grammar.specs.Rule as l
 use Rattle.rb_grammar.specs.Faithful.{Each, IsFaithful, MethodIsFaithful, ItemsAreFaithful}
 use Rattle.rb_grammar.proofs.FaithfulTrees.{SameNames, SameBodies, SameBlocks, LowBlocks}
@@ -130,6 +130,7 @@ Keeps limit (either one other) P = Keeps limit one P × Keeps limit other P
 Keeps limit (look test rule) P = Keeps limit rule P
 Keeps limit (pick b one other) P = Keeps limit one P × Keeps limit other P
 Keeps limit (known text one other) P = Keeps limit one P × Keeps limit other P
+Keeps limit (touching place one other) P = Keeps limit one P × Keeps limit other P
 Keeps limit (ahead one other) P = Keeps limit one P × Keeps limit other P
 Keeps limit (scope f rule) P = Keeps limit rule P
 
@@ -151,7 +152,9 @@ module _ (limit : ℕ) (inner : ℕ → Spelling)
   spells_keeps P (l.picks d) g = spells_keeps P d g.0
   spells_keeps P (l.picks_not d) g = spells_keeps P d g.1
   spells_keeps P (l.knows is d) g = spells_keeps P d g.0
+  spells_keeps P (l.touches is d) g = spells_keeps P d g.0
   spells_keeps P (l.knows_not is d) g = spells_keeps P d g.1
+  spells_keeps P (l.touches_not is d) g = spells_keeps P d g.1
   spells_keeps P (l.commands follow d) g = spells_keeps P d g.0
   spells_keeps P (l.commands_not follow d) g = spells_keeps P d g.1
   spells_keeps P (l.changes d) g = spells_keeps P d g

@@ -6,7 +6,7 @@ use Rattle.rb_grammar.specs.Look as c
 use Rattle.rb_grammar.specs.Phrase.{Part, Tier, Phrase, Value}
 use Rattle.rb_grammar.specs.Phrase.{or_tier, and_tier, equal_tier, less_tier, shift_tier, sum_tier, product_tier, unary_tier}
 use Rattle.rb_grammar.specs.Phrase as p
-use Rattle.rb_grammar.specs.Rule.{Rule, done, refuse, token, phrase, nested, built, either, look, pick, known, ahead, scope}
+use Rattle.rb_grammar.specs.Rule.{Rule, done, refuse, token, phrase, nested, built, either, look, pick, known, touching, ahead, scope}
 use Rattle.rb_grammar.specs.Grammar.{operators, modifiers, assignment_marks}
 use Rattle.rb_grammar.specs.Heads.{heads, opens_block, goes_on_postfix}
 
@@ -106,5 +106,6 @@ Apart (either one other) behind =
 Apart (look test rule) behind = Apart rule behind
 Apart (pick b one other) behind = Apart one behind × Apart other behind
 Apart (known text one other) behind = Apart one behind × Apart other behind
+Apart (touching place one other) behind = Apart one behind × Apart other behind
 Apart (ahead one other) behind = Apart one behind × Apart other behind
 Apart (scope f rule) behind = Apart rule behind

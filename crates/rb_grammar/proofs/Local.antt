@@ -11,7 +11,7 @@ use Rattle.rb_grammar.specs.Tree.{Items, no_items}
 use Rattle.rb_grammar.specs.Scope.{Scope, top_level, is_local}
 use Rattle.rb_grammar.specs.Phrase.{Phrase, Value}
 use Rattle.rb_grammar.specs.Phrase as p
-use Rattle.rb_grammar.specs.Rule.{Rule, done, refuse, token, phrase, nested, built, either, look, pick, known, ahead, scope, next_meets, next_is_glued, begins_arguments, arguments_follow}
+use Rattle.rb_grammar.specs.Rule.{Rule, done, refuse, token, phrase, nested, built, either, look, pick, known, touching, ahead, scope, next_meets, next_touches, begins_arguments, arguments_follow}
 use Rattle.rb_grammar.specs.Grammar.{rule}
 use Rattle.rb_grammar.specs.Heads.{begins}
 use Rattle.rb_grammar.specs.Reading.{Outcome, read, refused, too_nested, spent, Reader, Reading, and_then, when, from_refused, is_looked_behind, nest, run, reading, reading_script}
@@ -19,8 +19,8 @@ use Rattle.rb_grammar.specs.Reading.{Outcome, read, refused, too_nested, spent, 
 -- ---- what it is to be local
 
 -- where the reader has seen what follows the next token, these and those tokens are alike to it behind that
-abbrev pub Agrees : Bool → List Token → List Token → Type 0
-Agrees seen post other = seen ≡ true → next_is_glued post ≡ next_is_glued other
+abbrev pub Agrees : Token → Bool → List Token → List Token → Type 0
+Agrees t seen post other = seen ≡ true → next_touches t.at post ≡ next_touches t.at other
 
 -- the flag is set at a spaced minus alone
 abbrev pub Held : Bool → List Token → Type 0
@@ -33,7 +33,7 @@ pub record Stops {A : Type 0} (q : List Token → Outcome A) (seen : Bool) (ts :
   pub front : List Token
   pub split : ts ≡ front ++ r
   pub more : q ts ≡ answer r
-  pub same : (t : Token) (post other : List Token) → r ≡ t ∷ post → Agrees left post other → q (front ++ t ∷ other) ≡ answer (t ∷ other)
+  pub same : (t : Token) (post other : List Token) → r ≡ t ∷ post → Agrees t left post other → q (front ++ t ∷ other) ≡ answer (t ∷ other)
   -- where nothing is taken the flag is kept
   pub kept : front ≡ [] → seen ≡ true → left ≡ true
   pub held : Held left r
@@ -71,13 +71,13 @@ arguments_by true false false here there e = refl
 arguments_by true false true here there e = e refl
 
 -- so it is the same where tokens part behind a token, if they agree wherever that token is looked behind
-arguments_alike : (front : List Token) (t : Token) (us vs : List Token) → (front ≡ [] → is_looked_behind (t ∷ us) ≡ true → next_is_glued us ≡ next_is_glued vs)
+arguments_alike : (front : List Token) (t : Token) (us vs : List Token) → (front ≡ [] → is_looked_behind (t ∷ us) ≡ true → next_touches t.at us ≡ next_touches t.at vs)
     → arguments_follow (front ++ t ∷ us) ≡ arguments_follow (front ++ t ∷ vs)
 arguments_alike [] t us vs e =
-    arguments_by t.spaced (begins_arguments (class_of t.kind) t.spaced) (is look_at.minus (class_of t.kind) t.spaced) (next_is_glued us) (next_is_glued vs) (e refl)
+    arguments_by t.spaced (begins_arguments (class_of t.kind) t.spaced) (is look_at.minus (class_of t.kind) t.spaced) (next_touches t.at us) (next_touches t.at vs) (e refl)
 arguments_alike (u ∷ front) t us vs e =
     ap (λ glued. u.spaced && (begins_arguments (class_of u.kind) u.spaced || (is look_at.minus (class_of u.kind) u.spaced && glued)))
-    (far next_is_glued (λ x xs ys. refl) front t us vs)
+    (far (next_touches u.at) (λ x xs ys. refl) front t us vs)
 
 -- ---- lists and flags
 
@@ -109,7 +109,7 @@ or_held false b h e = h e
 -- Where a reader answers as another does, on these tokens and on those that the other reads alike, it stops as the other does.
 carried : {A : Type 0} (q other_reader : List Token → Outcome A) (seen flag : Bool) (ts : List Token)
     → q ts ≡ other_reader ts
-    → ((front : List Token) (t : Token) (post other : List Token) → ts ≡ front ++ t ∷ post → (front ≡ [] → Agrees flag post other)
+    → ((front : List Token) (t : Token) (post other : List Token) → ts ≡ front ++ t ∷ post → (front ≡ [] → Agrees t flag post other)
     → q (front ++ t ∷ other) ≡ other_reader (front ++ t ∷ other))
     → (seen ≡ true → flag ≡ true)
     → (answer : List Token → Outcome A) (left : Bool) (r : List Token) → Stops other_reader flag ts answer left r → Stops q seen ts answer left r
@@ -127,7 +127,7 @@ carried q other_reader seen flag ts here there sets answer left r x = record {
 -- the same, of any outcome
 carry : {A : Type 0} (q other_reader : List Token → Outcome A) (seen flag : Bool) (ts : List Token)
     → q ts ≡ other_reader ts
-    → ((front : List Token) (t : Token) (post other : List Token) → ts ≡ front ++ t ∷ post → (front ≡ [] → Agrees flag post other)
+    → ((front : List Token) (t : Token) (post other : List Token) → ts ≡ front ++ t ∷ post → (front ≡ [] → Agrees t flag post other)
     → q (front ++ t ∷ other) ≡ other_reader (front ++ t ∷ other))
     → (seen ≡ true → flag ≡ true)
     → (o : Outcome A) → Local other_reader flag ts o → Local q seen ts o
@@ -161,7 +161,7 @@ two_local b next f f' g g' seen ts x y =
 
 -- on other tokens the arguments of a command follow as they do here
 ahead_far : {A : Type 0} (f g : Bool → List Token → Outcome A) (seen : Bool) (ts front : List Token) (t : Token) (post other : List Token)
-    → ts ≡ front ++ t ∷ post → (front ≡ [] → Agrees (is_looked_behind ts || seen) post other) → (c : Bool) → arguments_follow ts ≡ c
+    → ts ≡ front ++ t ∷ post → (front ≡ [] → Agrees t (is_looked_behind ts || seen) post other) → (c : Bool) → arguments_follow ts ≡ c
     → when (arguments_follow (front ++ t ∷ other)) (λ u. f (is_looked_behind (front ++ t ∷ other) || seen) (front ++ t ∷ other))
     (λ u. g (is_looked_behind (front ++ t ∷ other) || seen) (front ++ t ∷ other))
     ≡ when c (λ u. f (is_looked_behind ts || seen) (front ++ t ∷ other)) (λ u. g (is_looked_behind ts || seen) (front ++ t ∷ other))
@@ -233,11 +233,11 @@ take_local q f seen t ts goes spent x = tt
 module _ {A B : Type 0} (q : List Token → Outcome A) (seen : Bool) (ts : List Token) (f g : A → Reader B) where
   -- the first goes on to the place of the second
   between : (a : A) (s : Scope) (flag : Bool) (us : List Token) (x : Stops q seen ts (read a s flag) flag us) (middle r : List Token) (t : Token) (post other : List Token)
-      → us ≡ middle ++ r → r ≡ t ∷ post → (middle ≡ [] → Agrees flag post other) → q (x.front ++ (middle ++ t ∷ other)) ≡ read a s flag (middle ++ t ∷ other)
+      → us ≡ middle ++ r → r ≡ t ∷ post → (middle ≡ [] → Agrees t flag post other) → q (x.front ++ (middle ++ t ∷ other)) ≡ read a s flag (middle ++ t ∷ other)
   between a s flag us x [] r t post other split e agrees = x.same t post other (split ∙ e) (agrees refl)
   between a s flag us x (u ∷ middle) r t post other split e agrees =
       x.same u (middle ++ r) (middle ++ t ∷ other) split
-      (λ set. ap (λ vs. next_is_glued (middle ++ vs)) e ∙ far next_is_glued (λ y ys zs. refl) middle t post other)
+      (λ set. ap (λ vs. next_touches u.at (middle ++ vs)) e ∙ far (next_touches u.at) (λ y ys zs. refl) middle t post other)
 
   -- where the second stops, both together stop
   joined : (a : A) (s : Scope) (flag : Bool) (us : List Token) → Stops q seen ts (read a s flag) flag us
@@ -360,6 +360,9 @@ module _ (limit limit' : ℕ) (wider : limit ≤ limit') (inner inner' : ℕ →
       (run limit inner levels other s seen) (run limit' inner' levels' other s seen) seen ts (run_local one s seen ts h) (run_local other s seen ts h)
   run_local (known text one other) s seen ts h =
       two_local (λ us. is_local text s) (λ x xs ys. refl) (run limit inner levels one s seen) (run limit' inner' levels' one s seen)
+      (run limit inner levels other s seen) (run limit' inner' levels' other s seen) seen ts (run_local one s seen ts h) (run_local other s seen ts h)
+  run_local (touching place one other) s seen ts h =
+      two_local (next_touches place) (λ x xs ys. refl) (run limit inner levels one s seen) (run limit' inner' levels' one s seen)
       (run limit inner levels other s seen) (run limit' inner' levels' other s seen) seen ts (run_local one s seen ts h) (run_local other s seen ts h)
   run_local (ahead one other) s seen ts h =
       let flag = is_looked_behind ts || seen in

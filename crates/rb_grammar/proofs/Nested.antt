@@ -6,7 +6,7 @@ use Rattle.rb_lexer.specs.declared.token.Token.{Token}
 use Rattle.rb_grammar.specs.Look.{class_of}
 use Rattle.rb_grammar.specs.Scope.{Scope, is_local}
 use Rattle.rb_grammar.specs.Phrase.{Phrase, Value}
-use Rattle.rb_grammar.specs.Rule.{Rule, done, refuse, token, phrase, nested, built, either, look, pick, known, ahead, scope, next_meets, arguments_follow, Spelling}
+use Rattle.rb_grammar.specs.Rule.{Rule, done, refuse, token, phrase, nested, built, either, look, pick, known, touching, ahead, scope, next_meets, next_touches, arguments_follow, Spelling}
 use Rattle.rb_grammar.specs.Grammar.{rule, spelled}
 use Rattle.rb_grammar.specs.Heads.{begins}
 use Rattle.rb_grammar.specs.Reading.{read, refused, too_nested, Reading, from_refused, is_looked_behind, and_then, run, reading}
@@ -104,6 +104,11 @@ module _ (limit : ℕ) (reader : ℕ → Reading) (inner : ℕ → Spelling) (re
       elim (when_tells (is_local text s) (run limit reader levels q s seen ts) (run limit reader levels r s seen ts) (too_nested at) e) [
         | inl h ↦ further (λ n e. w.knows h.0) (run_nested P q kept.0 s seen ts at h.1)
         | inr h ↦ further (λ n e. w.knows_not h.0) (run_nested P r kept.1 s seen ts at h.1)
+      ]
+  run_nested P (touching place q r) kept s seen ts at e =
+      elim (when_tells (next_touches place ts) (run limit reader levels q s seen ts) (run limit reader levels r s seen ts) (too_nested at) e) [
+        | inl h ↦ further (λ n e. w.touches h.0) (run_nested P q kept.0 s seen ts at h.1)
+        | inr h ↦ further (λ n e. w.touches_not h.0) (run_nested P r kept.1 s seen ts at h.1)
       ]
   run_nested P (ahead q r) kept s seen ts at e =
       elim (when_tells (arguments_follow ts) (run limit reader levels q s (is_looked_behind ts || seen) ts)

@@ -5,7 +5,7 @@ use Rattle.rb_tree.specs.declared.span.Span.{Span}
 use Rattle.rb_grammar.specs.Look.{class_of}
 use Rattle.rb_grammar.specs.Scope.{Scope, is_local}
 use Rattle.rb_grammar.specs.Phrase.{Phrase}
-use Rattle.rb_grammar.specs.Rule.{Rule, done, refuse, token, phrase, nested, built, either, look, pick, known, ahead, scope, next_meets, arguments_follow}
+use Rattle.rb_grammar.specs.Rule.{Rule, done, refuse, token, phrase, nested, built, either, look, pick, known, touching, ahead, scope, next_meets, next_touches, arguments_follow}
 use Rattle.rb_grammar.specs.Grammar.{rule}
 use Rattle.rb_grammar.specs.Heads.{begins}
 use Rattle.rb_grammar.specs.Reading.{Outcome, read, refused, too_nested, spent, Reader, Reading, from_refused, is_looked_behind, and_then, when, nest, run, reading, Settled}
@@ -55,6 +55,9 @@ module _ (limit : ℕ) (reader reader' : ℕ → Reading) (kept : (l : ℕ) (n :
   run_kept (pick false q r) s seen ts = run_kept r s seen ts
   run_kept (known text q r) s seen ts =
       kept_when (is_local text s) (λ u. run limit reader levels q s seen ts) (λ u. run limit reader' levels q s seen ts) (λ u. run limit reader levels r s seen ts) (λ u. run limit reader' levels r s seen ts)
+      (run_kept q s seen ts) (run_kept r s seen ts)
+  run_kept (touching place q r) s seen ts =
+      kept_when (next_touches place ts) (λ u. run limit reader levels q s seen ts) (λ u. run limit reader' levels q s seen ts) (λ u. run limit reader levels r s seen ts) (λ u. run limit reader' levels r s seen ts)
       (run_kept q s seen ts) (run_kept r s seen ts)
   run_kept (ahead q r) s seen ts =
       kept_when (arguments_follow ts) (λ u. run limit reader levels q s (is_looked_behind ts || seen) ts) (λ u. run limit reader' levels q s (is_looked_behind ts || seen) ts)

@@ -7,7 +7,7 @@ use Rattle.rb_grammar.specs.Tree.{Items, no_items}
 use Rattle.rb_grammar.specs.Scope.{Scope, is_local, top_level}
 use Rattle.rb_grammar.specs.Phrase.{Phrase, Value}
 use Rattle.rb_grammar.specs.Phrase as p
-use Rattle.rb_grammar.specs.Rule.{Rule, done, refuse, token, phrase, nested, built, either, look, pick, known, ahead, scope, next_meets, arguments_follow, Spelling, Spells}
+use Rattle.rb_grammar.specs.Rule.{Rule, done, refuse, token, phrase, nested, built, either, look, pick, known, touching, ahead, scope, next_meets, next_touches, arguments_follow, Spelling, Spells}
 use Rattle.rb_grammar.specs.Rule as l
 use Rattle.rb_grammar.specs.Grammar.{rule, spelled}
 use Rattle.rb_grammar.specs.Heads.{begins}
@@ -64,6 +64,11 @@ module _ (limit : ℕ) (reader : ℕ → Reading) (inner : ℕ → Spelling)
       elim (when_tells (is_local text s) (run limit reader levels q s seen ts) (run limit reader levels r s seen ts) (read a s' seen' us) e) [
         | inl h ↦ l.knows h.0 (run_sound q s seen ts a s' seen' us h.1)
         | inr h ↦ l.knows_not h.0 (run_sound r s seen ts a s' seen' us h.1)
+      ]
+  run_sound (touching place q r) s seen ts a s' seen' us e =
+      elim (when_tells (next_touches place ts) (run limit reader levels q s seen ts) (run limit reader levels r s seen ts) (read a s' seen' us) e) [
+        | inl h ↦ l.touches h.0 (run_sound q s seen ts a s' seen' us h.1)
+        | inr h ↦ l.touches_not h.0 (run_sound r s seen ts a s' seen' us h.1)
       ]
   run_sound (ahead q r) s seen ts a s' seen' us e =
       elim (when_tells (arguments_follow ts) (run limit reader levels q s (is_looked_behind ts || seen) ts) (run limit reader levels r s (is_looked_behind ts || seen) ts) (read a s' seen' us) e) [

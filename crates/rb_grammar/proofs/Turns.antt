@@ -8,7 +8,7 @@ use Rattle.rb_grammar.specs.Scope.{Scope, is_local, top_level}
 use Rattle.rb_grammar.specs.Phrase.{Part, Tier, Phrase, Value}
 use Rattle.rb_grammar.specs.Phrase.{or_tier, and_tier, equal_tier, less_tier, shift_tier, sum_tier, product_tier, unary_tier}
 use Rattle.rb_grammar.specs.Phrase as p
-use Rattle.rb_grammar.specs.Rule.{Rule, done, refuse, token, phrase, nested, built, either, look, pick, known, ahead, scope, next_meets, arguments_follow}
+use Rattle.rb_grammar.specs.Rule.{Rule, done, refuse, token, phrase, nested, built, either, look, pick, known, touching, ahead, scope, next_meets, next_touches, arguments_follow}
 use Rattle.rb_grammar.specs.Grammar.{rule, assigning, target_of}
 use Rattle.rb_grammar.specs.Heads.{may_be_empty, begins}
 use Rattle.rb_grammar.specs.Reading.{Outcome, read, refused, too_nested, spent, Reader, Reading, from_refused, is_looked_behind, and_then, when, nest, run, reading, Settled, turns_for, read_script}
@@ -78,6 +78,7 @@ Fits bound may (either q r) = Fits bound may q × Fits bound may r
 Fits bound may (look test r) = Fits bound may r
 Fits bound may (pick b q r) = Fits bound may q × Fits bound may r
 Fits bound may (known text q r) = Fits bound may q × Fits bound may r
+Fits bound may (touching place q r) = Fits bound may q × Fits bound may r
 Fits bound may (ahead q r) = Fits bound may q × Fits bound may r
 Fits bound may (scope f r) = Fits bound may r
 
@@ -136,6 +137,7 @@ all_fit (either q r) = (all_fit q, all_fit r)
 all_fit (look test r) = all_fit r
 all_fit (pick b q r) = (all_fit q, all_fit r)
 all_fit (known text q r) = (all_fit q, all_fit r)
+all_fit (touching place q r) = (all_fit q, all_fit r)
 all_fit (ahead q r) = (all_fit q, all_fit r)
 all_fit (scope f r) = all_fit r
 
@@ -229,6 +231,9 @@ module _ (limit turns : ℕ) (reader : ℕ → Reading)
       (run_answers q s seen ts bound may fit.0 enough) (run_answers r s seen ts bound may fit.1 enough)
   run_answers (known text q r) s seen ts bound may fit enough =
       answers_when may ts (is_local text s) (λ u. run limit reader levels q s seen ts) (λ u. run limit reader levels r s seen ts)
+      (run_answers q s seen ts bound may fit.0 enough) (run_answers r s seen ts bound may fit.1 enough)
+  run_answers (touching place q r) s seen ts bound may fit enough =
+      answers_when may ts (next_touches place ts) (λ u. run limit reader levels q s seen ts) (λ u. run limit reader levels r s seen ts)
       (run_answers q s seen ts bound may fit.0 enough) (run_answers r s seen ts bound may fit.1 enough)
   run_answers (ahead q r) s seen ts bound may fit enough =
       answers_when may ts (arguments_follow ts) (λ u. run limit reader levels q s (is_looked_behind ts || seen) ts) (λ u. run limit reader levels r s (is_looked_behind ts || seen) ts)

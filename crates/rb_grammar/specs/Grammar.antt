@@ -16,7 +16,7 @@ use Rattle.rb_grammar.specs.Scope.{enter_method, enter_block, leave, with_params
 use Rattle.rb_grammar.specs.Phrase.{Operand, Head, Part, Tier, Phrase, Value}
 use Rattle.rb_grammar.specs.Phrase.{or_tier, and_tier, equal_tier, less_tier, shift_tier, sum_tier, product_tier, unary_tier}
 use Rattle.rb_grammar.specs.Phrase as p
-use Rattle.rb_grammar.specs.Rule.{Rule, done, refuse, token, phrase, nested, built, either, look, pick, known, ahead, scope, Spelling, Spells}
+use Rattle.rb_grammar.specs.Rule.{Rule, done, refuse, token, phrase, nested, built, either, look, pick, known, touching, ahead, scope, Spelling, Spells}
 
 -- ---- what tokens say
 
@@ -59,7 +59,7 @@ tree_of (p.of_global w) = tree.global w
 tree_of (p.indexed a i at) = tree.index a i at
 tree_of (p.member a w) = tree.call (Some a) w []
 
--- The tree of an operand, which is no target then. A head is no operand: where it comes to this, no command may stand.
+-- An operand as a tree, which is no target from there on. A head is refused: no command may stand there.
 abbrev pub operand : {A : Type 0} → Part → (Tree → Rule A) → Rule A
 operand (p.plain o) k = built (tree_of o) (k (tree_of o))
 operand (p.head h) k = refuse
@@ -81,6 +81,7 @@ abbrev pub unless_head : Part → Rule Part → Rule Part
 unless_head (p.plain o) rule = rule
 unless_head (p.head h) rule = done (p.head h)
 
+-- target = IDENT | FIELD | GLOBAL | postfix "[" arg "]" | postfix "." IDENT
 -- what an assignment mark may stand behind
 abbrev pub target_of : Part → Option TargetTree
 target_of (p.plain (p.variable w)) = Some (tree.to_local w)
@@ -127,6 +128,7 @@ operator_name c.minus = codes "-"
 operator_name c.times = codes "*"
 operator_name c.over = codes "/"
 operator_name c.modulo = codes "%"
+-- `==` and `!=`
 operator_name other = codes "=="
 
 -- two operands joined by an operator
@@ -134,7 +136,7 @@ abbrev pub joined : {A : Type 0} → Tier → Token → Tree → Tree → (Tree 
 joined or_tier t a b k = built (tree.or_else t.at a b) (k (tree.or_else t.at a b))
 joined and_tier t a b k = built (tree.and_also t.at a b) (k (tree.and_also t.at a b))
 joined equal_tier t a b k =
-    let equal : Tree = tree.binary (codes "==") t.at a b in
+    let equal : Tree = tree.binary (operator_name c.equal) t.at a b in
     built equal (pick (is_one (c.not_equal ∷ []) t) (built (tree.negated t.at equal) (k (tree.negated t.at equal))) (k equal))
 joined tier t a b k =
     let call : Tree = tree.binary (operator_name (class_of t.kind)) t.at a b in
@@ -296,12 +298,17 @@ abbrev pub commanded : Part → Rule Tree
 commanded (p.head h) = phrase p.command_arguments (λ args. finished (command_of h args))
 commanded (p.plain o) = operand (p.plain o) done
 
--- behind a minus where an operand may stand: an integer directly behind it, which is negative then, or another operand
+-- an operand behind a minus that is an operator
+abbrev pub opposite : Bool → Token → Rule Part
+opposite d t = nested t.at (p.unary d) (λ part. operand part (λ a. made (tree.minus t.at a)))
+
+-- behind a minus where an operand may stand: an integer directly behind it is negative, and begins a postfix
 abbrev pub negative : Bool → Token → Rule Part
-negative d t = any (
-    token (glued c.int) (λ i. phrase (p.postfix_rest d (as_value (tree.integer (neg_ℤ (integer_of i.kind)) t.at))) done)
-    ∷ look (other_than (glued c.int)) (nested t.at (p.unary d) (λ part. operand part (λ a. made (tree.minus t.at a))))
-    ∷ [])
+negative d t = touching t.at (any (
+    token (is c.int) (λ i. phrase (p.postfix_rest d (as_value (tree.integer (neg_ℤ (integer_of i.kind)) t.at))) done)
+    ∷ look (other_than (is c.int)) (opposite d t)
+    ∷ []))
+    (opposite d t)
 
 -- the name of a method with `=`
 abbrev pub setter : Token → Word

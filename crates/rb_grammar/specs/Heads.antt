@@ -9,7 +9,7 @@ use Rattle.rb_grammar.specs.Tree as tree
 use Rattle.rb_grammar.specs.Phrase.{Part, Tier, Phrase, Value}
 use Rattle.rb_grammar.specs.Phrase.{or_tier, and_tier, equal_tier, less_tier, shift_tier, sum_tier, product_tier, unary_tier}
 use Rattle.rb_grammar.specs.Phrase as p
-use Rattle.rb_grammar.specs.Rule.{Rule, done, refuse, token, phrase, nested, built, either, look, pick, known, ahead, scope, begins_arguments}
+use Rattle.rb_grammar.specs.Rule.{Rule, done, refuse, token, phrase, nested, built, either, look, pick, known, touching, ahead, scope, begins_arguments}
 use Rattle.rb_grammar.specs.Grammar.{operators, modifiers, assignment_marks, identifiers, names, allowed, closing}
 
 -- ---- the next token
@@ -189,6 +189,7 @@ heads (either one other) at_end class spaced = heads one at_end class spaced || 
 heads (look test rule) at_end class spaced = test class spaced && heads rule at_end class spaced
 heads (pick b one other) at_end class spaced = heads one at_end class spaced || heads other at_end class spaced
 heads (known text one other) at_end class spaced = heads one at_end class spaced || heads other at_end class spaced
+heads (touching place one other) at_end class spaced = heads one at_end class spaced || heads other at_end class spaced
 heads (ahead one other) at_end class spaced = (may_begin_arguments class spaced && heads one at_end class spaced) || heads other at_end class spaced
 heads (scope f rule) at_end class spaced = heads rule at_end class spaced
 

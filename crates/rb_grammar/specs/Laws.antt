@@ -8,7 +8,7 @@ use Rattle.rb_grammar.specs.Tree.{Items, no_items}
 use Rattle.rb_grammar.specs.Scope.{Scope, top_level}
 use Rattle.rb_grammar.specs.Phrase.{Phrase, Value}
 use Rattle.rb_grammar.specs.Phrase as p
-use Rattle.rb_grammar.specs.Rule.{next_is_glued}
+use Rattle.rb_grammar.specs.Rule.{next_touches}
 use Rattle.rb_grammar.specs.Reading.{read, refused, too_nested, reading, Settled, read_script}
 use Rattle.rb_grammar.specs.Nesting.{TooNestedAt}
 use Rattle.rb_grammar.specs.Script.{EndsOnce, IsScript, BeginsNone}
@@ -55,12 +55,12 @@ abbrev pub RefusesLocally : Type 0
 RefusesLocally = (limit limit' levels levels' : ℕ) → limit ≤ limit' → levels ≤ levels' → (front : List Token) (t : Token) (post other : List Token)
     → read_script limit levels (front ++ t ∷ post) ≡ refused (t ∷ post) → read_script limit' levels' (front ++ t ∷ other) ≡ refused (t ∷ other)
 
--- What a phrase comes to hangs on no token behind the one at which it ends, but where it has looked at whether the one behind
--- that is spaced, and stays within wider limits and in more turns.
+-- What a phrase comes to hangs on no token behind the one at which it ends, but where it has looked at whether another stands
+-- directly behind that, and stays within wider limits and in more turns.
 abbrev pub ReadsLocally : Type 0
 ReadsLocally = (limit limit' turns turns' levels levels' : ℕ) → limit ≤ limit' → turns ≤ turns' → levels ≤ levels'
     → (n : Phrase) (s s' : Scope) (v : Value n) (looked : Bool) (front : List Token) (t : Token) (post other : List Token)
-    → (looked ≡ true → next_is_glued post ≡ next_is_glued other)
+    → (looked ≡ true → next_touches t.at post ≡ next_touches t.at other)
     → reading limit turns levels n s false (front ++ t ∷ post) ≡ read v s' looked (t ∷ post)
     → reading limit' turns' levels' n s false (front ++ t ∷ other) ≡ read v s' looked (t ∷ other)
 

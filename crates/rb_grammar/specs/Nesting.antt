@@ -6,7 +6,7 @@ use Rattle.rb_grammar.specs.Look.{Test, class_of}
 use Rattle.rb_grammar.specs.Tree.{Text, Tree}
 use Rattle.rb_grammar.specs.Scope.{Scope, is_local}
 use Rattle.rb_grammar.specs.Phrase.{Phrase, Value}
-use Rattle.rb_grammar.specs.Rule.{Rule, token, phrase, nested, built, either, look, pick, known, ahead, scope, next_meets, arguments_follow, Spelling}
+use Rattle.rb_grammar.specs.Rule.{Rule, token, phrase, nested, built, either, look, pick, known, touching, ahead, scope, next_meets, next_touches, arguments_follow, Spelling}
 use Rattle.rb_grammar.specs.Grammar.{rule, spelled}
 
 -- something opens at the place of a token, or a node is built
@@ -42,6 +42,8 @@ module _ (limit : ℕ) (inner : ℕ → Spelling) (reach : ℕ → Reaching) (le
     picks_not : {q r : Rule A} {s : Scope} {ts : List Token} {n : ℕ} {e : Event} → Reaches r s ts n e → Reaches (pick false q r) s ts n e
     knows : {text : Text} {q r : Rule A} {s : Scope} {ts : List Token} {n : ℕ} {e : Event} → is_local text s ≡ true → Reaches q s ts n e → Reaches (known text q r) s ts n e
     knows_not : {text : Text} {q r : Rule A} {s : Scope} {ts : List Token} {n : ℕ} {e : Event} → is_local text s ≡ false → Reaches r s ts n e → Reaches (known text q r) s ts n e
+    touches : {place : Span} {q r : Rule A} {s : Scope} {ts : List Token} {n : ℕ} {e : Event} → next_touches place ts ≡ true → Reaches q s ts n e → Reaches (touching place q r) s ts n e
+    touches_not : {place : Span} {q r : Rule A} {s : Scope} {ts : List Token} {n : ℕ} {e : Event} → next_touches place ts ≡ false → Reaches r s ts n e → Reaches (touching place q r) s ts n e
     commands : {q r : Rule A} {s : Scope} {ts : List Token} {n : ℕ} {e : Event} → arguments_follow ts ≡ true → Reaches q s ts n e → Reaches (ahead q r) s ts n e
     commands_not : {q r : Rule A} {s : Scope} {ts : List Token} {n : ℕ} {e : Event} → arguments_follow ts ≡ false → Reaches r s ts n e → Reaches (ahead q r) s ts n e
     changes : {f : Scope → Scope} {r : Rule A} {s : Scope} {ts : List Token} {n : ℕ} {e : Event} → Reaches r (f s) ts n e → Reaches (scope f r) s ts n e

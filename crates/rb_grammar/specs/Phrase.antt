@@ -30,8 +30,8 @@ pub data Tier : Type 0 where
   or_tier and_tier equal_tier less_tier shift_tier sum_tier product_tier unary_tier : Tier
 
 -- The phrases. One whose name ends in `rest` goes on behind what it names, and one that has an argument goes on behind that.
--- A flag says whether a `do` block may stand in an expression: it may not where a `do` belongs to a loop, nor in the
--- arguments of a command.
+-- The flag of an expression and its parts says whether a `do` block may stand in it: it may not where a `do` belongs to a loop,
+-- nor in the arguments of a command.
 pub data Phrase : Type 0 where
   items items_rest : Items → Phrase
   class_rest : Phrase
@@ -59,6 +59,7 @@ pub data Phrase : Type 0 where
   pairs_rest : List (Tree × Tree) → Phrase
   conditional loop_rest : Token → Phrase
   then : Phrase
+  -- whether `elsif` may stand
   otherwise : Bool → Phrase
   text_rest : List PieceTree → Phrase
   -- whether the block stands in braces, and the place of the token that opened it

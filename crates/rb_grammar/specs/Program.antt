@@ -39,7 +39,7 @@ program_of found =
       main = nodes n found.main;
     }
 
--- the tokens spell this program, with no node higher than limit and no more than levels open at once
+-- the tokens spell this program: no node that is built is higher than limit, and no more than levels are open at once
 pub record IsProgram (limit levels : ℕ) (tokens : List Token) (program : Program) : Type 0 where
   pub found : Items
   pub script : IsScript limit levels tokens found

@@ -8,7 +8,7 @@ use Rattle.rb_grammar.specs.Tree.{Items, no_items}
 use Rattle.rb_grammar.specs.Scope.{Scope, is_local, top_level}
 use Rattle.rb_grammar.specs.Phrase.{Phrase, Value}
 use Rattle.rb_grammar.specs.Phrase as p
-use Rattle.rb_grammar.specs.Rule.{Rule, done, refuse, token, phrase, nested, built, either, look, pick, known, ahead, scope, next_meets, arguments_follow}
+use Rattle.rb_grammar.specs.Rule.{Rule, done, refuse, token, phrase, nested, built, either, look, pick, known, touching, ahead, scope, next_meets, next_touches, arguments_follow}
 use Rattle.rb_grammar.specs.Grammar.{rule}
 use Rattle.rb_grammar.specs.Heads.{begins}
 
@@ -67,6 +67,7 @@ module _ (limit : ℕ) (inner : ℕ → Reading) (levels : ℕ) where
   run (look test r) s seen ts = when (next_meets test ts) (λ u. run r s seen ts) (λ u. refused (from_refused seen ts))
   run (pick b q r) s seen ts = when b (λ u. run q s seen ts) (λ u. run r s seen ts)
   run (known text q r) s seen ts = when (is_local text s) (λ u. run q s seen ts) (λ u. run r s seen ts)
+  run (touching place q r) s seen ts = when (next_touches place ts) (λ u. run q s seen ts) (λ u. run r s seen ts)
   run (ahead q r) s seen ts =
       when (arguments_follow ts) (λ u. run q s (is_looked_behind ts || seen) ts) (λ u. run r s (is_looked_behind ts || seen) ts)
   run (scope f r) s seen ts = run r (f s) seen ts

@@ -1,5 +1,5 @@
 -- What a rule of the grammar is, and which tokens it spells.
-use Rattle.std.specs.Prelude.{◌≡◌, ℕ, suc, ◌≤◌, Bool, true, false, ◌&&◌, ◌||◌, not, List, [], ◌∷◌}
+use Rattle.std.specs.Prelude.{◌≡◌, ℕ, suc, ◌≤◌, Bool, true, false, ◌&&◌, ◌||◌, nat_eq, List, [], ◌∷◌}
 use Rattle.rb_tree.specs.declared.span.Span.{Span}
 use Rattle.rb_lexer.specs.declared.token.Token.{Token}
 use Rattle.rb_grammar.specs.Look.{Class, Test, class_of, is, one_of}
@@ -12,7 +12,7 @@ use Rattle.rb_grammar.specs.Phrase.{Phrase, Value}
 pub data Rule (A : Type 0) : Type 0 where
   -- nothing more
   done : A → Rule A
-  -- no tokens at all
+  -- what is spelled by nothing
   refuse : Rule A
   -- a token that meets the test, and what follows it
   token : Test → (Token → Rule A) → Rule A
@@ -20,7 +20,7 @@ pub data Rule (A : Type 0) : Type 0 where
   phrase : (n : Phrase) → (Value n → Rule A) → Rule A
   -- a phrase inside what opens at this place, and what follows it
   nested : Span → (n : Phrase) → (Value n → Rule A) → Rule A
-  -- a node that is built, which must not be too high
+  -- a node that is built, which must not be too high, and what follows it
   built : Tree → Rule A → Rule A
   -- one or the other
   either : Rule A → Rule A → Rule A
@@ -30,6 +30,8 @@ pub data Rule (A : Type 0) : Type 0 where
   pick : Bool → Rule A → Rule A → Rule A
   -- the first where this is a local, else the second
   known : Text → Rule A → Rule A → Rule A
+  -- the first where the next token stands directly behind this place, else the second
+  touching : Span → Rule A → Rule A → Rule A
   -- the first where arguments of a command follow, else the second
   ahead : Rule A → Rule A → Rule A
   -- what follows, where the scopes have changed
@@ -42,10 +44,10 @@ abbrev pub next_meets : Test → List Token → Bool
 next_meets test [] = false
 next_meets test (t ∷ ts) = test (class_of t.kind) t.spaced
 
--- the next token is there and is not spaced
-abbrev pub next_is_glued : List Token → Bool
-next_is_glued [] = false
-next_is_glued (t ∷ ts) = not t.spaced
+-- the next token stands directly behind a place: nothing is between them, and no line end that counts for nothing
+abbrev pub next_touches : Span → List Token → Bool
+next_touches place [] = false
+next_touches place (t ∷ ts) = nat_eq place.to t.at.from
 
 -- what may begin the arguments of a command, beside a minus
 abbrev pub begins_arguments : Test
@@ -54,12 +56,12 @@ begins_arguments = one_of (
     ∷ look_at.field ∷ look_at.global ∷ look_at.nil_word ∷ look_at.true_word ∷ look_at.false_word ∷ look_at.self_word ∷ look_at.bang
     ∷ look_at.open_paren ∷ look_at.open_bracket ∷ [])
 
--- whether the arguments of a command follow: the next token is spaced, and begins an argument or is a minus with no white
--- space behind it
+-- whether the arguments of a command follow: the next token is spaced, and begins an argument or is a minus with another token
+-- directly behind it
 abbrev pub arguments_follow : List Token → Bool
 arguments_follow [] = false
 arguments_follow (t ∷ ts) =
-    t.spaced && (begins_arguments (class_of t.kind) t.spaced || (is look_at.minus (class_of t.kind) t.spaced && next_is_glued ts))
+    t.spaced && (begins_arguments (class_of t.kind) t.spaced || (is look_at.minus (class_of t.kind) t.spaced && next_touches t.at ts))
 
 -- ---- what a rule spells
 
@@ -90,6 +92,10 @@ module _ (limit : ℕ) (inner : ℕ → Spelling) (levels : ℕ) where
         → is_local text s ≡ true → Spells p s ts a s' us → Spells (known text p q) s ts a s' us
     knows_not : {text : Text} {p q : Rule A} {s s' : Scope} {ts us : List Token} {a : A}
         → is_local text s ≡ false → Spells q s ts a s' us → Spells (known text p q) s ts a s' us
+    touches : {place : Span} {p q : Rule A} {s s' : Scope} {ts us : List Token} {a : A}
+        → next_touches place ts ≡ true → Spells p s ts a s' us → Spells (touching place p q) s ts a s' us
+    touches_not : {place : Span} {p q : Rule A} {s s' : Scope} {ts us : List Token} {a : A}
+        → next_touches place ts ≡ false → Spells q s ts a s' us → Spells (touching place p q) s ts a s' us
     commands : {p q : Rule A} {s s' : Scope} {ts us : List Token} {a : A}
         → arguments_follow ts ≡ true → Spells p s ts a s' us → Spells (ahead p q) s ts a s' us
     commands_not : {p q : Rule A} {s s' : Scope} {ts us : List Token} {a : A}

@@ -13,7 +13,7 @@ EndsOnce [] = ⊥
 EndsOnce (t ∷ []) = t.kind ≡ kind.End
 EndsOnce (t ∷ u ∷ ts) = (t.kind ≢ kind.End) × EndsOnce (u ∷ ts)
 
--- the tokens spell these items, with no node higher than limit and no more than levels open at once
+-- the tokens spell these items: no node that is built is higher than limit, and no more than levels are open at once
 pub record IsScript (limit levels : ℕ) (tokens : List Token) (found : Items) : Type 0 where
   pub depth : ℕ
   pub scopes : Scope

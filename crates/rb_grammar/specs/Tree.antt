@@ -122,10 +122,11 @@ abbrev pub binary : Text → Span → Tree → Tree → Tree
 binary operator at a b =
     branch at (a.names ++ operator ∷ b.names) (a ∷ b ∷ []) (λ n. node.Call (Some (a.node n)) (n.name operator) (b.node n ∷ []) None at)
 
--- `!=`, which is Not of `==`: first the call, then the node over it
+-- the opposite of a truth: of an operand behind `!`, of the call `==` for `!=`, of a condition behind `unless` and `until`
 abbrev pub negated : Span → Tree → Tree
 negated at a = branch at a.names (a ∷ []) (λ n. node.Not (a.node n) at)
 
+-- the method that a minus before an operand calls
 abbrev pub minus_name : Text
 minus_name = codes "-@"
 
@@ -190,7 +191,7 @@ hash at pairs = branch at (names_of (flat pairs)) (flat pairs) (λ n. node.Hash 
 
 -- ---- control
 
--- a choice between two bodies; the list says how its parts stand in the text
+-- a choice between two bodies, with its condition before them
 abbrev pub choice : Span → Tree → List Tree → List Tree → Tree
 choice at condition first second =
     branch at (condition.names ++ (names_of first ++ names_of second)) (condition ∷ (first ++ second))

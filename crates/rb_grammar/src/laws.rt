@@ -28,6 +28,11 @@ pub fn nothing_begins_so()
     ensures { law.RefusesRightly }
 {}
 
+/// Where the last token is the one end, the reader refuses one of the tokens or reads them all.
+pub fn ends_with_tokens()
+    ensures { law.EndsWithTokens }
+{}
+
 /// Answers hang on no token behind the one at which the reader ends, and stay within wider limits.
 pub fn local()
     ensures refused { law.RefusesLocally }
