@@ -1,13 +1,15 @@
 -- The choices of each rule are told apart by the next token.
-use Rattle.std.proofs.Common.{Bool, true, false, Option, Some, None, refl}
+use Rattle.std.proofs.Common.{◌≡◌, ℕ, Bool, true, false, ◌&&◌, ◌||◌, not, List, [], ◌∷◌, Option, Some, None, refl}
 use Rattle.rb_lexer.specs.declared.token.Token.{Token}
-use Rattle.rb_grammar.specs.Tree.{Text, Word, Tree, TargetTree}
+use Rattle.rb_grammar.specs.Look.{Class, Test, other_than}
+use Rattle.rb_grammar.specs.Tree.{Word, Tree, TargetTree}
 use Rattle.rb_grammar.specs.Phrase.{Operand, Head, Part, Tier, Phrase, Value}
 use Rattle.rb_grammar.specs.Phrase.{or_tier, and_tier, equal_tier, less_tier, shift_tier, sum_tier, product_tier, unary_tier}
 use Rattle.rb_grammar.specs.Phrase as p
-use Rattle.rb_grammar.specs.Grammar.{rule, assigning, target_of, tree_of, text_of, word_of, negative, called, named, thread, object}
+use Rattle.rb_grammar.specs.Grammar.{rule, assigning, target_of, tree_of, word_of, negative, called, named, thread, object}
+use Rattle.rb_grammar.specs.Heads.{starts, may_be_empty, empty, heads}
 use Rattle.rb_grammar.proofs.Looks.{every}
-use Rattle.rb_grammar.proofs.Follow.{Apart, follows}
+use Rattle.rb_grammar.proofs.Follow.{Apart, follows, implies}
 
 apart_assigning : (d : Bool) (o : Operand) (target : Option TargetTree) → Apart (assigning d (p.plain o) target) (follows (p.assignment_rest d (p.plain o)))
 apart_assigning d o None = tt
@@ -148,7 +150,7 @@ thread_apart false t = (
   every _ refl,
 )
 
-object_apart : (d : Bool) (class : Text) (t : Token) → Apart (object class t) (follows (p.primary d))
+object_apart : (d : Bool) (class : Word) (t : Token) → Apart (object class t) (follows (p.primary d))
 object_apart true class t = ((λ t. ((λ v. tt), λ v. every _ refl)), (tt, tt), every _ refl)
 object_apart false class t = ((λ t. ((λ v. tt), λ v. every _ refl)), (tt, tt), every _ refl)
 
@@ -370,7 +372,7 @@ apart (p.primary true) = (
                   (
                     (λ t. named_apart true (word_of t)),
                     (
-                      (λ t. λ o. λ w. (thread_apart true w, object_apart true (text_of t.kind) w)),
+                      (λ t. λ o. λ w. (thread_apart true w, object_apart true (word_of t) w)),
                       (
                         (λ t. ((λ v. tt), λ v. every _ refl)),
                         (
@@ -568,7 +570,7 @@ apart (p.primary false) = (
                   (
                     (λ t. named_apart false (word_of t)),
                     (
-                      (λ t. λ o. λ w. (thread_apart false w, object_apart false (text_of t.kind) w)),
+                      (λ t. λ o. λ w. (thread_apart false w, object_apart false (word_of t) w)),
                       (
                         (λ t. ((λ v. tt), λ v. every _ refl)),
                         (

@@ -50,14 +50,14 @@ module _ (limit : ℕ) where
   method_same : (f : MethodTree) → MethodIsFaithful limit f → (n m : Numbering) → SameNames n m (method_names f) → SameBodies n m (threads_of f.body)
       → method_by n f ≡ method_by m f
   method_same f g n m names bodies =
-      let params = params_same n m f.params (names_left n m (texts f.params) (names_of f.body) names.1) in
-      let body = nodes_same n m f.body (trees_named limit f.body g n m (names_right n m (texts f.params) (names_of f.body) names.1) bodies) in
+      let params = params_same n m f.params (names_left n m f.params (names_of f.body) names.1) in
+      let body = nodes_same n m f.body (trees_named limit f.body g n m (names_right n m f.params (names_of f.body) names.1) bodies) in
       λ i. record { name = names.0 i; params = params i; body = body i; at = f.name.at }
 
   -- and so do the blocks of the threads in it
   method_bodied : (f : MethodTree) → MethodIsFaithful limit f → (n m : Numbering) → SameNames n m (method_names f) → SameBodies n m (threads_of f.body)
       → SameBlocks n m (threads_of f.body)
-  method_bodied f g n m names bodies = trees_bodied limit f.body g n m (names_right n m (texts f.params) (names_of f.body) names.1) bodies
+  method_bodied f g n m names bodies = trees_bodied limit f.body g n m (names_right n m f.params (names_of f.body) names.1) bodies
 
   -- one more method
   pub with_method_faithful : (x : Members) (f : MethodTree) → MembersAreFaithful limit x → MethodIsFaithful limit f
@@ -91,7 +91,7 @@ module _ (limit : ℕ) where
   )
 
   -- more methods without threads, and the names that they hang on
-  with_methods : (x : Members) (fs : List MethodTree) (names : List Text) → MembersAreFaithful limit x → Each (MethodIsFaithful limit) fs
+  with_methods : (x : Members) (fs : List MethodTree) (names : List Word) → MembersAreFaithful limit x → Each (MethodIsFaithful limit) fs
       → ((n m : Numbering) → SameNames n m names → map (method_by n) fs ≡ map (method_by m) fs)
       → MembersAreFaithful limit (record { methods = x.methods ++ fs; names = x.names ++ names; threads = x.threads })
   with_methods x fs names g h same = record {
@@ -107,20 +107,21 @@ module _ (limit : ℕ) where
   with_attribute : 2 ≤ limit → (x : Members) (reads writes : Bool) (w : Word) → MembersAreFaithful limit x
       → MembersAreFaithful limit (record {
         methods = x.methods ++ (if reads then reader_of w ∷ [] else if writes then writer_of w ∷ [] else reader_of w ∷ writer_of w ∷ []);
-        names = x.names ++ (if reads then w.text ∷ field_of w.text ∷ [] else if writes then field_of w.text ∷ setter_of w.text ∷ codes "v" ∷ []
-            else w.text ∷ field_of w.text ∷ setter_of w.text ∷ codes "v" ∷ []);
+        names = x.names ++ (if reads then w ∷ tree.given (field_of w.text) w.at ∷ []
+            else if writes then tree.given (field_of w.text) w.at ∷ tree.given (setter_of w.text) w.at ∷ tree.given (codes "v") w.at ∷ []
+            else w ∷ tree.given (field_of w.text) w.at ∷ tree.given (setter_of w.text) w.at ∷ tree.given (codes "v") w.at ∷ []);
         threads = x.threads;
       })
   with_attribute two x true writes w g =
-      with_methods x (reader_of w ∷ []) (w.text ∷ field_of w.text ∷ []) g (reader_faithful two w, tt)
+      with_methods x (reader_of w ∷ []) (w ∷ tree.given (field_of w.text) w.at ∷ []) g (reader_faithful two w, tt)
       (λ n m h. let read = method_same (reader_of w) (reader_faithful two w) n m h tt in λ i. read i ∷ [])
   with_attribute two x false true w g =
-      with_methods x (writer_of w ∷ []) (field_of w.text ∷ setter_of w.text ∷ codes "v" ∷ []) g (writer_faithful two w, tt)
+      with_methods x (writer_of w ∷ []) (tree.given (field_of w.text) w.at ∷ tree.given (setter_of w.text) w.at ∷ tree.given (codes "v") w.at ∷ []) g (writer_faithful two w, tt)
       (λ n m h.
       let write = method_same (writer_of w) (writer_faithful two w) n m (h.1.0, (h.1.1.0, (h.0, (h.1.1.0, tt)))) tt in
       λ i. write i ∷ [])
   with_attribute two x false false w g =
-      with_methods x (reader_of w ∷ writer_of w ∷ []) (w.text ∷ field_of w.text ∷ setter_of w.text ∷ codes "v" ∷ []) g
+      with_methods x (reader_of w ∷ writer_of w ∷ []) (w ∷ tree.given (field_of w.text) w.at ∷ tree.given (setter_of w.text) w.at ∷ tree.given (codes "v") w.at ∷ []) g
       (reader_faithful two w, (writer_faithful two w, tt))
       (λ n m h.
       let read = method_same (reader_of w) (reader_faithful two w) n m (h.0, (h.1.0, tt)) tt in
@@ -133,7 +134,7 @@ module _ (limit : ℕ) where
   with_attributes_faithful two x kind [] g = g
   with_attributes_faithful two x kind (w ∷ ws) g =
       with_attributes_faithful two
-      (record { methods = x.methods ++ tree.attribute_methods kind w; names = x.names ++ tree.attribute_names kind w.text; threads = x.threads }) kind ws
+      (record { methods = x.methods ++ tree.attribute_methods kind w; names = x.names ++ tree.attribute_names kind w; threads = x.threads }) kind ws
       (with_attribute two x (bytes_eq kind (codes "attr_reader")) (bytes_eq kind (codes "attr_writer")) w g)
 
   -- ---- items
@@ -148,10 +149,10 @@ module _ (limit : ℕ) where
     bodies_low = λ n. low_blocks limit n x.threads c.members.threads (g.bodies_low n) (h.bodies_low n);
     named = λ n m agree.
         let before = g.named n m (record {
-          named = names_left n m x.names (c.name.text ∷ c.members.names) agree.named;
+          named = names_left n m x.names (c.name ∷ c.members.names) agree.named;
           bodied = bodies_left n m x.threads c.members.threads agree.bodied;
         }) in
-        let own = names_right n m x.names (c.name.text ∷ c.members.names) agree.named in
+        let own = names_right n m x.names (c.name ∷ c.members.names) agree.named in
         let bodies = bodies_right n m x.threads c.members.threads agree.bodied in
         let methods = h.named n m own.1 bodies in
         record {

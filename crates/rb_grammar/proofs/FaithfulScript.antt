@@ -177,7 +177,7 @@ module _ (limit : ℕ) (two : 2 ≤ limit) where
     keeps_with_block (PartIsFaithful limit) d (λ b. made (tree.thread_new t.at [] b)) refuse (λ b h. thread_new_made limit t.at [] b tt h) tt,
   )
 
-  keeps_object : (class : Text) (t : Token) → Keeps limit (object class t) (PartIsFaithful limit)
+  keeps_object : (class : Word) (t : Token) → Keeps limit (object class t) (PartIsFaithful limit)
   keeps_object class t = (λ o. (tt, λ args g. new_made limit class t.at args g), (tt, (new_made limit class t.at [] tt).1 one))
 
   command_of_made : (head : Head) (args : List Tree) → HeadIsFaithful limit head → Each (IsFaithful limit) args → WellMade limit (command_of head args)
@@ -315,7 +315,7 @@ module _ (limit : ℕ) (two : 2 ≤ limit) where
                     (
                       λ t. (λ o. (tt, λ args f. call_made limit (word_of t) args f), keeps_plain_name (word_of t)),
                       (
-                        λ t o w. (keeps_thread d w, keeps_object (text_of t.kind) w),
+                        λ t o w. (keeps_thread d w, keeps_object (word_of t) w),
                         (
                           λ t. (tt, λ items f. array_made limit t.at items f),
                           (

@@ -42,8 +42,8 @@ each_map P Q f [] h = tt
 each_map P Q f (x ∷ xs) h = (f x h.0, each_map P Q f xs h.1)
 
 -- what two numberings have in common
-abbrev pub SameNames : Numbering → Numbering → List Text → Type 0
-SameNames n m = Each (λ text. n.name text ≡ m.name text)
+abbrev pub SameNames : Numbering → Numbering → List Word → Type 0
+SameNames n m = Each (λ w. n.name w.text ≡ m.name w.text)
 
 abbrev pub SameBodies : Numbering → Numbering → List Thread → Type 0
 SameBodies n m = Each (λ t. n.body t.at ≡ m.body t.at)
@@ -64,14 +64,14 @@ abbrev pub Measured : Numbering → Tree → Type 0
 Measured n a = height (a.node n) ≡ a.height
 
 -- names that two numberings number alike, in a list of two and in each of them
-pub names_left : (n m : Numbering) (xs ys : List Text) → SameNames n m (xs ++ ys) → SameNames n m xs
-names_left n m = each_left (λ text. n.name text ≡ m.name text)
+pub names_left : (n m : Numbering) (xs ys : List Word) → SameNames n m (xs ++ ys) → SameNames n m xs
+names_left n m = each_left (λ w. n.name w.text ≡ m.name w.text)
 
-pub names_right : (n m : Numbering) (xs ys : List Text) → SameNames n m (xs ++ ys) → SameNames n m ys
-names_right n m = each_right (λ text. n.name text ≡ m.name text)
+pub names_right : (n m : Numbering) (xs ys : List Word) → SameNames n m (xs ++ ys) → SameNames n m ys
+names_right n m = each_right (λ w. n.name w.text ≡ m.name w.text)
 
-pub names_append : (n m : Numbering) (xs ys : List Text) → SameNames n m xs → SameNames n m ys → SameNames n m (xs ++ ys)
-names_append n m = each_append (λ text. n.name text ≡ m.name text)
+pub names_append : (n m : Numbering) (xs ys : List Word) → SameNames n m xs → SameNames n m ys → SameNames n m (xs ++ ys)
+names_append n m = each_append (λ w. n.name w.text ≡ m.name w.text)
 
 -- the names of two lists of trees
 names_of_both : (n m : Numbering) (xs ys : List Tree) → SameNames n m (names_of xs) → SameNames n m (names_of ys) → SameNames n m (names_of (xs ++ ys))
@@ -80,14 +80,14 @@ names_of_both n m (x ∷ xs) ys h k =
     names_append n m x.names (names_of (xs ++ ys)) (names_left n m x.names (names_of xs) h) (names_of_both n m xs ys (names_right n m x.names (names_of xs) h) k)
 
 -- a name between two lists of names
-names_round : (n m : Numbering) (xs : List Text) (x : Text) (ys : List Text) → SameNames n m (xs ++ x ∷ ys) → SameNames n m (xs ++ ys)
+names_round : (n m : Numbering) (xs : List Word) (x : Word) (ys : List Word) → SameNames n m (xs ++ x ∷ ys) → SameNames n m (xs ++ ys)
 names_round n m xs x ys h = names_append n m xs ys (names_left n m xs (x ∷ ys) h) (names_right n m xs (x ∷ ys) h).1
 
 -- the names of one tree, and of two
-names_of_one : (n m : Numbering) (xs : List Text) → SameNames n m xs → SameNames n m (xs ++ [])
+names_of_one : (n m : Numbering) (xs : List Word) → SameNames n m xs → SameNames n m (xs ++ [])
 names_of_one n m xs h = names_append n m xs [] h tt
 
-names_of_two : (n m : Numbering) (xs ys : List Text) → SameNames n m (xs ++ ys) → SameNames n m (xs ++ (ys ++ []))
+names_of_two : (n m : Numbering) (xs ys : List Word) → SameNames n m (xs ++ ys) → SameNames n m (xs ++ (ys ++ []))
 names_of_two n m xs ys h = names_append n m xs (ys ++ []) (names_left n m xs ys h) (names_of_one n m ys (names_right n m xs ys h))
 
 -- ---- lists of trees, parameters, blocks, pieces and pairs: how high they are, and that they are the same where what is in them is
@@ -104,11 +104,11 @@ heights_append : (xs ys : List Tree) → highest (heights (xs ++ ys)) ≡ max (h
 heights_append [] ys = omega arith
 heights_append (x ∷ xs) ys = omega (arith, heights_append xs ys)
 
-pub params_same : (n m : Numbering) (ws : List Word) → SameNames n m (texts ws) → params_by n ws ≡ params_by m ws
+pub params_same : (n m : Numbering) (ws : List Word) → SameNames n m ws → params_by n ws ≡ params_by m ws
 params_same n m [] h = refl
 params_same n m (w ∷ ws) h = λ i. record { name = h.0 i; at = w.at } ∷ params_same n m ws h.1 i
 
-block_same : (n m : Numbering) (b : BlockTree) → SameNames n m (texts b.params) → Each (SameNode n m) b.body → block_by n b ≡ block_by m b
+block_same : (n m : Numbering) (b : BlockTree) → SameNames n m b.params → Each (SameNode n m) b.body → block_by n b ≡ block_by m b
 block_same n m b h k = λ i. roll-Block (record { params = params_same n m b.params h i; body = nodes_same n m b.body k i; at = b.at })
 
 pieces_measured : (n : Numbering) (pieces : List PieceTree) → Each (Measured n) (code_of pieces)
@@ -197,7 +197,7 @@ module _ (limit : ℕ) where
       each_append (λ t. block_height (t.block n) ≤ limit) x.threads (threads_of xs) (h.0.bodies_low n) (trees_bodies_low xs h.1 n)
 
   -- a leaf whose node hangs on its names alone
-  leaf_faithful : (at : Span) (names : List Text) (make : Numbering → Node) → 1 ≤ limit
+  leaf_faithful : (at : Span) (names : List Word) (make : Numbering → Node) → 1 ≤ limit
       → ((n : Numbering) → height (make n) ≡ 1)
       → ((n : Numbering) → place (out-Node (make n)) ≡ at)
       → ((n m : Numbering) → SameNames n m names → make n ≡ make m)
@@ -212,7 +212,7 @@ module _ (limit : ℕ) where
   }
 
   -- a branch with faithful trees in it, whose node hangs on its names and on their nodes
-  branch_made : (at : Span) (names : List Text) (inside : List Tree) (make : Numbering → Node)
+  branch_made : (at : Span) (names : List Word) (inside : List Tree) (make : Numbering → Node)
       → Each (IsFaithful limit) inside
       → ((n : Numbering) → Each (Measured n) inside → height (make n) ≡ suc (highest (heights inside)))
       → ((n : Numbering) → place (out-Node (make n)) ≡ at)
@@ -235,22 +235,22 @@ module _ (limit : ℕ) where
 
   pub local_faithful : (w : Word) → 1 ≤ limit → IsFaithful limit (tree.local w)
   local_faithful w one =
-      leaf_faithful w.at (w.text ∷ []) (λ n. node.Local (n.name w.text) w.at) one (λ n. height-local (n.name w.text) w.at)
+      leaf_faithful w.at (w ∷ []) (λ n. node.Local (n.name w.text) w.at) one (λ n. height-local (n.name w.text) w.at)
       (λ n. place-local (n.name w.text) w.at) (λ n m h i. node.Local (h.0 i) w.at)
 
   pub field_faithful : (w : Word) → 1 ≤ limit → IsFaithful limit (tree.field w)
   field_faithful w one =
-      leaf_faithful w.at (w.text ∷ []) (λ n. node.Field (n.name w.text) w.at) one (λ n. height-field (n.name w.text) w.at)
+      leaf_faithful w.at (w ∷ []) (λ n. node.Field (n.name w.text) w.at) one (λ n. height-field (n.name w.text) w.at)
       (λ n. place-field (n.name w.text) w.at) (λ n m h i. node.Field (h.0 i) w.at)
 
   pub global_faithful : (w : Word) → 1 ≤ limit → IsFaithful limit (tree.global w)
   global_faithful w one =
-      leaf_faithful w.at (w.text ∷ []) (λ n. node.Global (n.name w.text) w.at) one (λ n. height-global (n.name w.text) w.at)
+      leaf_faithful w.at (w ∷ []) (λ n. node.Global (n.name w.text) w.at) one (λ n. height-global (n.name w.text) w.at)
       (λ n. place-global (n.name w.text) w.at) (λ n m h i. node.Global (h.0 i) w.at)
 
   pub symbol_faithful : (w : Word) → 1 ≤ limit → IsFaithful limit (tree.symbol w)
   symbol_faithful w one =
-      leaf_faithful w.at (w.text ∷ []) (λ n. node.Sym (n.name w.text) w.at) one (λ n. height-sym (n.name w.text) w.at)
+      leaf_faithful w.at (w ∷ []) (λ n. node.Sym (n.name w.text) w.at) one (λ n. height-sym (n.name w.text) w.at)
       (λ n. place-sym (n.name w.text) w.at) (λ n m h i. node.Sym (h.0 i) w.at)
 
   pub integer_faithful : (value : ℤ) (at : Span) → 1 ≤ limit → IsFaithful limit (tree.integer value at)
@@ -269,7 +269,7 @@ module _ (limit : ℕ) where
 
   pub call_made : (w : Word) (args : List Tree) → Each (IsFaithful limit) args → WellMade limit (tree.call None w args)
   call_made w args f =
-      branch_made w.at (w.text ∷ names_of args) args (λ n. node.Call None (n.name w.text) (nodes n args) None w.at) f
+      branch_made w.at (w ∷ names_of args) args (λ n. node.Call None (n.name w.text) (nodes n args) None w.at) f
       (λ n h. omega (arith, height-call None (n.name w.text) (nodes n args) None w.at, nodes_measured n args h))
       (λ n. place-call None (n.name w.text) (nodes n args) None w.at)
       (λ n m h. h.1)
@@ -278,17 +278,17 @@ module _ (limit : ℕ) where
   pub call_of_made : (a : Tree) (w : Word) (args : List Tree) → IsFaithful limit a → Each (IsFaithful limit) args
       → WellMade limit (tree.call (Some a) w args)
   call_of_made a w args f g =
-      branch_made w.at (a.names ++ w.text ∷ names_of args) (a ∷ args)
+      branch_made w.at (a.names ++ w ∷ names_of args) (a ∷ args)
       (λ n. node.Call (Some (a.node n)) (n.name w.text) (nodes n args) None w.at) (f, g)
       (λ n h. omega (arith, height-call (Some (a.node n)) (n.name w.text) (nodes n args) None w.at, nodes_measured n args h.1, h.0))
       (λ n. place-call (Some (a.node n)) (n.name w.text) (nodes n args) None w.at)
-      (λ n m. names_round n m a.names w.text (names_of args))
-      (λ n m h k i. node.Call (Some (k.0 i)) ((names_right n m a.names (w.text ∷ names_of args) h).0 i) (nodes_same n m args k.1 i) None w.at)
+      (λ n m. names_round n m a.names w (names_of args))
+      (λ n m h k i. node.Call (Some (k.0 i)) ((names_right n m a.names (w ∷ names_of args) h).0 i) (nodes_same n m args k.1 i) None w.at)
 
   pub call_with_block_made : (a : Tree) (w : Word) (args : List Tree) (b : BlockTree) → IsFaithful limit a → Each (IsFaithful limit) args
       → Each (IsFaithful limit) b.body → WellMade limit (tree.call_with_block a w args b)
   call_with_block_made a w args b f g e =
-      branch_made w.at (a.names ++ w.text ∷ (names_of args ++ block_names b)) (a ∷ (args ++ b.body))
+      branch_made w.at (a.names ++ w ∷ (names_of args ++ block_names b)) (a ∷ (args ++ b.body))
       (λ n. node.Call (Some (a.node n)) (n.name w.text) (nodes n args) (Some (block_by n b)) w.at)
       (f, each_append (IsFaithful limit) args b.body g e)
       (λ n h. omega (
@@ -301,13 +301,13 @@ module _ (limit : ℕ) where
       ))
       (λ n. place-call (Some (a.node n)) (n.name w.text) (nodes n args) (Some (block_by n b)) w.at)
       (λ n m h.
-      let others = (names_right n m a.names (w.text ∷ (names_of args ++ block_names b)) h).1 in
-      names_append n m a.names (names_of (args ++ b.body)) (names_left n m a.names (w.text ∷ (names_of args ++ block_names b)) h)
+      let others = (names_right n m a.names (w ∷ (names_of args ++ block_names b)) h).1 in
+      names_append n m a.names (names_of (args ++ b.body)) (names_left n m a.names (w ∷ (names_of args ++ block_names b)) h)
       (names_of_both n m args b.body (names_left n m (names_of args) (block_names b) others)
-      (names_right n m (texts b.params) (names_of b.body) (names_right n m (names_of args) (block_names b) others))))
+      (names_right n m b.params (names_of b.body) (names_right n m (names_of args) (block_names b) others))))
       (λ n m h k.
-      let own = names_right n m a.names (w.text ∷ (names_of args ++ block_names b)) h in
-      let params = names_left n m (texts b.params) (names_of b.body) (names_right n m (names_of args) (block_names b) own.1) in
+      let own = names_right n m a.names (w ∷ (names_of args ++ block_names b)) h in
+      let params = names_left n m b.params (names_of b.body) (names_right n m (names_of args) (block_names b) own.1) in
       let block = block_same n m b params (each_right (SameNode n m) args b.body k.1) in
       let given = nodes_same n m args (each_left (SameNode n m) args b.body k.1) in
       λ i. node.Call (Some (k.0 i)) (own.0 i) (given i) (Some (block i)) w.at)
@@ -315,12 +315,12 @@ module _ (limit : ℕ) where
   pub binary_made : (operator : Text) (at : Span) (a b : Tree) → IsFaithful limit a → IsFaithful limit b
       → WellMade limit (tree.binary operator at a b)
   binary_made operator at a b f g =
-      branch_made at (a.names ++ operator ∷ b.names) (a ∷ b ∷ [])
+      branch_made at (a.names ++ tree.given operator at ∷ b.names) (a ∷ b ∷ [])
       (λ n. node.Call (Some (a.node n)) (n.name operator) (b.node n ∷ []) None at) (f, (g, tt))
       (λ n h. omega (arith, height-call (Some (a.node n)) (n.name operator) (b.node n ∷ []) None at, h.0, h.1.0))
       (λ n. place-call (Some (a.node n)) (n.name operator) (b.node n ∷ []) None at)
-      (λ n m h. names_of_two n m a.names b.names (names_round n m a.names operator b.names h))
-      (λ n m h k i. node.Call (Some (k.0 i)) ((names_right n m a.names (operator ∷ b.names) h).0 i) (k.1.0 i ∷ []) None at)
+      (λ n m h. names_of_two n m a.names b.names (names_round n m a.names (tree.given operator at) b.names h))
+      (λ n m h k i. node.Call (Some (k.0 i)) ((names_right n m a.names (tree.given operator at ∷ b.names) h).0 i) (k.1.0 i ∷ []) None at)
 
   pub negated_made : (at : Span) (a : Tree) → IsFaithful limit a → WellMade limit (tree.negated at a)
   negated_made at a f =
@@ -332,7 +332,7 @@ module _ (limit : ℕ) where
 
   pub minus_made : (at : Span) (a : Tree) → IsFaithful limit a → WellMade limit (tree.minus at a)
   minus_made at a f =
-      branch_made at (tree.minus_name ∷ a.names) (a ∷ []) (λ n. node.Call (Some (a.node n)) (n.name tree.minus_name) [] None at) (f, tt)
+      branch_made at (tree.given tree.minus_name at ∷ a.names) (a ∷ []) (λ n. node.Call (Some (a.node n)) (n.name tree.minus_name) [] None at) (f, tt)
       (λ n h. omega (arith, height-call (Some (a.node n)) (n.name tree.minus_name) [] None at, h.0))
       (λ n. place-call (Some (a.node n)) (n.name tree.minus_name) [] None at)
       (λ n m h. names_of_one n m a.names h.1)
@@ -357,11 +357,11 @@ module _ (limit : ℕ) where
   pub index_made : (a j : Tree) (at : Span) → IsFaithful limit a → IsFaithful limit j → WellMade limit (tree.index a j at)
   index_made a j at f g = binary_made tree.index_name at a j f g
 
-  pub new_made : (class : Text) (at : Span) (args : List Tree) → Each (IsFaithful limit) args → WellMade limit (tree.new class at args)
+  pub new_made : (class : Word) (at : Span) (args : List Tree) → Each (IsFaithful limit) args → WellMade limit (tree.new class at args)
   new_made class at args f =
-      branch_made at (class ∷ names_of args) args (λ n. node.New (n.name class) (nodes n args) at) f
-      (λ n h. omega (arith, height-new (n.name class) (nodes n args) at, nodes_measured n args h))
-      (λ n. place-new (n.name class) (nodes n args) at)
+      branch_made at (class ∷ names_of args) args (λ n. node.New (n.name class.text) (nodes n args) at) f
+      (λ n h. omega (arith, height-new (n.name class.text) (nodes n args) at, nodes_measured n args h))
+      (λ n. place-new (n.name class.text) (nodes n args) at)
       (λ n m h. h.1)
       (λ n m h k i. node.New (h.0 i) (nodes_same n m args k i) at)
 
@@ -381,12 +381,12 @@ module _ (limit : ℕ) where
           λ i. node.ThreadNew (given i) (body i) at;
       bodied = λ n m agree.
           let names = names_right n m (names_of args) (block_names b) agree.named in
-          let inner = names_right n m (texts b.params) (names_of b.body) names in
+          let inner = names_right n m b.params (names_of b.body) names in
           let bodies = each_right (λ t. n.body t.at ≡ m.body t.at) (threads_of args) (own b ∷ threads_of b.body) agree.bodied in
           each_append (λ t. t.block n ≡ t.block m) (threads_of args) (own b ∷ threads_of b.body)
           (trees_bodied args f n m (names_left n m (names_of args) (block_names b) agree.named)
           (each_left (λ t. n.body t.at ≡ m.body t.at) (threads_of args) (own b ∷ threads_of b.body) agree.bodied)) (
-            block_same n m b (names_left n m (texts b.params) (names_of b.body) names) (trees_named b.body g n m inner bodies.1),
+            block_same n m b (names_left n m b.params (names_of b.body) names) (trees_named b.body g n m inner bodies.1),
             trees_bodied b.body g n m inner bodies.1,
           );
       bodies_low = λ n.
@@ -489,57 +489,57 @@ module _ (limit : ℕ) where
   -- target "=" value
   pub assigned_made : (t : TargetTree) (at : Span) (a : Tree) → TargetIsFaithful t → IsFaithful limit a → WellMade limit (tree.assigned t at a)
   assigned_made (tree.to_local w) at a e f =
-      branch_made at (w.text ∷ a.names) (a ∷ []) (λ n. node.SetLocal (n.name w.text) (a.node n) at) (f, tt)
+      branch_made at (w ∷ a.names) (a ∷ []) (λ n. node.SetLocal (n.name w.text) (a.node n) at) (f, tt)
       (λ n h. omega (arith, height-set_local (n.name w.text) (a.node n) at, h.0))
       (λ n. place-set_local (n.name w.text) (a.node n) at)
       (λ n m h. names_of_one n m a.names h.1)
       (λ n m h k i. node.SetLocal (h.0 i) (k.0 i) at)
   assigned_made (tree.to_field w) at a e f =
-      branch_made at (w.text ∷ a.names) (a ∷ []) (λ n. node.SetField (n.name w.text) (a.node n) at) (f, tt)
+      branch_made at (w ∷ a.names) (a ∷ []) (λ n. node.SetField (n.name w.text) (a.node n) at) (f, tt)
       (λ n h. omega (arith, height-set_field (n.name w.text) (a.node n) at, h.0))
       (λ n. place-set_field (n.name w.text) (a.node n) at)
       (λ n m h. names_of_one n m a.names h.1)
       (λ n m h k i. node.SetField (h.0 i) (k.0 i) at)
   assigned_made (tree.to_global w) at a e f =
-      branch_made at (w.text ∷ a.names) (a ∷ []) (λ n. node.SetGlobal (n.name w.text) (a.node n) at) (f, tt)
+      branch_made at (w ∷ a.names) (a ∷ []) (λ n. node.SetGlobal (n.name w.text) (a.node n) at) (f, tt)
       (λ n h. omega (arith, height-set_global (n.name w.text) (a.node n) at, h.0))
       (λ n. place-set_global (n.name w.text) (a.node n) at)
       (λ n m h. names_of_one n m a.names h.1)
       (λ n m h k i. node.SetGlobal (h.0 i) (k.0 i) at)
   assigned_made (tree.to_index r j bracket) at a e f =
-      branch_made at (r.names ++ tree.store_name ∷ (j.names ++ a.names)) (r ∷ j ∷ a ∷ [])
+      branch_made at (r.names ++ tree.given tree.store_name bracket ∷ (j.names ++ a.names)) (r ∷ j ∷ a ∷ [])
       (λ n. node.Store (r.node n) (n.name tree.store_name) (j.node n ∷ a.node n ∷ []) at) (e.0, (e.1, (f, tt)))
       (λ n h. omega (arith, height-store (r.node n) (n.name tree.store_name) (j.node n ∷ a.node n ∷ []) at, h.0, h.1.0, h.1.1.0))
       (λ n. place-store (r.node n) (n.name tree.store_name) (j.node n ∷ a.node n ∷ []) at)
       (λ n m h.
-      names_append n m r.names (j.names ++ (a.names ++ [])) (names_left n m r.names (tree.store_name ∷ (j.names ++ a.names)) h)
-      (names_of_two n m j.names a.names (names_right n m r.names (tree.store_name ∷ (j.names ++ a.names)) h).1))
-      (λ n m h k i. node.Store (k.0 i) ((names_right n m r.names (tree.store_name ∷ (j.names ++ a.names)) h).0 i) (k.1.0 i ∷ k.1.1.0 i ∷ []) at)
+      names_append n m r.names (j.names ++ (a.names ++ [])) (names_left n m r.names (tree.given tree.store_name bracket ∷ (j.names ++ a.names)) h)
+      (names_of_two n m j.names a.names (names_right n m r.names (tree.given tree.store_name bracket ∷ (j.names ++ a.names)) h).1))
+      (λ n m h k i. node.Store (k.0 i) ((names_right n m r.names (tree.given tree.store_name bracket ∷ (j.names ++ a.names)) h).0 i) (k.1.0 i ∷ k.1.1.0 i ∷ []) at)
   assigned_made (tree.to_attribute r w) at a e f =
-      branch_made at (r.names ++ tree.setter_of w.text ∷ a.names) (r ∷ a ∷ [])
+      branch_made at (r.names ++ tree.given (tree.setter_of w.text) w.at ∷ a.names) (r ∷ a ∷ [])
       (λ n. node.Store (r.node n) (n.name (tree.setter_of w.text)) (a.node n ∷ []) at) (e, (f, tt))
       (λ n h. omega (arith, height-store (r.node n) (n.name (tree.setter_of w.text)) (a.node n ∷ []) at, h.0, h.1.0))
       (λ n. place-store (r.node n) (n.name (tree.setter_of w.text)) (a.node n ∷ []) at)
-      (λ n m h. names_of_two n m r.names a.names (names_round n m r.names (tree.setter_of w.text) a.names h))
-      (λ n m h k i. node.Store (k.0 i) ((names_right n m r.names (tree.setter_of w.text ∷ a.names) h).0 i) (k.1.0 i ∷ []) at)
+      (λ n m h. names_of_two n m r.names a.names (names_round n m r.names (tree.given (tree.setter_of w.text) w.at) a.names h))
+      (λ n m h k i. node.Store (k.0 i) ((names_right n m r.names (tree.given (tree.setter_of w.text) w.at ∷ a.names) h).0 i) (k.1.0 i ∷ []) at)
 
   -- target "+=" value, and so on
   pub operated_made : (t : TargetTree) (op : AssignOp) (at : Span) (a : Tree) → TargetIsFaithful t → IsFaithful limit a
       → WellMade limit (tree.operated t op at a)
   operated_made (tree.to_local w) op at a e f =
-      branch_made at (w.text ∷ a.names) (a ∷ []) (λ n. node.OpAssign (target.Local (n.name w.text)) op (a.node n) at) (f, tt)
+      branch_made at (w ∷ a.names) (a ∷ []) (λ n. node.OpAssign (target.Local (n.name w.text)) op (a.node n) at) (f, tt)
       (λ n h. omega (arith, height-op_assign (target.Local (n.name w.text)) op (a.node n) at, target_height-local (n.name w.text), h.0))
       (λ n. place-op_assign (target.Local (n.name w.text)) op (a.node n) at)
       (λ n m h. names_of_one n m a.names h.1)
       (λ n m h k i. node.OpAssign (target.Local (h.0 i)) op (k.0 i) at)
   operated_made (tree.to_field w) op at a e f =
-      branch_made at (w.text ∷ a.names) (a ∷ []) (λ n. node.OpAssign (target.Field (n.name w.text)) op (a.node n) at) (f, tt)
+      branch_made at (w ∷ a.names) (a ∷ []) (λ n. node.OpAssign (target.Field (n.name w.text)) op (a.node n) at) (f, tt)
       (λ n h. omega (arith, height-op_assign (target.Field (n.name w.text)) op (a.node n) at, target_height-field (n.name w.text), h.0))
       (λ n. place-op_assign (target.Field (n.name w.text)) op (a.node n) at)
       (λ n m h. names_of_one n m a.names h.1)
       (λ n m h k i. node.OpAssign (target.Field (h.0 i)) op (k.0 i) at)
   operated_made (tree.to_global w) op at a e f =
-      branch_made at (w.text ∷ a.names) (a ∷ []) (λ n. node.OpAssign (target.Global (n.name w.text)) op (a.node n) at) (f, tt)
+      branch_made at (w ∷ a.names) (a ∷ []) (λ n. node.OpAssign (target.Global (n.name w.text)) op (a.node n) at) (f, tt)
       (λ n h. omega (arith, height-op_assign (target.Global (n.name w.text)) op (a.node n) at, target_height-global (n.name w.text), h.0))
       (λ n. place-op_assign (target.Global (n.name w.text)) op (a.node n) at)
       (λ n m h. names_of_one n m a.names h.1)
@@ -556,7 +556,7 @@ module _ (limit : ℕ) where
       (names_of_one n m a.names (names_right n m (r.names ++ j.names) a.names h))))
       (λ n m h k i. node.OpAssign (target.Index (k.0 i) (k.1.0 i)) op (k.1.1.0 i) at)
   operated_made (tree.to_attribute r w) op at a e f =
-      branch_made at ((r.names ++ w.text ∷ []) ++ a.names) (r ∷ a ∷ [])
+      branch_made at ((r.names ++ w ∷ []) ++ a.names) (r ∷ a ∷ [])
       (λ n. node.OpAssign (target.Attribute (r.node n) (n.name w.text)) op (a.node n) at) (e, (f, tt))
       (λ n h. omega (
         arith,
@@ -567,8 +567,8 @@ module _ (limit : ℕ) where
       ))
       (λ n. place-op_assign (target.Attribute (r.node n) (n.name w.text)) op (a.node n) at)
       (λ n m h.
-      names_append n m r.names (a.names ++ []) (names_left n m r.names (w.text ∷ []) (names_left n m (r.names ++ w.text ∷ []) a.names h))
-      (names_of_one n m a.names (names_right n m (r.names ++ w.text ∷ []) a.names h)))
+      names_append n m r.names (a.names ++ []) (names_left n m r.names (w ∷ []) (names_left n m (r.names ++ w ∷ []) a.names h))
+      (names_of_one n m a.names (names_right n m (r.names ++ w ∷ []) a.names h)))
       (λ n m h k i.
-      node.OpAssign (target.Attribute (k.0 i) ((names_right n m r.names (w.text ∷ []) (names_left n m (r.names ++ w.text ∷ []) a.names h)).0 i))
+      node.OpAssign (target.Attribute (k.0 i) ((names_right n m r.names (w ∷ []) (names_left n m (r.names ++ w ∷ []) a.names h)).0 i))
       op (k.1.0 i) at)

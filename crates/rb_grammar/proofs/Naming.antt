@@ -5,8 +5,8 @@ use Rattle.std.specs.Option.{option_map}
 use Rattle.std.proofs.lemmas.List.Folds.{list_any-append}
 use Rattle.rb_tree.specs.Texts.{number_of, with_text}
 use Rattle.rb_tree.proofs.Numbering.{bytes_eq-same, position_within}
-use Rattle.rb_grammar.specs.Tree.{Text}
-use Rattle.rb_grammar.specs.Program.{in_order, id_or_first}
+use Rattle.rb_grammar.specs.Tree.{Text, Word, texts}
+use Rattle.rb_grammar.specs.Program.{numbering_of, in_order, id_or_first}
 use Rattle.rb_grammar.specs.Faithful.{Each}
 use Rattle.rb_grammar.specs.Laws.{NamesAll}
 
@@ -63,5 +63,12 @@ each_more : {P Q : Text → Type 0} → ((x : Text) → P x → Q x) → (xs : L
 each_more f [] h = tt
 each_more f (x ∷ xs) h = (f x h.0, each_more f xs h.1)
 
+-- a fact of each text is one of each word
+each_of_words : (P : Text → Type 0) (ws : List Word) → Each P (texts ws) → Each (λ w. P w.text) ws
+each_of_words P [] h = tt
+each_of_words P (w ∷ ws) h = (h.0, each_of_words P ws h.1)
+
 pub names_all : NamesAll
-names_all found = each_more (λ text. named_has_number text (in_order found.names)) found.names (all_named found.names [])
+names_all found =
+    each_of_words (λ text. number_of text (in_order (texts found.names)) ≡ Some ((numbering_of found).name text)) found.names
+    (each_more (λ text. named_has_number text (in_order (texts found.names))) (texts found.names) (all_named (texts found.names) []))

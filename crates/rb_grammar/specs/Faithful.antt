@@ -3,7 +3,7 @@ use Rattle.std.specs.Prelude.{◌≡◌, ℕ, ◌≤◌, List, [], ◌∷◌, ma
 use Rattle.rb_tree.specs.declared.node.Node.{out-Node}
 use Rattle.rb_tree.specs.Height.{height, block_height}
 use Rattle.rb_tree.specs.Place.{place}
-use Rattle.rb_grammar.specs.Tree.{Text, Numbering, Thread, Tree, MethodTree, ClassTree, Items, nodes, method_by, class_by}
+use Rattle.rb_grammar.specs.Tree.{Word, Numbering, Thread, Tree, MethodTree, ClassTree, Items, nodes, method_by, class_by}
 
 -- a fact of each element of a list
 abbrev pub Each : {X : Type 0} → (X → Type 0) → List X → Type 0
@@ -11,8 +11,8 @@ Each P [] = Unit {0}
 Each P (x ∷ xs) = P x × Each P xs
 
 -- two numberings that give these names, and the bodies of these threads, the same numbers
-pub record Agree (names : List Text) (threads : List Thread) (n m : Numbering) : Type 0 where
-  pub named : Each (λ text. n.name text ≡ m.name text) names
+pub record Agree (names : List Word) (threads : List Thread) (n m : Numbering) : Type 0 where
+  pub named : Each (λ w. n.name w.text ≡ m.name w.text) names
   pub bodied : Each (λ t. n.body t.at ≡ m.body t.at) threads
 
 -- what a tree says of its node is so, and no node in it is higher than limit

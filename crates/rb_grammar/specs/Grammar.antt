@@ -262,14 +262,14 @@ abbrev pub thread : Bool → Token → Rule Part
 thread d t = any (token (glued c.open_paren) (λ o. nested o.at p.arguments (thread_with d t)) ∷ thread_with d t [] ∷ [])
 
 -- CONST.new ["(" [args] ")"], where the class is another one: with brackets, as a head, or without arguments
-abbrev pub object : Text → Token → Rule Part
+abbrev pub object : Word → Token → Rule Part
 object class t = any (
     token (glued c.open_paren) (λ o. nested o.at p.arguments (λ args. made (tree.new class t.at args)))
     ∷ ahead (done (p.head (p.of_new class t.at))) (done (as_value (tree.new class t.at [])))
     ∷ [])
 
-abbrev pub constructed : Bool → Text → Token → Rule Part
-constructed d class t = pick (bytes_eq class (codes "Thread")) (thread d t) (object class t)
+abbrev pub constructed : Bool → Word → Token → Rule Part
+constructed d class t = pick (bytes_eq class.text (codes "Thread")) (thread d t) (object class t)
 
 -- ---- lists of one kind
 
@@ -469,7 +469,7 @@ rule (p.primary d) = any (
     ∷ token (is c.field) (λ t. done (p.plain (p.of_field (word_of t))))
     ∷ token (is c.global) (λ t. done (p.plain (p.of_global (word_of t))))
     ∷ token (one_of identifiers) (λ t. named (word_of t))
-    ∷ token (is c.constant) (λ t. token (is c.dot) (λ o. token (is c.new) (constructed d (text_of t.kind))))
+    ∷ token (is c.constant) (λ t. token (is c.dot) (λ o. token (is c.new) (constructed d (word_of t))))
     ∷ token (is c.open_bracket) (λ t. nested t.at p.array_rest (λ items. made (tree.array t.at items)))
     ∷ token (is c.open_brace) (λ t. nested t.at p.hash_rest (λ pairs. made (tree.hash t.at pairs)))
     ∷ token (is c.open_paren) (λ t. nested t.at p.group_rest (λ a. done (as_value a)))

@@ -4,7 +4,7 @@ use Rattle.rb_tree.specs.declared.span.Span.{Span}
 use Rattle.rb_tree.specs.Texts.{number_of}
 use Rattle.rb_tree.specs.declared.node.Program.{Program}
 use Rattle.rb_lexer.specs.declared.token.Token.{Token}
-use Rattle.rb_grammar.specs.Tree.{Items, no_items}
+use Rattle.rb_grammar.specs.Tree.{Items, no_items, texts}
 use Rattle.rb_grammar.specs.Scope.{Scope, top_level}
 use Rattle.rb_grammar.specs.Phrase.{Phrase, Value}
 use Rattle.rb_grammar.specs.Phrase as p
@@ -13,6 +13,8 @@ use Rattle.rb_grammar.specs.Reading.{read, refused, too_nested, reading, Settled
 use Rattle.rb_grammar.specs.Nesting.{TooNestedAt}
 use Rattle.rb_grammar.specs.Script.{EndsOnce, IsScript, BeginsNone}
 use Rattle.rb_grammar.specs.Program.{in_order, numbering_of, IsProgram}
+use Rattle.rb_lexer.specs.Spans.{StandInOrder}
+use Rattle.rb_grammar.specs.Order.{Rising, places_of, blocks_of}
 use Rattle.rb_grammar.specs.Faithful.{Each, ItemsAreFaithful}
 
 -- what is read is spelled so
@@ -77,7 +79,12 @@ KeepsLimits = (limit limit' levels levels' : ℕ) (tokens : List Token) (found :
 
 -- each name that the tokens of a script give has its number
 abbrev pub NamesAll : Type 0
-NamesAll = (found : Items) → Each (λ text. number_of text (in_order found.names) ≡ Some ((numbering_of found).name text)) found.names
+NamesAll = (found : Items) → Each (λ w. number_of w.text (in_order (texts found.names)) ≡ Some ((numbering_of found).name w.text)) found.names
+
+-- Where the tokens stand in the order of their text, so do the tokens that give the names of a script, and the blocks of its threads.
+abbrev pub GivesInOrder : Type 0
+GivesInOrder = (limit levels from to : ℕ) (tokens : List Token) (found : Items) → StandInOrder from to tokens → IsScript limit levels tokens found
+    → Rising from to (places_of found.names) × Rising from to (blocks_of found.threads)
 
 -- What the trees of a script say of their nodes is so: heights, places, and that their numbers hang on the names that the tokens
 -- give and on the threads alone. No node is higher than limit.

@@ -10,4 +10,5 @@ pub mod Nesting
 pub mod Script
 pub mod Faithful
 pub mod Program
+pub mod Order
 pub mod Laws

@@ -18,7 +18,7 @@ pub data Operand : Type 0 where
 -- a call of a name, or `Class.new` at its `new`, whose arguments follow without brackets
 pub data Head : Type 0 where
   of_call : Option Tree → Word → Head
-  of_new : Text → Span → Head
+  of_new : Word → Span → Head
 
 -- what was read of an expression so far
 pub data Part : Type 0 where

@@ -4,7 +4,7 @@ use Rattle.rb_tree.specs.declared.span.NameId.{NameId}
 use Rattle.rb_tree.specs.declared.node.Program.{Program}
 use Rattle.rb_tree.specs.Texts.{number_of, with_text}
 use Rattle.rb_lexer.specs.declared.token.Token.{Token}
-use Rattle.rb_grammar.specs.Tree.{Text, Numbering, Items, nodes, method_by, class_by}
+use Rattle.rb_grammar.specs.Tree.{Text, Numbering, Items, texts, nodes, method_by, class_by}
 use Rattle.rb_grammar.specs.Script.{IsScript}
 
 -- each text once, in the order in which they first stand
@@ -23,7 +23,7 @@ place_or_first (Some place) = place
 -- them first stand in the text. The number of a thread's body is its place among the bodies, in the order of the text.
 abbrev pub numbering_of : Items → Numbering
 numbering_of found = record {
-  name = λ text. id_or_first (number_of text (in_order found.names));
+  name = λ text. id_or_first (number_of text (in_order (texts found.names)));
   body = λ at. place_or_first (position (λ t. nat_eq t.at.from at.from) found.threads);
 }
 
@@ -32,7 +32,7 @@ abbrev pub program_of : Items → Program
 program_of found =
     let n : Numbering = numbering_of found in
     record {
-      names = in_order found.names;
+      names = in_order (texts found.names);
       classes = map (class_by n) found.classes;
       functions = map (method_by n) found.functions;
       bodies = map (λ t. t.block n) found.threads;

@@ -26,10 +26,14 @@ pub record Numbering : Type 0 where
   pub name : Text → NameId
   pub body : Span → ℕ
 
--- a word and its place
+-- a text and the place of the token that gives it
 pub record Word : Type 0 where
   pub text : Text
   pub at : Span
+
+-- the name that a token at this place gives
+abbrev pub given : Text → Span → Word
+given text at = record { text = text; at = at }
 
 -- the body of a thread, by the place of its block
 pub record Thread : Type 0 where
@@ -41,7 +45,7 @@ pub record Tree : Type 0 where
   pub at : Span
   pub height : ℕ
   pub node : Numbering → Node
-  pub names : List Text
+  pub names : List Word
   pub threads : List Thread
 
 abbrev pub heights : List Tree → List ℕ
@@ -50,7 +54,7 @@ heights = map (λ a. a.height)
 abbrev pub nodes : Numbering → List Tree → List Node
 nodes n = map (λ a. a.node n)
 
-abbrev pub names_of : List Tree → List Text
+abbrev pub names_of : List Tree → List Word
 names_of [] = []
 names_of (a ∷ more) = a.names ++ names_of more
 
@@ -59,26 +63,26 @@ threads_of [] = []
 threads_of (a ∷ more) = a.threads ++ threads_of more
 
 -- a node with nothing in it, and the names that it gives
-abbrev pub leaf : Span → List Text → (Numbering → Node) → Tree
+abbrev pub leaf : Span → List Word → (Numbering → Node) → Tree
 leaf at names node = record { at = at; height = 1; node = node; names = names; threads = [] }
 
 -- a node with trees in it, in the order of the text: one higher than the highest of them
-abbrev pub branch : Span → List Text → List Tree → (Numbering → Node) → Tree
+abbrev pub branch : Span → List Word → List Tree → (Numbering → Node) → Tree
 branch at names inside node = record { at = at; height = suc (highest (heights inside)); node = node; names = names; threads = threads_of inside }
 
 -- ---- leaves
 
 abbrev pub local : Word → Tree
-local w = leaf w.at (w.text ∷ []) (λ n. node.Local (n.name w.text) w.at)
+local w = leaf w.at (w ∷ []) (λ n. node.Local (n.name w.text) w.at)
 
 abbrev pub field : Word → Tree
-field w = leaf w.at (w.text ∷ []) (λ n. node.Field (n.name w.text) w.at)
+field w = leaf w.at (w ∷ []) (λ n. node.Field (n.name w.text) w.at)
 
 abbrev pub global : Word → Tree
-global w = leaf w.at (w.text ∷ []) (λ n. node.Global (n.name w.text) w.at)
+global w = leaf w.at (w ∷ []) (λ n. node.Global (n.name w.text) w.at)
 
 abbrev pub symbol : Word → Tree
-symbol w = leaf w.at (w.text ∷ []) (λ n. node.Sym (n.name w.text) w.at)
+symbol w = leaf w.at (w ∷ []) (λ n. node.Sym (n.name w.text) w.at)
 
 abbrev pub integer : ℤ → Span → Tree
 integer value at = leaf at [] (λ n. node.Int value at)
@@ -103,24 +107,24 @@ params_by n = map (λ w. record { name = n.name w.text; at = w.at })
 abbrev pub block_by : Numbering → BlockTree → Block
 block_by n b = roll-Block (record { params = params_by n b.params; body = nodes n b.body; at = b.at })
 
-abbrev pub block_names : BlockTree → List Text
-block_names b = texts b.params ++ names_of b.body
+abbrev pub block_names : BlockTree → List Word
+block_names b = b.params ++ names_of b.body
 
 -- a call without a block; the receiver may be missing
 abbrev pub call : Option Tree → Word → List Tree → Tree
-call None w args = branch w.at (w.text ∷ names_of args) args (λ n. node.Call None (n.name w.text) (nodes n args) None w.at)
+call None w args = branch w.at (w ∷ names_of args) args (λ n. node.Call None (n.name w.text) (nodes n args) None w.at)
 call (Some a) w args =
-    branch w.at (a.names ++ w.text ∷ names_of args) (a ∷ args) (λ n. node.Call (Some (a.node n)) (n.name w.text) (nodes n args) None w.at)
+    branch w.at (a.names ++ w ∷ names_of args) (a ∷ args) (λ n. node.Call (Some (a.node n)) (n.name w.text) (nodes n args) None w.at)
 
 abbrev pub call_with_block : Tree → Word → List Tree → BlockTree → Tree
 call_with_block a w args b =
-    branch w.at (a.names ++ w.text ∷ (names_of args ++ block_names b)) (a ∷ (args ++ b.body))
+    branch w.at (a.names ++ w ∷ (names_of args ++ block_names b)) (a ∷ (args ++ b.body))
     (λ n. node.Call (Some (a.node n)) (n.name w.text) (nodes n args) (Some (block_by n b)) w.at)
 
 -- an operator between two operands, as a call of its name
 abbrev pub binary : Text → Span → Tree → Tree → Tree
 binary operator at a b =
-    branch at (a.names ++ operator ∷ b.names) (a ∷ b ∷ []) (λ n. node.Call (Some (a.node n)) (n.name operator) (b.node n ∷ []) None at)
+    branch at (a.names ++ given operator at ∷ b.names) (a ∷ b ∷ []) (λ n. node.Call (Some (a.node n)) (n.name operator) (b.node n ∷ []) None at)
 
 -- the opposite of a truth: of an operand behind `!`, of the call `==` for `!=`, of a condition behind `unless` and `until`
 abbrev pub negated : Span → Tree → Tree
@@ -131,7 +135,7 @@ abbrev pub minus_name : Text
 minus_name = codes "-@"
 
 abbrev pub minus : Span → Tree → Tree
-minus at a = branch at (minus_name ∷ a.names) (a ∷ []) (λ n. node.Call (Some (a.node n)) (n.name minus_name) [] None at)
+minus at a = branch at (given minus_name at ∷ a.names) (a ∷ []) (λ n. node.Call (Some (a.node n)) (n.name minus_name) [] None at)
 
 abbrev pub and_also : Span → Tree → Tree → Tree
 and_also at a b = branch at (a.names ++ b.names) (a ∷ b ∷ []) (λ n. node.And (a.node n) (b.node n) at)
@@ -144,11 +148,11 @@ index_name = codes "[]"
 
 -- `receiver[index]`, at its bracket
 abbrev pub index : Tree → Tree → Span → Tree
-index a i at = branch at (a.names ++ index_name ∷ i.names) (a ∷ i ∷ []) (λ n. node.Call (Some (a.node n)) (n.name index_name) (i.node n ∷ []) None at)
+index a i at = branch at (a.names ++ given index_name at ∷ i.names) (a ∷ i ∷ []) (λ n. node.Call (Some (a.node n)) (n.name index_name) (i.node n ∷ []) None at)
 
 -- `Class.new`, at its `new`
-abbrev pub new : Text → Span → List Tree → Tree
-new class at args = branch at (class ∷ names_of args) args (λ n. node.New (n.name class) (nodes n args) at)
+abbrev pub new : Word → Span → List Tree → Tree
+new class at args = branch at (class ∷ names_of args) args (λ n. node.New (n.name class.text) (nodes n args) at)
 
 -- `Thread.new`, at its `new`: its block is the body of a thread
 abbrev pub thread_new : Span → List Tree → BlockTree → Tree
@@ -231,13 +235,13 @@ setter_of text = text ++ codes "="
 
 -- target "=" value
 abbrev pub assigned : TargetTree → Span → Tree → Tree
-assigned (to_local w) at a = branch at (w.text ∷ a.names) (a ∷ []) (λ n. node.SetLocal (n.name w.text) (a.node n) at)
-assigned (to_field w) at a = branch at (w.text ∷ a.names) (a ∷ []) (λ n. node.SetField (n.name w.text) (a.node n) at)
-assigned (to_global w) at a = branch at (w.text ∷ a.names) (a ∷ []) (λ n. node.SetGlobal (n.name w.text) (a.node n) at)
+assigned (to_local w) at a = branch at (w ∷ a.names) (a ∷ []) (λ n. node.SetLocal (n.name w.text) (a.node n) at)
+assigned (to_field w) at a = branch at (w ∷ a.names) (a ∷ []) (λ n. node.SetField (n.name w.text) (a.node n) at)
+assigned (to_global w) at a = branch at (w ∷ a.names) (a ∷ []) (λ n. node.SetGlobal (n.name w.text) (a.node n) at)
 assigned (to_index r i bracket) at a =
-    branch at (r.names ++ store_name ∷ (i.names ++ a.names)) (r ∷ i ∷ a ∷ []) (λ n. node.Store (r.node n) (n.name store_name) (i.node n ∷ a.node n ∷ []) at)
+    branch at (r.names ++ given store_name bracket ∷ (i.names ++ a.names)) (r ∷ i ∷ a ∷ []) (λ n. node.Store (r.node n) (n.name store_name) (i.node n ∷ a.node n ∷ []) at)
 assigned (to_attribute r w) at a =
-    branch at (r.names ++ setter_of w.text ∷ a.names) (r ∷ a ∷ []) (λ n. node.Store (r.node n) (n.name (setter_of w.text)) (a.node n ∷ []) at)
+    branch at (r.names ++ given (setter_of w.text) w.at ∷ a.names) (r ∷ a ∷ []) (λ n. node.Store (r.node n) (n.name (setter_of w.text)) (a.node n ∷ []) at)
 
 abbrev pub target_by : Numbering → TargetTree → Target
 target_by n (to_local w) = target.Local (n.name w.text)
@@ -246,12 +250,12 @@ target_by n (to_global w) = target.Global (n.name w.text)
 target_by n (to_index r i bracket) = target.Index (r.node n) (i.node n)
 target_by n (to_attribute r w) = target.Attribute (r.node n) (n.name w.text)
 
-abbrev pub target_names : TargetTree → List Text
-target_names (to_local w) = w.text ∷ []
-target_names (to_field w) = w.text ∷ []
-target_names (to_global w) = w.text ∷ []
+abbrev pub target_names : TargetTree → List Word
+target_names (to_local w) = w ∷ []
+target_names (to_field w) = w ∷ []
+target_names (to_global w) = w ∷ []
 target_names (to_index r i bracket) = r.names ++ i.names
-target_names (to_attribute r w) = r.names ++ w.text ∷ []
+target_names (to_attribute r w) = r.names ++ w ∷ []
 
 abbrev pub inside_target : TargetTree → List Tree
 inside_target (to_index r i bracket) = r ∷ i ∷ []
@@ -273,7 +277,7 @@ pub record MethodTree : Type 0 where
 -- the methods of a class, with the names and the thread bodies in their text
 pub record Members : Type 0 where
   pub methods : List MethodTree
-  pub names : List Text
+  pub names : List Word
   pub threads : List Thread
 
 pub record ClassTree : Type 0 where
@@ -285,7 +289,7 @@ pub record Items : Type 0 where
   pub classes : List ClassTree
   pub functions : List MethodTree
   pub main : List Tree
-  pub names : List Text
+  pub names : List Word
   pub threads : List Thread
 
 abbrev pub method_by : Numbering → MethodTree → Method
@@ -294,8 +298,8 @@ method_by n m = record { name = n.name m.name.text; params = params_by n m.param
 abbrev pub class_by : Numbering → ClassTree → Class
 class_by n c = record { name = n.name c.name.text; methods = map (method_by n) c.members.methods; at = c.name.at }
 
-abbrev pub method_names : MethodTree → List Text
-method_names m = m.name.text ∷ (texts m.params ++ names_of m.body)
+abbrev pub method_names : MethodTree → List Word
+method_names m = m.name ∷ (m.params ++ names_of m.body)
 
 -- ---- the methods of `attr` lines
 
@@ -304,7 +308,7 @@ field_of text = codes "@" ++ text
 
 -- the method `x` with the body `@x`
 abbrev pub reader_of : Word → MethodTree
-reader_of w = record { name = w; params = []; body = field (record { text = field_of w.text; at = w.at }) ∷ [] }
+reader_of w = record { name = w; params = []; body = field (given (field_of w.text) w.at) ∷ [] }
 
 -- the method `x=` with the parameter `v` and the body `@x = v`
 abbrev pub writer_of : Word → MethodTree
@@ -323,11 +327,11 @@ attribute_methods kind w =
     else if bytes_eq kind (codes "attr_writer") then writer_of w ∷ []
     else reader_of w ∷ writer_of w ∷ []
 
-abbrev pub attribute_names : Text → Text → List Text
-attribute_names kind x =
-    if bytes_eq kind (codes "attr_reader") then x ∷ field_of x ∷ []
-    else if bytes_eq kind (codes "attr_writer") then field_of x ∷ setter_of x ∷ codes "v" ∷ []
-    else x ∷ field_of x ∷ setter_of x ∷ codes "v" ∷ []
+abbrev pub attribute_names : Text → Word → List Word
+attribute_names kind w =
+    if bytes_eq kind (codes "attr_reader") then w ∷ given (field_of w.text) w.at ∷ []
+    else if bytes_eq kind (codes "attr_writer") then given (field_of w.text) w.at ∷ given (setter_of w.text) w.at ∷ given (codes "v") w.at ∷ []
+    else w ∷ given (field_of w.text) w.at ∷ given (setter_of w.text) w.at ∷ given (codes "v") w.at ∷ []
 
 -- ---- gathering
 
@@ -340,14 +344,14 @@ with_method m f = record { methods = m.methods ++ f ∷ []; names = m.names ++ m
 abbrev pub with_attributes : Members → Text → List Word → Members
 with_attributes m kind [] = m
 with_attributes m kind (w ∷ ws) =
-    with_attributes (record { methods = m.methods ++ attribute_methods kind w; names = m.names ++ attribute_names kind w.text; threads = m.threads }) kind ws
+    with_attributes (record { methods = m.methods ++ attribute_methods kind w; names = m.names ++ attribute_names kind w; threads = m.threads }) kind ws
 
 abbrev pub no_items : Items
 no_items = record { classes = []; functions = []; main = []; names = []; threads = [] }
 
 abbrev pub with_class : Items → ClassTree → Items
 with_class i c =
-    record { classes = i.classes ++ c ∷ []; functions = i.functions; main = i.main; names = i.names ++ c.name.text ∷ c.members.names; threads = i.threads ++ c.members.threads }
+    record { classes = i.classes ++ c ∷ []; functions = i.functions; main = i.main; names = i.names ++ c.name ∷ c.members.names; threads = i.threads ++ c.members.threads }
 
 abbrev pub with_function : Items → MethodTree → Items
 with_function i f =
