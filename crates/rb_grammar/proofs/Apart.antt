@@ -1,15 +1,13 @@
 -- The choices of each rule are told apart by the next token.
-use Rattle.std.proofs.Common.{◌≡◌, ℕ, Bool, true, false, ◌&&◌, ◌||◌, not, List, [], ◌∷◌, Option, Some, None, refl}
+use Rattle.std.proofs.Common.{Bool, true, false, Option, Some, None, refl}
 use Rattle.rb_lexer.specs.declared.token.Token.{Token}
-use Rattle.rb_grammar.specs.Look.{Class, Test, other_than}
 use Rattle.rb_grammar.specs.Tree.{Word, Tree, TargetTree}
 use Rattle.rb_grammar.specs.Phrase.{Operand, Head, Part, Tier, Phrase, Value}
 use Rattle.rb_grammar.specs.Phrase.{or_tier, and_tier, equal_tier, less_tier, shift_tier, sum_tier, product_tier, unary_tier}
 use Rattle.rb_grammar.specs.Phrase as p
 use Rattle.rb_grammar.specs.Grammar.{rule, assigning, target_of, tree_of, word_of, negative, called, named, thread, object}
-use Rattle.rb_grammar.specs.Heads.{starts, may_be_empty, empty, heads}
 use Rattle.rb_grammar.proofs.Looks.{every}
-use Rattle.rb_grammar.proofs.Follow.{Apart, follows, implies}
+use Rattle.rb_grammar.proofs.Follow.{Apart, follows}
 
 apart_assigning : (d : Bool) (o : Operand) (target : Option TargetTree) → Apart (assigning d (p.plain o) target) (follows (p.assignment_rest d (p.plain o)))
 apart_assigning d o None = tt

@@ -1,4 +1,5 @@
--- What may stand behind each phrase, and what it is for the two rules of a choice to be told apart by the next token.
+-- What may stand behind each phrase (the follow sets of the grammar), and what it is for the two rules of a choice to be told
+-- apart by the next token.
 use Rattle.std.proofs.Common.{◌≡◌, Bool, true, false, ◌&&◌, ◌||◌, not, List, [], ◌∷◌, ◌++◌}
 use Rattle.rb_lexer.specs.declared.token.Token.{Token}
 use Rattle.rb_grammar.specs.Look.{Class, Test, is, one_of, glued, other_than}

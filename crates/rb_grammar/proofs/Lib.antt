@@ -19,3 +19,7 @@ pub mod Faithfully
 pub mod FaithfulItems
 pub mod FaithfulScript
 pub mod Ends
+pub mod OrderTrees
+pub mod Orderly
+pub mod OrderScript
+pub mod Numbers

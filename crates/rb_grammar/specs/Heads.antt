@@ -1,4 +1,4 @@
--- What may begin a rule, by the next token alone, and what may stand behind a phrase.
+-- What may begin a rule, by the next token alone: the first sets of the grammar.
 use Rattle.std.specs.Prelude.{Bool, true, false, ◌&&◌, ◌||◌, List, [], ◌∷◌, pos}
 use Rattle.rb_tree.specs.declared.span.Span.{Span}
 use Rattle.rb_lexer.specs.declared.token.Token.{Token}

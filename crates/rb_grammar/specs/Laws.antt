@@ -14,7 +14,7 @@ use Rattle.rb_grammar.specs.Nesting.{TooNestedAt}
 use Rattle.rb_grammar.specs.Script.{EndsOnce, IsScript, BeginsNone}
 use Rattle.rb_grammar.specs.Program.{in_order, numbering_of, IsProgram}
 use Rattle.rb_lexer.specs.Spans.{StandInOrder}
-use Rattle.rb_grammar.specs.Order.{Rising, places_of, blocks_of}
+use Rattle.rb_grammar.specs.Order.{Rising, places_of, blocks_of, Distinct, NumberedFrom}
 use Rattle.rb_grammar.specs.Faithful.{Each, ItemsAreFaithful}
 
 -- what is read is spelled so
@@ -85,6 +85,10 @@ NamesAll = (found : Items) → Each (λ w. number_of w.text (in_order (texts fou
 abbrev pub GivesInOrder : Type 0
 GivesInOrder = (limit levels from to : ℕ) (tokens : List Token) (found : Items) → StandInOrder from to tokens → IsScript limit levels tokens found
     → Rising from to (places_of found.names) × Rising from to (blocks_of found.threads)
+
+-- The bodies of the threads of a script have the numbers from 0 on, in the order of the text, where no two blocks stand at one place.
+abbrev pub NumbersBodies : Type 0
+NumbersBodies = (found : Items) → Distinct (blocks_of found.threads) → NumberedFrom (numbering_of found) 0 found.threads
 
 -- What the trees of a script say of their nodes is so: heights, places, and that their numbers hang on the names that the tokens
 -- give and on the threads alone. No node is higher than limit.

@@ -2,7 +2,7 @@
 use Rattle.std.specs.Prelude.{Bool, List, Option}
 use Rattle.rb_tree.specs.declared.span.Span.{Span}
 use Rattle.rb_lexer.specs.declared.token.Token.{Token}
-use Rattle.rb_grammar.specs.Tree.{Text, Word, Tree, BlockTree, PieceTree, MethodTree, ClassTree, Members, Items}
+use Rattle.rb_grammar.specs.Tree.{Word, Tree, BlockTree, PieceTree, MethodTree, ClassTree, Members, Items}
 
 -- an operand that was read, by how it ends: some may still become the target of an assignment
 pub data Operand : Type 0 where

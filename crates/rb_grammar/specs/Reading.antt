@@ -1,4 +1,5 @@
--- The reader on lists: it goes from token to token, and takes of two rules the first that the next token may begin.
+-- The reader on lists: it goes from token to token, and takes of two rules the first that the next token may begin, as one
+-- reads a grammar of the class LL(1).
 use Rattle.std.specs.Prelude.{ℕ, zero, suc, Bool, true, false, ◌&&◌, ◌||◌, nat_le, ◌+◌, ◌*◌, List, [], ◌∷◌, length}
 use Rattle.rb_tree.specs.declared.span.Span.{Span}
 use Rattle.rb_lexer.specs.declared.token.Token.{Token}

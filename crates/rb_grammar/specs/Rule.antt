@@ -1,4 +1,5 @@
--- What a rule of the grammar is, and which tokens it spells.
+-- What a rule of the grammar is, and which tokens it spells. Rules are those of extended Backus-Naur form (ISO/IEC 14977), a
+-- form for each thing that such a rule is made of, with what the rule stands for; side rules of the language are forms too.
 use Rattle.std.specs.Prelude.{◌≡◌, ℕ, suc, ◌≤◌, Bool, true, false, ◌&&◌, ◌||◌, nat_eq, List, [], ◌∷◌}
 use Rattle.rb_tree.specs.declared.span.Span.{Span}
 use Rattle.rb_lexer.specs.declared.token.Token.{Token}
@@ -8,7 +9,7 @@ use Rattle.rb_grammar.specs.Tree.{Text, Tree}
 use Rattle.rb_grammar.specs.Scope.{Scope, is_local}
 use Rattle.rb_grammar.specs.Phrase.{Phrase, Value}
 
--- A rule that stands for an A.
+-- A rule that stands for an A. What follows a part of it may hang on what that part stands for.
 pub data Rule (A : Type 0) : Type 0 where
   -- nothing more
   done : A → Rule A
@@ -22,7 +23,7 @@ pub data Rule (A : Type 0) : Type 0 where
   nested : Span → (n : Phrase) → (Value n → Rule A) → Rule A
   -- a node that is built, which must not be too high, and what follows it
   built : Tree → Rule A → Rule A
-  -- one or the other
+  -- one or the other, in no order
   either : Rule A → Rule A → Rule A
   -- where the next token meets the test
   look : Test → Rule A → Rule A

@@ -1,4 +1,5 @@
--- Which identifiers are locals. A method begins a scope that sees no other; a block's scope sees those round it.
+-- Which identifiers are locals, as Ruby tells local variables from method calls. A method begins a scope that sees no other; a
+-- block's scope sees those round it.
 use Rattle.std.specs.Prelude.{Bool, false, ◌||◌, List, [], ◌∷◌, if◌then◌else◌}
 use Rattle.std.specs.List.{list_any}
 use Rattle.std.specs.Str.{bytes_eq}

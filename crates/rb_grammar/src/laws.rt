@@ -50,6 +50,16 @@ pub fn names_all()
     ensures { law.NamesAll }
 {}
 
+/// The names that the tokens give, and the bodies of threads, stand in the order of the text.
+pub fn names_in_order()
+    ensures { law.GivesInOrder }
+{}
+
+/// The bodies of threads are numbered from 0 in the order of the text.
+pub fn bodies_numbered()
+    ensures { law.NumbersBodies }
+{}
+
 /// What the trees of a script say of their nodes is so, and no node is higher than the limit.
 pub fn faithful()
     ensures { law.IsFaithfulTo }
