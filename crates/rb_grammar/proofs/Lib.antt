@@ -23,3 +23,4 @@ pub mod OrderTrees
 pub mod Orderly
 pub mod OrderScript
 pub mod Numbers
+pub mod Runs

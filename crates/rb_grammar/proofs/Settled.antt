@@ -31,7 +31,7 @@ module _ (limit : ℕ) (reader reader' : ℕ → Reading) (kept : (l : ℕ) (n :
   kept_nest at (suc left) f f' h settled = h left settled
 
   -- a rule answers again what it answers, where the phrases in it do
-  run_kept : {A : Type 0} (r : Rule A) (s : Scope) (seen : Bool) (ts : List Token) → Kept (run limit reader levels r s seen ts) (run limit reader' levels r s seen ts)
+  pub run_kept : {A : Type 0} (r : Rule A) (s : Scope) (seen : Bool) (ts : List Token) → Kept (run limit reader levels r s seen ts) (run limit reader' levels r s seen ts)
   run_kept (done a) s seen ts = λ settled. refl
   run_kept refuse s seen ts = λ settled. refl
   run_kept (token test k) s seen [] = λ settled. refl

@@ -109,7 +109,7 @@ fits (p.chain d unary_tier) = (refl, λ v. tt)
 fits other = search tt
 
 -- each rank is one of the ranks
-rank_low : (n : Phrase) → nat_lt (rank n) ranks ≡ true
+pub rank_low : (n : Phrase) → nat_lt (rank n) ranks ≡ true
 rank_low (p.chain d or_tier) = refl
 rank_low (p.chain d and_tier) = refl
 rank_low (p.chain d equal_tier) = refl
@@ -248,7 +248,7 @@ reading_answers limit (suc turns) levels n s seen ts enough =
     run_answers limit turns (reading limit turns) (λ l n s seen ts. reading_answers limit turns l n s seen ts) levels (rule n) s seen ts (rank n) (may_be_empty n) (fits n) (omega arith)
 
 -- an answer is settled
-answers_settled : {A : Type 0} (may : Bool) (ts : List Token) (o : Outcome A) → Answers may ts o → Settled o
+pub answers_settled : {A : Type 0} (may : Bool) (ts : List Token) (o : Outcome A) → Answers may ts o → Settled o
 answers_settled may ts (read a s seen us) h = tt
 answers_settled may ts (refused us) h = tt
 answers_settled may ts (too_nested at) h = tt

@@ -9,7 +9,8 @@ use Rattle.rb_grammar.specs.Scope.{Scope, top_level}
 use Rattle.rb_grammar.specs.Phrase.{Phrase, Value}
 use Rattle.rb_grammar.specs.Phrase as p
 use Rattle.rb_grammar.specs.Rule.{next_touches}
-use Rattle.rb_grammar.specs.Reading.{read, refused, too_nested, reading, Settled, read_script}
+use Rattle.rb_grammar.specs.Grammar.{rule}
+use Rattle.rb_grammar.specs.Reading.{read, refused, too_nested, reading, Settled, read_script, answer, run}
 use Rattle.rb_grammar.specs.Nesting.{TooNestedAt}
 use Rattle.rb_grammar.specs.Script.{EndsOnce, IsScript, BeginsNone}
 use Rattle.rb_grammar.specs.Program.{in_order, numbering_of, IsProgram}
@@ -30,6 +31,11 @@ IsComplete = (limit levels : ℕ) (tokens : List Token) (found : Items)
 -- the reader has an answer for any tokens
 abbrev pub IsTotal : Type 0
 IsTotal = (limit levels : ℕ) (tokens : List Token) → Settled (read_script limit levels tokens)
+
+-- A phrase is read as its rule says, with the phrases in it read so.
+abbrev pub ReadsByRules : Type 0
+ReadsByRules = (limit levels : ℕ) (n : Phrase) (s : Scope) (looked : Bool) (tokens : List Token)
+    → answer limit levels n s looked tokens ≡ run limit (answer limit) levels (rule n) s looked tokens
 
 -- one token list spells one script, whatever the limits
 abbrev pub HasOneScript : Type 0

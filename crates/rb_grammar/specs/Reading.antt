@@ -91,6 +91,10 @@ Settled other = Unit {0}
 abbrev pub turns_for : List Token → ℕ
 turns_for ts = 19 * (length ts + 1)
 
+-- reading a phrase in turns enough
+unfoldable pub answer : ℕ → ℕ → Reading
+answer limit levels n s seen ts = reading limit (turns_for ts) levels n s seen ts
+
 -- reading a script
 abbrev pub read_script : ℕ → ℕ → List Token → Outcome Items
 read_script limit levels ts = reading_script limit (turns_for ts) levels ts

@@ -17,6 +17,11 @@ pub fn total()
     ensures { law.IsTotal }
 {}
 
+/// A phrase is read as its rule says, with the phrases in it read so.
+pub fn by_rules()
+    ensures { law.ReadsByRules }
+{}
+
 /// One token list spells one script, and so one program, whatever the limits.
 pub fn one_tree()
     ensures script { law.HasOneScript }
