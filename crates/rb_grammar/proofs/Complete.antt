@@ -1,6 +1,6 @@
 -- What is spelled so is read so.
 use Rattle.std.proofs.Common.{◌≡◌, ℕ, zero, suc, Bool, true, false, ◌&&◌, ◌||◌, not, List, [], ◌∷◌, refl, ◌∙◌, ap}
-use Rattle.std.proofs.lemmas.Bool.{le-leb}
+use Rattle.std.proofs.lemmas.Bool.{and_from, and_parts, or_left, or_right, le-leb}
 use Rattle.rb_lexer.specs.declared.token.Token.{Token}
 use Rattle.rb_grammar.specs.Look.{Class, Test, class_of, is}
 use Rattle.rb_grammar.specs.Look as c
@@ -15,26 +15,6 @@ use Rattle.rb_grammar.proofs.Follow.{Apart, follows, implies}
 use Rattle.rb_grammar.proofs.Apart.{apart}
 
 -- ---- tests
-
-or_first : (a b : Bool) → a ≡ true → a || b ≡ true
-or_first true b e = refl
-or_first false b e = absurd (cc)
-
-or_second : (a b : Bool) → b ≡ true → a || b ≡ true
-or_second true b e = refl
-or_second false b e = e
-
-and_both : (a b : Bool) → a ≡ true → b ≡ true → a && b ≡ true
-and_both true b e h = h
-and_both false b e h = e
-
-and_left : (a b : Bool) → a && b ≡ true → a ≡ true
-and_left true b e = refl
-and_left false b e = e
-
-and_right : (a b : Bool) → a && b ≡ true → b ≡ true
-and_right true b e = e
-and_right false b e = absurd (cc)
 
 implied : (a b : Bool) → implies a b ≡ true → a ≡ true → b ≡ true
 implied true b e h = e
@@ -63,15 +43,14 @@ met_at_next test (t ∷ ts) e = e
 
 first_or : (a b d : Bool) → a || (b && d) ≡ true → a || b ≡ true
 first_or true b d e = refl
-first_or false b d e = and_left b d e
+first_or false b d e = (and_parts b d e).0
 
 arguments_begin : (ts : List Token) → arguments_follow ts ≡ true → at_next may_begin_arguments ts ≡ true
 arguments_begin [] e = absurd (cc)
 arguments_begin (t ∷ ts) e =
-    let spaced = and_left t.spaced (begins_arguments (class_of t.kind) t.spaced || (is c.minus (class_of t.kind) t.spaced && next_touches t.at ts)) e in
-    let one = and_right t.spaced (begins_arguments (class_of t.kind) t.spaced || (is c.minus (class_of t.kind) t.spaced && next_touches t.at ts)) e in
-    and_both t.spaced (begins_arguments (class_of t.kind) t.spaced || is c.minus (class_of t.kind) t.spaced) spaced
-    (first_or (begins_arguments (class_of t.kind) t.spaced) (is c.minus (class_of t.kind) t.spaced) (next_touches t.at ts) one)
+    let both = and_parts t.spaced (begins_arguments (class_of t.kind) t.spaced || (is c.minus (class_of t.kind) t.spaced && next_touches t.at ts)) e in
+    and_from t.spaced (begins_arguments (class_of t.kind) t.spaced || is c.minus (class_of t.kind) t.spaced) both.0
+    (first_or (begins_arguments (class_of t.kind) t.spaced) (is c.minus (class_of t.kind) t.spaced) (next_touches t.at ts) both.1)
 
 -- ---- the first token of what is spelled
 
@@ -89,17 +68,17 @@ module _ (limit : ℕ) (inner : ℕ → Spelling) (begun : (l : ℕ) (n : Phrase
   rule_begun r s ts a s' us (opens {n = n} {k = k} {s1 = s1} {us = ms} {v = v} {left = left} count i d) at_end e =
       begun left n s ts v s1 ms i (λ w class spaced. heads (k w) (λ b. at_end b class spaced) class spaced) (rule_begun (k v) s1 ms a s' us d at_end e)
   rule_begun r s ts a s' us (builds {p = p} h d) at_end e = rule_begun p s ts a s' us d at_end e
-  rule_begun r s ts a s' us (first {p = p} {q = q} d) at_end e = or_first _ _ (rule_begun p s ts a s' us d at_end e)
-  rule_begun r s ts a s' us (second {p = p} {q = q} d) at_end e = or_second _ _ (rule_begun q s ts a s' us d at_end e)
-  rule_begun r s ts a s' us (looks {test = test} {p = p} met d) at_end e = and_both _ _ (met_at_next test ts met) (rule_begun p s ts a s' us d at_end e)
-  rule_begun r s ts a s' us (picks {p = p} {q = q} d) at_end e = or_first _ _ (rule_begun p s ts a s' us d at_end e)
-  rule_begun r s ts a s' us (picks_not {p = p} {q = q} d) at_end e = or_second _ _ (rule_begun q s ts a s' us d at_end e)
-  rule_begun r s ts a s' us (knows {p = p} {q = q} h d) at_end e = or_first _ _ (rule_begun p s ts a s' us d at_end e)
-  rule_begun r s ts a s' us (touches {p = p} {q = q} h d) at_end e = or_first _ _ (rule_begun p s ts a s' us d at_end e)
-  rule_begun r s ts a s' us (knows_not {p = p} {q = q} h d) at_end e = or_second _ _ (rule_begun q s ts a s' us d at_end e)
-  rule_begun r s ts a s' us (touches_not {p = p} {q = q} h d) at_end e = or_second _ _ (rule_begun q s ts a s' us d at_end e)
-  rule_begun r s ts a s' us (commands {p = p} {q = q} h d) at_end e = or_first _ _ (and_both _ _ (arguments_begin ts h) (rule_begun p s ts a s' us d at_end e))
-  rule_begun r s ts a s' us (commands_not {p = p} {q = q} h d) at_end e = or_second _ _ (rule_begun q s ts a s' us d at_end e)
+  rule_begun r s ts a s' us (first {p = p} {q = q} d) at_end e = or_left _ _ (rule_begun p s ts a s' us d at_end e)
+  rule_begun r s ts a s' us (second {p = p} {q = q} d) at_end e = or_right _ _ (rule_begun q s ts a s' us d at_end e)
+  rule_begun r s ts a s' us (looks {test = test} {p = p} met d) at_end e = and_from _ _ (met_at_next test ts met) (rule_begun p s ts a s' us d at_end e)
+  rule_begun r s ts a s' us (picks {p = p} {q = q} d) at_end e = or_left _ _ (rule_begun p s ts a s' us d at_end e)
+  rule_begun r s ts a s' us (picks_not {p = p} {q = q} d) at_end e = or_right _ _ (rule_begun q s ts a s' us d at_end e)
+  rule_begun r s ts a s' us (knows {p = p} {q = q} h d) at_end e = or_left _ _ (rule_begun p s ts a s' us d at_end e)
+  rule_begun r s ts a s' us (touches {p = p} {q = q} h d) at_end e = or_left _ _ (rule_begun p s ts a s' us d at_end e)
+  rule_begun r s ts a s' us (knows_not {p = p} {q = q} h d) at_end e = or_right _ _ (rule_begun q s ts a s' us d at_end e)
+  rule_begun r s ts a s' us (touches_not {p = p} {q = q} h d) at_end e = or_right _ _ (rule_begun q s ts a s' us d at_end e)
+  rule_begun r s ts a s' us (commands {p = p} {q = q} h d) at_end e = or_left _ _ (and_from _ _ (arguments_begin ts h) (rule_begun p s ts a s' us d at_end e))
+  rule_begun r s ts a s' us (commands_not {p = p} {q = q} h d) at_end e = or_right _ _ (rule_begun q s ts a s' us d at_end e)
   rule_begun r s ts a s' us (changes {f = f} {p = p} d) at_end e = rule_begun p (f s) ts a s' us d at_end e
 
 phrase_begun : (limit depth levels : ℕ) (n : Phrase) (s : Scope) (ts : List Token) (v : Value n) (s' : Scope) (us : List Token) → spelled limit depth levels n s ts v s' us → Begun n ts v us

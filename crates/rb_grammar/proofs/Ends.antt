@@ -22,7 +22,7 @@ use Rattle.rb_grammar.specs.Heads.{begins}
 use Rattle.rb_grammar.specs.Reading.{Outcome, read, refused, too_nested, spent, Reader, Reading, from_refused, is_looked_behind, and_then, when, nest, run, reading, read_script, turns_for}
 use Rattle.rb_grammar.specs.Script.{EndsOnce}
 use Rattle.rb_grammar.specs.Laws.{EndsWithTokens}
-use Rattle.rb_grammar.proofs.Local.{Held}
+use Rattle.rb_grammar.proofs.Local.{Held, or_held, unset_held}
 
 -- ---- rules that take no end
 
@@ -230,15 +230,6 @@ refused_left false ts held once = once
 refused_left true [] held once = absurd once
 refused_left true (t ∷ ts) held once = end_left (λ class spaced. spaced && is c.minus class spaced) misses_minus t ts once (held refl)
 
--- the flag is set at a spaced minus alone where the reader looks for the arguments of a command
-held_or : (behind seen : Bool) → (seen ≡ true → behind ≡ true) → behind || seen ≡ true → behind ≡ true
-held_or true seen held set = refl
-held_or false seen held set = held set
-
--- a flag that is not set is set nowhere
-held_unset : (ts : List Token) → Held false ts
-held_unset ts set = absurd (cc)
-
 -- ---- what the reader leaves
 
 -- Where something is read, this is so of the flag and the tokens that are left. Where it is refused, the tokens from there on
@@ -290,7 +281,7 @@ module _ (limit : ℕ) (reader : ℕ → Reading) (before : AllLeave false Befor
   run_before (token test k) s seen [] clear once held = once
   run_before (token test k) s seen (t ∷ ts) clear once held =
       leaves_when Before (test (class_of t.kind) t.spaced) (λ u. run limit reader levels (k t) s false ts) (λ u. refused (from_refused seen (t ∷ ts)))
-      (λ meets. run_before (k t) s false ts (clear.1 t) (end_left test clear.0 t ts once meets) (held_unset ts))
+      (λ meets. run_before (k t) s false ts (clear.1 t) (end_left test clear.0 t ts once meets) (unset_held ts))
       (λ fails. refused_left seen (t ∷ ts) held once)
   run_before (phrase n k) s seen ts clear once held =
       leaves_then Before Before (reader levels n s seen ts) (λ v. run limit reader levels (k v)) (before levels n s seen ts clear.0 once held)
@@ -319,7 +310,7 @@ module _ (limit : ℕ) (reader : ℕ → Reading) (before : AllLeave false Befor
       (λ holds. run_before q s seen ts clear.0 once held) (λ fails. run_before r s seen ts clear.1 once held)
   run_before (ahead q r) s seen ts clear once held =
       let flag : Bool = is_looked_behind ts || seen in
-      let holding : Held flag ts = held_or (is_looked_behind ts) seen held in
+      let holding : Held flag ts = or_held (is_looked_behind ts) seen held in
       leaves_when Before (arguments_follow ts) (λ u. run limit reader levels q s flag ts) (λ u. run limit reader levels r s flag ts)
       (λ holds. run_before q s flag ts clear.0 once holding) (λ fails. run_before r s flag ts clear.1 once holding)
   run_before (scope f r) s seen ts clear once held = run_before r (f s) seen ts clear once held
@@ -335,7 +326,7 @@ module _ (limit : ℕ) (reader : ℕ → Reading) (before : AllLeave false Befor
   run_behind (token test k) s seen [] goes once held = once
   run_behind (token test k) s seen (t ∷ ts) (inl goes) once held =
       leaves_when Behind (test (class_of t.kind) t.spaced) (λ u. run limit reader levels (k t) s false ts) (λ u. refused (from_refused seen (t ∷ ts)))
-      (λ meets. run_behind (k t) s false ts (goes.1 t) (end_left test goes.0 t ts once meets) (held_unset ts))
+      (λ meets. run_behind (k t) s false ts (goes.1 t) (end_left test goes.0 t ts once meets) (unset_held ts))
       (λ fails. refused_left seen (t ∷ ts) held once)
   run_behind (token test k) s seen (t ∷ ts) (inr ends) once held =
       leaves_when Behind (test (class_of t.kind) t.spaced) (λ u. run limit reader levels (k t) s false ts) (λ u. refused (from_refused seen (t ∷ ts)))
@@ -374,5 +365,5 @@ reading_behind limit (suc turns) levels n s seen ts whole once held =
 pub script_ends : EndsWithTokens
 script_ends limit levels tokens once =
     let left : Leaves Behind (read_script limit levels tokens) =
-    reading_behind limit (turns_for tokens) levels (p.items no_items) top_level false tokens refl once (held_unset tokens) in
+    reading_behind limit (turns_for tokens) levels (p.items no_items) top_level false tokens refl once (unset_held tokens) in
     (λ us e. some_left us (subst (λ o. Leaves Behind o) e left), λ found s seen us e. subst (λ o. Leaves Behind o) e left)

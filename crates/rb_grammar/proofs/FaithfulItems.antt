@@ -8,7 +8,8 @@ use Rattle.rb_grammar.specs.Tree.{Text, Word, Numbering, Thread, Tree, MethodTre
 use Rattle.rb_grammar.specs.Tree.{names_of, threads_of, texts, method_by, class_by, method_names, field_of, setter_of, reader_of, writer_of}
 use Rattle.rb_grammar.specs.Tree as tree
 use Rattle.rb_grammar.specs.Faithful.{Each, Agree, IsFaithful, MethodIsFaithful, ClassIsFaithful, ItemsAreFaithful}
-use Rattle.rb_grammar.proofs.FaithfulTrees.{each_left, each_right, each_append, SameNames, SameBodies, SameBlocks, LowBlocks, names_left, names_right, nodes_same, params_same}
+use Rattle.rb_grammar.proofs.Each.{each_left, each_right, each_append}
+use Rattle.rb_grammar.proofs.FaithfulTrees.{SameNames, SameBodies, SameBlocks, LowBlocks, names_left, names_right, nodes_same, params_same}
 use Rattle.rb_grammar.proofs.FaithfulTrees.{trees_named, trees_bodied, trees_bodies_low, local_faithful, field_faithful, assigned_made}
 use Rattle.rb_grammar.proofs.Faithfully.{MembersAreFaithful}
 

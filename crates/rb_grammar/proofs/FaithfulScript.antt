@@ -18,7 +18,8 @@ use Rattle.rb_grammar.specs.Grammar.{called, thread, object, command_of, command
 use Rattle.rb_grammar.specs.Laws.{IsFaithfulTo}
 use Rattle.rb_grammar.specs.Faithful.{Each, IsFaithful}
 use Rattle.rb_grammar.proofs.Placed.{place-nil, place-false, place-true, place-self, place-break, place-next}
-use Rattle.rb_grammar.proofs.FaithfulTrees.{each_append, WellMade, faithful_made, TargetIsFaithful, local_faithful, field_faithful, global_faithful}
+use Rattle.rb_grammar.proofs.Each.{each_append}
+use Rattle.rb_grammar.proofs.FaithfulTrees.{WellMade, faithful_made, TargetIsFaithful, local_faithful, field_faithful, global_faithful}
 use Rattle.rb_grammar.proofs.FaithfulTrees.{symbol_faithful, integer_faithful, constant_faithful, return_nothing_faithful, return_value_made}
 use Rattle.rb_grammar.proofs.FaithfulTrees.{call_made, call_of_made, call_with_block_made, binary_made, negated_made, minus_made, and_also_made}
 use Rattle.rb_grammar.proofs.FaithfulTrees.{or_else_made, index_made, new_made, thread_new_made, string_made, array_made, hash_made, choice_made}

@@ -12,6 +12,7 @@ pub mod Wider
 pub mod Whole
 pub mod Examples
 pub mod Turns
+pub mod Each
 pub mod Naming
 pub mod Placed
 pub mod FaithfulTrees

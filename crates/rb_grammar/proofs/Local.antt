@@ -2,7 +2,7 @@
 -- minus it may have seen whether the next token is glued. And wider limits, more turns and more levels keep every answer that
 -- is read or refused.
 use Rattle.std.proofs.Common.{◌≡◌, ℕ, zero, suc, ◌≤◌, Bool, true, false, ◌&&◌, ◌||◌, nat_le, List, [], ◌∷◌, ◌++◌, refl, sym, ◌∙◌, ap, subst, append_assoc, arith}
-use Rattle.std.proofs.lemmas.Bool.{leb-true, le-leb}
+use Rattle.std.proofs.lemmas.Bool.{or_left, or_right, leb-true, le-leb}
 use Rattle.rb_tree.specs.declared.span.Span.{Span}
 use Rattle.rb_lexer.specs.declared.token.Token.{Token}
 use Rattle.rb_grammar.specs.Look.{Test, class_of, is}
@@ -90,17 +90,8 @@ nothing_second : (us vs : List Token) → us ++ vs ≡ [] → vs ≡ []
 nothing_second [] vs e = e
 nothing_second (u ∷ us) vs e = absurd (cc)
 
--- what one of two flags says, both say together
-or_left : (a b : Bool) → a ≡ true → a || b ≡ true
-or_left true b e = refl
-or_left false b e = absurd (cc)
-
-or_right : (a b : Bool) → b ≡ true → a || b ≡ true
-or_right true b e = refl
-or_right false b e = e
-
 -- where the second flag is set only if the first is, both together say what the first says
-or_held : (a b : Bool) → (b ≡ true → a ≡ true) → a || b ≡ true → a ≡ true
+pub or_held : (a b : Bool) → (b ≡ true → a ≡ true) → a || b ≡ true → a ≡ true
 or_held true b h e = refl
 or_held false b h e = h e
 
@@ -386,7 +377,7 @@ module _ (limit limit' : ℕ) (wider : limit ≤ limit') where
       run_local limit limit' wider (reading limit turns) (reading limit' turns') (reading_local turns turns' (omega arith)) levels levels' deeper (rule n) s seen ts h
 
 -- a flag that is not set is set nowhere else than at a spaced minus
-unset_held : (ts : List Token) → Held false ts
+pub unset_held : (ts : List Token) → Held false ts
 unset_held ts set = absurd (cc)
 
 -- What is read of a phrase hangs on no token behind the one at which it stops.

@@ -1,5 +1,6 @@
 -- What holds of each class holds of all: a fact about every class is one computation.
 use Rattle.std.proofs.Common.{◌≡◌, ℕ, zero, suc, Bool, true, false, ◌&&◌, List, [], ◌∷◌, Option, Some, None, refl, sym, subst}
+use Rattle.std.proofs.lemmas.Bool.{and_parts}
 use Rattle.rb_grammar.specs.Look.{Class, Test}
 use Rattle.rb_grammar.specs.Look as look
 
@@ -11,14 +12,6 @@ abbrev pub holds_of : Test → List Class → Bool
 holds_of test [] = true
 holds_of test (c ∷ cs) = test c true && (test c false && holds_of test cs)
 
-and_left : (a b : Bool) → a && b ≡ true → a ≡ true
-and_left true b e = refl
-and_left false b e = absurd (cc)
-
-and_right : (a b : Bool) → a && b ≡ true → b ≡ true
-and_right true b e = e
-and_right false b e = absurd (cc)
-
 -- a class stands in a list
 pub data Among (c : Class) : List Class → Type 0 where
   first : {cs : List Class} → Among c (c ∷ cs)
@@ -26,9 +19,9 @@ pub data Among (c : Class) : List Class → Type 0 where
 
 holds_at : (test : Test) (c : Class) (cs : List Class) → Among c cs → holds_of test cs ≡ true → (spaced : Bool) → test c spaced ≡ true
 holds_at test c [] i e spaced = elim i [ ]
-holds_at test c (d ∷ cs) first e true = and_left (test c true) (test c false && holds_of test cs) e
-holds_at test c (d ∷ cs) first e false = and_left (test c false) (holds_of test cs) (and_right (test c true) (test c false && holds_of test cs) e)
-holds_at test c (d ∷ cs) (later i) e spaced = holds_at test c cs i (and_right (test d false) (holds_of test cs) (and_right (test d true) (test d false && holds_of test cs) e)) spaced
+holds_at test c (d ∷ cs) first e true = (and_parts (test c true) (test c false && holds_of test cs) e).0
+holds_at test c (d ∷ cs) first e false = (and_parts (test c false) (holds_of test cs) (and_parts (test c true) (test c false && holds_of test cs) e).1).0
+holds_at test c (d ∷ cs) (later i) e spaced = holds_at test c cs i (and_parts (test d false) (holds_of test cs) (and_parts (test d true) (test d false && holds_of test cs) e).1).1 spaced
 
 -- the class that stands at this place of a list
 abbrev at : List Class → ℕ → Option Class

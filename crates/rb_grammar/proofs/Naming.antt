@@ -2,6 +2,7 @@
 use Rattle.std.proofs.Common.{◌≡◌, ℕ, suc, ◌+◌, ◌<◌, Bool, true, false, ◌||◌, not, cond, List, [], ◌∷◌, ◌++◌, length, fold, Option, Some, None, position, bytes_eq, refl, sym, ◌∙◌, ap, arith}
 use Rattle.std.specs.List.{list_any, position_or_len}
 use Rattle.std.specs.Option.{option_map}
+use Rattle.std.proofs.lemmas.Bool.{or_left, or_right}
 use Rattle.std.proofs.lemmas.List.Folds.{list_any-append}
 use Rattle.rb_tree.specs.Texts.{number_of, with_text}
 use Rattle.rb_tree.proofs.Numbering.{bytes_eq-same, position_within}
@@ -9,14 +10,7 @@ use Rattle.rb_grammar.specs.Tree.{Text, Word, texts}
 use Rattle.rb_grammar.specs.Program.{numbering_of, in_order, id_or_first}
 use Rattle.rb_grammar.specs.Faithful.{Each}
 use Rattle.rb_grammar.specs.Laws.{NamesAll}
-
-or_first : (a b : Bool) → a ≡ true → (a || b) ≡ true
-or_first true b e = refl
-or_first false b e = absurd (cc)
-
-or_second : (a b : Bool) → b ≡ true → (a || b) ≡ true
-or_second true b e = refl
-or_second false b e = e
+use Rattle.rb_grammar.proofs.Each.{each_map}
 
 -- a text is among the names
 abbrev Named : Text → List Text → Type 0
@@ -44,11 +38,11 @@ named_has_number text names h =
 -- one more name keeps those that are there, and is there itself
 kept_by : (text new : Text) (names : List Text) (b : Bool) → Named text names → Named text (cond b names (names ++ new ∷ []))
 kept_by text new names true h = h
-kept_by text new names false h = list_any-append (bytes_eq text) names (new ∷ []) ∙ or_first _ _ h
+kept_by text new names false h = list_any-append (bytes_eq text) names (new ∷ []) ∙ or_left _ _ h
 
 added_by : (text : Text) (names : List Text) (b : Bool) → list_any (bytes_eq text) names ≡ b → Named text (cond b names (names ++ text ∷ []))
 added_by text names true h = h
-added_by text names false h = list_any-append (bytes_eq text) names (text ∷ []) ∙ or_second _ _ (or_first _ _ (bytes_eq-same text text refl))
+added_by text names false h = list_any-append (bytes_eq text) names (text ∷ []) ∙ or_right _ _ (or_left _ _ (bytes_eq-same text text refl))
 
 kept_by_all : (text : Text) (texts names : List Text) → Named text names → Named text (fold (λ ns x. with_text ns x) names texts)
 kept_by_all text [] names h = h
@@ -59,10 +53,6 @@ all_named : (texts names : List Text) → Each (λ text. Named text (fold (λ ns
 all_named [] names = tt
 all_named (x ∷ xs) names = (kept_by_all x xs (with_text names x) (added_by x names (list_any (bytes_eq x) names) refl), all_named xs (with_text names x))
 
-each_more : {P Q : Text → Type 0} → ((x : Text) → P x → Q x) → (xs : List Text) → Each P xs → Each Q xs
-each_more f [] h = tt
-each_more f (x ∷ xs) h = (f x h.0, each_more f xs h.1)
-
 -- a fact of each text is one of each word
 each_of_words : (P : Text → Type 0) (ws : List Word) → Each P (texts ws) → Each (λ w. P w.text) ws
 each_of_words P [] h = tt
@@ -71,4 +61,5 @@ each_of_words P (w ∷ ws) h = (h.0, each_of_words P ws h.1)
 pub names_all : NamesAll
 names_all found =
     each_of_words (λ text. number_of text (in_order (texts found.names)) ≡ Some ((numbering_of found).name text)) found.names
-    (each_more (λ text. named_has_number text (in_order (texts found.names))) (texts found.names) (all_named (texts found.names) []))
+    (each_map (λ text. Named text (in_order (texts found.names))) (λ text. number_of text (in_order (texts found.names)) ≡ Some ((numbering_of found).name text))
+    (λ text. named_has_number text (in_order (texts found.names))) (texts found.names) (all_named (texts found.names) []))

@@ -26,6 +26,7 @@ pub record IsFaithful (limit : ℕ) (a : Tree) : Type 0 where
   -- and no node in those bodies is higher than limit
   pub bodies_low : (n : Numbering) → Each (λ t. block_height (t.block n) ≤ limit) a.threads
 
+-- each statement of a method is faithful, and each method of a class
 abbrev pub MethodIsFaithful : ℕ → MethodTree → Type 0
 MethodIsFaithful limit m = Each (IsFaithful limit) m.body
 

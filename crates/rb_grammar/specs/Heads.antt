@@ -25,6 +25,7 @@ next_spaced (t ∷ ts) = t.spaced
 
 -- ---- what begins a phrase
 
+-- an operand without its mark, then one with it, then a statement
 abbrev pub begins_primary : List Class
 begins_primary =
     c.int ∷ c.text_open ∷ c.symbol ∷ c.nil_word ∷ c.true_word ∷ c.false_word ∷ c.self_word ∷ c.field ∷ c.global
@@ -41,6 +42,7 @@ begins_statement = c.return_word ∷ c.break_word ∷ c.next_word ∷ begins_exp
 abbrev pub continues : Tier → Test
 continues tier = one_of (operators tier)
 
+-- what begins a block, and what goes on with an operand
 abbrev pub opens_block : Bool → Test
 opens_block d class spaced = is c.open_brace class spaced || allowed d c.do_word class spaced
 
@@ -112,6 +114,7 @@ may_be_empty (p.chain_rest d tier part) = true
 may_be_empty (p.command_arguments_rest found) = true
 may_be_empty other = false
 
+-- a place, a word and a tree for phrases that cannot be empty
 abbrev pub nowhere : Span
 nowhere = record { from = 0; to = 0 }
 

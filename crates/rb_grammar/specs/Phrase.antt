@@ -25,7 +25,7 @@ pub data Part : Type 0 where
   plain : Operand → Part
   head : Head → Part
 
--- the operators between two operands, the loosest first, and what stands between them at last
+-- the operators between two operands by how tightly they bind, the loosest first; the last has none: an operand with its marks
 pub data Tier : Type 0 where
   or_tier and_tier equal_tier less_tier shift_tier sum_tier product_tier unary_tier : Tier
 
@@ -67,6 +67,7 @@ pub data Phrase : Type 0 where
   bar_params_rest : List Word → Phrase
   block_body : Bool → Span → List Word → Phrase
 
+-- what a phrase stands for
 abbrev pub Value : Phrase → Type 0
 Value (items found) = Items
 Value (items_rest found) = Items

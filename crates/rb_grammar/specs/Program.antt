@@ -11,6 +11,7 @@ use Rattle.rb_grammar.specs.Script.{IsScript}
 abbrev pub in_order : List Text → List Text
 in_order texts = fold (λ names text. with_text names text) [] texts
 
+-- what was found, or the first where nothing was: names and threads of a script are always found
 abbrev pub id_or_first : Option NameId → NameId
 id_or_first None = record { 0 = 0 }
 id_or_first (Some id) = id

@@ -13,14 +13,17 @@ pub data Frame : Type 0 where
 abbrev pub Scope : Type 0
 Scope = List Frame
 
+-- the scope of the statements outside methods, before the first of them
 abbrev pub top_level : Scope
 top_level = method [] ∷ []
 
+-- whether a name is a local here: the scopes count up to that of the innermost method
 abbrev pub is_local : Text → Scope → Bool
 is_local text [] = false
 is_local text (method names ∷ outer) = list_any (bytes_eq text) names
 is_local text (block names ∷ outer) = list_any (bytes_eq text) names || is_local text outer
 
+-- behind the beginning of a method's scope, and of a block's
 abbrev pub enter_method : Scope → Scope
 enter_method scope = method [] ∷ scope
 

@@ -48,12 +48,14 @@ pub record Tree : Type 0 where
   pub names : List Word
   pub threads : List Thread
 
+-- what trees say of their nodes, each tree in turn
 abbrev pub heights : List Tree → List ℕ
 heights = map (λ a. a.height)
 
 abbrev pub nodes : Numbering → List Tree → List Node
 nodes n = map (λ a. a.node n)
 
+-- the names and the threads in the text of trees that stand one behind the other
 abbrev pub names_of : List Tree → List Word
 names_of [] = []
 names_of (a ∷ more) = a.names ++ names_of more
@@ -84,9 +86,11 @@ global w = leaf w.at (w ∷ []) (λ n. node.Global (n.name w.text) w.at)
 abbrev pub symbol : Word → Tree
 symbol w = leaf w.at (w ∷ []) (λ n. node.Sym (n.name w.text) w.at)
 
+-- a number as it is written, with its minus
 abbrev pub integer : ℤ → Span → Tree
 integer value at = leaf at [] (λ n. node.Int value at)
 
+-- `nil`, `true`, `false` and `self`, and `break` and `next`
 abbrev pub constant : (Span → Node) → Span → Tree
 constant make at = leaf at [] (λ n. make at)
 
@@ -101,6 +105,7 @@ pub record BlockTree : Type 0 where
 abbrev pub texts : List Word → List Text
 texts = map (λ w. w.text)
 
+-- the parts of a node under a numbering
 abbrev pub params_by : Numbering → List Word → List Param
 params_by n = map (λ w. record { name = n.name w.text; at = w.at })
 
@@ -116,6 +121,7 @@ call None w args = branch w.at (w ∷ names_of args) args (λ n. node.Call None 
 call (Some a) w args =
     branch w.at (a.names ++ w ∷ names_of args) (a ∷ args) (λ n. node.Call (Some (a.node n)) (n.name w.text) (nodes n args) None w.at)
 
+-- the same with a block, which has a receiver
 abbrev pub call_with_block : Tree → Word → List Tree → BlockTree → Tree
 call_with_block a w args b =
     branch w.at (a.names ++ w ∷ (names_of args ++ block_names b)) (a ∷ (args ++ b.body))
@@ -137,6 +143,7 @@ minus_name = codes "-@"
 abbrev pub minus : Span → Tree → Tree
 minus at a = branch at (given minus_name at ∷ a.names) (a ∷ []) (λ n. node.Call (Some (a.node n)) (n.name minus_name) [] None at)
 
+-- `a && b`, and `a || b`
 abbrev pub and_also : Span → Tree → Tree → Tree
 and_also at a b = branch at (a.names ++ b.names) (a ∷ b ∷ []) (λ n. node.And (a.node n) (b.node n) at)
 
@@ -183,13 +190,16 @@ piece_by n (code a) = piece.Code (a.node n)
 abbrev pub string : Span → List PieceTree → Tree
 string at pieces = branch at (names_of (code_of pieces)) (code_of pieces) (λ n. node.Str (map (piece_by n) pieces) at)
 
+-- `[a, b]`
 abbrev pub array : Span → List Tree → Tree
 array at items = branch at (names_of items) items (λ n. node.Array (nodes n items) at)
 
+-- keys and values in turn
 abbrev pub flat : List (Tree × Tree) → List Tree
 flat [] = []
 flat (p ∷ ps) = p.0 ∷ p.1 ∷ flat ps
 
+-- `{a => b}`
 abbrev pub hash : Span → List (Tree × Tree) → Tree
 hash at pairs = branch at (names_of (flat pairs)) (flat pairs) (λ n. node.Hash (map (λ p. (p.0.node n, p.1.node n)) pairs) at)
 
@@ -201,10 +211,11 @@ choice at condition first second =
     branch at (condition.names ++ (names_of first ++ names_of second)) (condition ∷ (first ++ second))
     (λ n. node.If (condition.node n) (nodes n first) (nodes n second) at)
 
+-- a loop, with its condition before the body
 abbrev pub loop : Span → Tree → List Tree → Tree
 loop at condition body = branch at (condition.names ++ names_of body) (condition ∷ body) (λ n. node.While (condition.node n) (nodes n body) at)
 
--- the same with the condition behind the body
+-- `body if condition` and `body while condition`: the condition stands behind the body
 abbrev pub choice_behind : Span → Tree → Tree → Tree
 choice_behind at body condition =
     branch at (body.names ++ condition.names) (body ∷ condition ∷ []) (λ n. node.If (condition.node n) (body.node n ∷ []) [] at)
@@ -213,6 +224,7 @@ abbrev pub loop_behind : Span → Tree → Tree → Tree
 loop_behind at body condition =
     branch at (body.names ++ condition.names) (body ∷ condition ∷ []) (λ n. node.While (condition.node n) (body.node n ∷ []) at)
 
+-- `return`, and `return a`
 abbrev pub return_nothing : Span → Tree
 return_nothing at = leaf at [] (λ n. node.Return None at)
 
@@ -227,6 +239,7 @@ pub data TargetTree : Type 0 where
   to_index : Tree → Tree → Span → TargetTree
   to_attribute : Tree → Word → TargetTree
 
+-- the methods that `receiver[index] = value` and `receiver.name = value` call
 abbrev pub store_name : Text
 store_name = codes "[]="
 
@@ -243,6 +256,7 @@ assigned (to_index r i bracket) at a =
 assigned (to_attribute r w) at a =
     branch at (r.names ++ given (setter_of w.text) w.at ∷ a.names) (r ∷ a ∷ []) (λ n. node.Store (r.node n) (n.name (setter_of w.text)) (a.node n ∷ []) at)
 
+-- the target of `+=` and the like, under a numbering, with the names and the trees in its text
 abbrev pub target_by : Numbering → TargetTree → Target
 target_by n (to_local w) = target.Local (n.name w.text)
 target_by n (to_field w) = target.Field (n.name w.text)
@@ -292,6 +306,7 @@ pub record Items : Type 0 where
   pub names : List Word
   pub threads : List Thread
 
+-- methods and classes under a numbering, and the names in the text of a method
 abbrev pub method_by : Numbering → MethodTree → Method
 method_by n m = record { name = n.name m.name.text; params = params_by n m.params; body = nodes n m.body; at = m.name.at }
 
@@ -313,11 +328,11 @@ reader_of w = record { name = w; params = []; body = field (given (field_of w.te
 -- the method `x=` with the parameter `v` and the body `@x = v`
 abbrev pub writer_of : Word → MethodTree
 writer_of w =
-    let value : Word = record { text = codes "v"; at = w.at } in
+    let value : Word = given (codes "v") w.at in
     record {
-      name = record { text = setter_of w.text; at = w.at };
+      name = given (setter_of w.text) w.at;
       params = value ∷ [];
-      body = assigned (to_field (record { text = field_of w.text; at = w.at })) w.at (local value) ∷ [];
+      body = assigned (to_field (given (field_of w.text) w.at)) w.at (local value) ∷ [];
     }
 
 -- what the word of an `attr` line makes of a symbol, and the names that the symbol gives
@@ -333,7 +348,7 @@ attribute_names kind w =
     else if bytes_eq kind (codes "attr_writer") then given (field_of w.text) w.at ∷ given (setter_of w.text) w.at ∷ given (codes "v") w.at ∷ []
     else w ∷ given (field_of w.text) w.at ∷ given (setter_of w.text) w.at ∷ given (codes "v") w.at ∷ []
 
--- ---- gathering
+-- ---- gathering: what was read so far, with one more behind it
 
 abbrev pub no_members : Members
 no_members = record { methods = []; names = []; threads = [] }

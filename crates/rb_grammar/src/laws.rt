@@ -38,13 +38,15 @@ pub fn ends_with_tokens()
     ensures { law.EndsWithTokens }
 {}
 
-/// Answers hang on no token behind the one at which the reader ends, and stay within wider limits.
+/// Answers hang on no token behind the one at which the reader ends, but for a look at whether a token is glued to the minus
+/// before it, and stay within wider limits.
 pub fn local()
     ensures refused { law.RefusesLocally }
     ensures read { law.ReadsLocally }
 {}
 
-/// Something is nested too deep only where a limit is passed, and always where a script is not within the limits.
+/// Something is nested too deep only where a limit is passed, for heights from 2 on, and always where a script is not within
+/// the limits.
 pub fn too_nested()
     ensures only { law.NestsRightly }
     ensures always { law.KeepsLimits }
@@ -60,12 +62,12 @@ pub fn names_in_order()
     ensures { law.GivesInOrder }
 {}
 
-/// The bodies of threads are numbered from 0 in the order of the text.
+/// The bodies of threads are numbered from 0 in the order of the text, where no two blocks stand at one place.
 pub fn bodies_numbered()
     ensures { law.NumbersBodies }
 {}
 
-/// What the trees of a script say of their nodes is so, and no node is higher than the limit.
+/// What the trees of a script say of their nodes is so, and no node is higher than the limit, for limits from 2 on.
 pub fn faithful()
     ensures { law.IsFaithfulTo }
 {}
