@@ -20,7 +20,7 @@ use Rattle.rb_grammar.specs.Rule.{Rule, done, refuse, token, phrase, nested, bui
 use Rattle.rb_grammar.specs.Grammar.{rule, allowed, closing, operators, operand, joined, chained, assigning, target_of, called, thread, commanded, opposite}
 use Rattle.rb_grammar.specs.Heads.{begins}
 use Rattle.rb_grammar.specs.Reading.{Outcome, read, refused, too_nested, spent, Reader, Reading, from_refused, is_looked_behind, and_then, when, nest, run, reading, read_script, turns_for}
-use Rattle.rb_grammar.specs.Script.{EndsOnce}
+use Rattle.rb_lexer.specs.Spans.{EndsOnce}
 use Rattle.rb_grammar.specs.Laws.{EndsWithTokens}
 use Rattle.rb_grammar.proofs.Local.{Held, or_held, unset_held}
 

@@ -12,9 +12,9 @@ use Rattle.rb_grammar.specs.Rule.{next_touches}
 use Rattle.rb_grammar.specs.Grammar.{rule}
 use Rattle.rb_grammar.specs.Reading.{read, refused, too_nested, reading, Settled, read_script, answer, run}
 use Rattle.rb_grammar.specs.Nesting.{TooNestedAt}
-use Rattle.rb_grammar.specs.Script.{EndsOnce, IsScript, BeginsNone}
+use Rattle.rb_grammar.specs.Script.{IsScript, BeginsNone}
 use Rattle.rb_grammar.specs.Program.{in_order, numbering_of, IsProgram}
-use Rattle.rb_lexer.specs.Spans.{StandInOrder}
+use Rattle.rb_lexer.specs.Spans.{StandInOrder, EndsOnce}
 use Rattle.rb_grammar.specs.Order.{Rising, places_of, blocks_of, Distinct, NumberedFrom}
 use Rattle.rb_grammar.specs.Faithful.{Each, ItemsAreFaithful}
 

@@ -1,17 +1,10 @@
 -- Whole scripts: which tokens spell one, and tokens that begin none.
-use Rattle.std.specs.Prelude.{◌≡◌, ◌≢◌, ℕ, List, [], ◌∷◌, ◌++◌}
+use Rattle.std.specs.Prelude.{◌≡◌, ℕ, List, [], ◌∷◌, ◌++◌}
 use Rattle.rb_lexer.specs.declared.token.Token.{Token}
-use Rattle.rb_lexer.specs.declared.token.TokenKind.TheVariants as kind
 use Rattle.rb_grammar.specs.Tree.{Items, no_items}
 use Rattle.rb_grammar.specs.Scope.{Scope, top_level}
 use Rattle.rb_grammar.specs.Phrase as p
 use Rattle.rb_grammar.specs.Grammar.{spelled}
-
--- the last token is the one end, as it is in the tokens of a source
-abbrev pub EndsOnce : List Token → Type 0
-EndsOnce [] = ⊥
-EndsOnce (t ∷ []) = t.kind ≡ kind.End
-EndsOnce (t ∷ u ∷ ts) = (t.kind ≢ kind.End) × EndsOnce (u ∷ ts)
 
 -- the tokens spell these items: no node that is built is higher than limit, and no more than levels are open at once
 pub record IsScript (limit levels : ℕ) (tokens : List Token) (found : Items) : Type 0 where

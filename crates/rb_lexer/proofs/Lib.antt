@@ -10,3 +10,4 @@ pub mod TurnSteps
 pub mod Reading
 pub mod SpanOrder
 pub mod Between
+pub mod Whole

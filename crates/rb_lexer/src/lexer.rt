@@ -1,7 +1,8 @@
 // From bytes to tokens.
 
 ghost use Rattle.std.specs.Prelude.{◌≡◌, ◌+◌, ◌≤◌, ◌<◌, ◌↔◌, ℕ, Ok, Err, length, IfOk, vec_len};
-ghost use Rattle.rb_lexer.specs.Spans.{StandInOrder, AllBetween};
+ghost use Rattle.std.specs.List.{AllByRecursion};
+ghost use Rattle.rb_lexer.specs.Spans.{StandInOrder, AllBetween, EndsOnce, IsNatural, NotEmpty};
 ghost use Rattle.rb_lexer.specs.Tokens.{Lexes, Outcome, Answers, max_source};
 
 use crate::fault::LexFault;
@@ -24,6 +25,9 @@ pub fn lex(alloc: Global, source: &[u8]) -> Result<Vec<Token>, LexFault>
     ensures ordered { IfOk result (λ tokens. StandInOrder 0 (length source.now) tokens.items) }
     // Before, between and behind the tokens stand white space, comments and line ends alone.
     ensures between { IfOk result (λ tokens. AllBetween source.now 0 tokens.items) }
+    ensures ends { IfOk result (λ tokens. EndsOnce tokens.items) }
+    ensures natural { IfOk result (λ tokens. AllByRecursion IsNatural tokens.items) }
+    ensures not_empty { IfOk result (λ tokens. AllByRecursion NotEmpty tokens.items) }
     ensures few { IfOk result (λ tokens. vec_len tokens ≤ length source.now + 1) }
 {
     if source.len() > MAX_SOURCE {

@@ -1,16 +1,18 @@
 -- Where a text stands among the names.
-use Rattle.std.proofs.Common.{◌≡◌, ℕ, ◌+◌, ◌<◌, Bool, true, not, cond, List, [], ◌∷◌, ◌++◌, map, length, Option, Some, None, refl, ap, sym, ◌∙◌, arith, get_or}
+use Rattle.std.proofs.Common.{◌≡◌, ℕ, zero, suc, ◌+◌, ◌<◌, Bool, true, false, not, cond, List, [], ◌∷◌, ◌++◌, map, length, Option, Some, None, refl, ap, sym, ◌∙◌, arith, get_or, inl, inr}
 use Rattle.std.specs.Prelude.{◌||◌, nat_lt, position, slice_get}
-use Rattle.std.specs.List.{prefix_len, position_or_len, list_any}
+use Rattle.std.specs.List.{prefix_len, position_or_len, list_any, AllByRecursion, IsDistinct}
 use Rattle.std.specs.Str.{bytes_eq}
 use Rattle.std.proofs.lemmas.List.{length-map}
+use Rattle.std.proofs.lemmas.Bool.{cases_Bool, both_ways}
 use Rattle.std.proofs.lemmas.Bool.Decides.{nat_tests}
+use Rattle.std.proofs.lemmas.List.Elements.{All-from_recursion}
 use Rattle.std.proofs.lemmas.Slice.Eq.{bytes_eq-Decides}
 use Rattle.std.proofs.lemmas.List.Quantifiers.{position-Some}
-use Rattle.std.proofs.lemmas.Option.{slice_get-get_or}
+use Rattle.std.proofs.lemmas.Option.{slice_get-get_or, same_Some}
 use Rattle.std.specs.Option.{option_map}
 use Rattle.rb_tree.specs.declared.span.NameId.{NameId}
-use Rattle.rb_tree.specs.Texts.{number_of}
+use Rattle.rb_tree.specs.Texts.{number_of, AreDifferent}
 
 pub bytes_eq-same : (xs ys : List ℕ) → xs ≡ ys → bytes_eq xs ys ≡ true
 bytes_eq-same xs ys e = (bytes_eq-Decides xs ys).1 e
@@ -54,3 +56,41 @@ pub slice_get-number_of : (text : List ℕ) (names : List (List ℕ)) (id : Name
 slice_get-number_of text names id h =
     let f = position-Some (bytes_eq text) names id.0 [] (numbered_at (position (bytes_eq text) names) id h) in
     slice_get-get_or names id.0 [] f.0 ∙ ap Some (sym ((bytes_eq-Decides text (get_or names id.0 [])).0 f.1))
+
+all-map : {X Y : Type 0} (P : Y → Type 0) (f : X → Y) (xs : List X) → AllByRecursion (λ x. P (f x)) xs → AllByRecursion P (map f xs)
+all-map P f [] a = tt
+all-map P f (x ∷ xs) a = (a.0, all-map P f xs a.1)
+
+-- what differs by its texts has different texts
+pub distinct-map : {X Y : Type 0} (e : Y → Y → Bool) (f : X → Y) (xs : List X) → IsDistinct (λ x y. e (f x) (f y)) xs → IsDistinct e (map f xs)
+unfolding IsDistinct
+distinct-map e f [] d = tt
+distinct-map e f (x ∷ xs) d = (all-map (λ y. e (f x) y ≡ false) f xs d.0, distinct-map e f xs d.1)
+
+bytes_eq-flip : (xs ys : List ℕ) → bytes_eq xs ys ≡ false → bytes_eq ys xs ≡ false
+bytes_eq-flip xs ys h =
+    elim (cases_Bool (bytes_eq ys xs)) [ inl e ↦ absurd (both_ways (bytes_eq xs ys) h (bytes_eq-same xs ys (sym ((bytes_eq-Decides ys xs).0 e)))) | inr e ↦ e ]
+
+-- among different texts each one's first place is its own
+position-different : (names : List (List ℕ)) (n : ℕ) → AreDifferent names → n < length names → position_or_len (bytes_eq (get_or names n [])) names ≡ n
+unfolding IsDistinct
+position-different [] n d h = absurd (omega arith)
+position-different (x ∷ xs) zero d h = ap (λ b. cond (not b) (1 + prefix_len (λ y. not (bytes_eq x y)) xs) 0) (bytes_eq-same x x refl)
+position-different (x ∷ xs) (suc m) d h =
+    let small : m < length xs = omega arith in
+    let other = bytes_eq-flip x (get_or xs m []) (All-from_recursion (λ y. bytes_eq x y ≡ false) xs d.0 m [] small) in
+    let next : 1 + position_or_len (bytes_eq (get_or xs m [])) xs ≡ suc m = let i = position-different xs m d.1 small in omega arith in
+    ap (λ b. cond (not b) (1 + position_or_len (bytes_eq (get_or xs m [])) xs) 0) other ∙ next
+
+-- the text of a number has that number
+pub number_of-slice_get : (text : List ℕ) (names : List (List ℕ)) (id : NameId) → AreDifferent names → id.0 < length names → slice_get names id.0 ≡ Some text → number_of text names ≡ Some id
+number_of-slice_get text names id d h e =
+    let own : get_or names id.0 [] ≡ text = let g = slice_get-get_or names id.0 [] h in let s = sym g ∙ e in same_Some _ _ s in
+    ap (option_map (λ n. record { 0 = n }))
+    (sym (position_within (bytes_eq text) names id.0 (sym (ap (λ t. position_or_len (bytes_eq t) names) (sym own) ∙ position-different names id.0 d h)) h))
+
+-- no texts at all are different
+pub none-different : (names : List (List ℕ)) → names ≡ [] → AreDifferent names
+unfolding IsDistinct
+none-different [] e = tt
+none-different (x ∷ xs) e = absurd (cc)

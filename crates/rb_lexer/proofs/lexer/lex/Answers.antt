@@ -6,6 +6,7 @@ use Rattle.rb_lexer.proofs.Reading.{answers-weaker}
 use Rattle.rb_lexer.proofs.SpanOrder.{answers-order}
 use Rattle.rb_lexer.proofs.Between.{answers-between}
 use Rattle.rb_lexer.proofs.Unique.{lexes-unique}
+use Rattle.rb_lexer.proofs.Whole.{answers-ends, answers-natural, answers-not_empty}
 use Rattle.rb_lexer.proofs.lexer.lex.Goals as goal
 
 pub returns-then-source-gt-MAX_SOURCE-clause-sound : goal.returns-then-source-gt-MAX_SOURCE-clause-sound
@@ -32,3 +33,12 @@ returns-clause-ordered c = answers-order c.args.source.now c.read.result (return
 
 pub returns-clause-between : goal.returns-clause-between
 returns-clause-between c = answers-between c.args.source.now c.read.result (returns-clause-sound c)
+
+pub returns-clause-ends : goal.returns-clause-ends
+returns-clause-ends c = answers-ends c.args.source.now c.read.result (returns-clause-sound c)
+
+pub returns-clause-natural : goal.returns-clause-natural
+returns-clause-natural c = answers-natural c.args.source.now c.read.result (returns-clause-sound c)
+
+pub returns-clause-not_empty : goal.returns-clause-not_empty
+returns-clause-not_empty c = answers-not_empty c.args.source.now c.read.result (returns-clause-sound c)

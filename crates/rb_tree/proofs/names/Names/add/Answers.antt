@@ -1,10 +1,11 @@
-use Rattle.std.proofs.Common.{◌≡◌, ℕ, true, false, cond, List, [], ◌∷◌, ◌++◌, map, length, Some, ap, sym, ◌∙◌, subst, ◌<◌, Vec}
+use Rattle.std.proofs.Common.{◌≡◌, ℕ, true, false, cond, List, [], ◌∷◌, ◌++◌, map, length, Some, ap, sym, ◌∙◌, subst, ◌<◌, Vec, arith, length-append}
+use Rattle.std.proofs.lemmas.List.{length-map}
 use Rattle.std.specs.Option.{option_map}
 use Rattle.std.specs.List.{list_any, position_or_len}
 use Rattle.std.specs.Str.{bytes_eq}
 use Rattle.std.specs.declared.alloc.Global.{Global}
 use Rattle.rb_tree.specs.Texts.{number_of, with_text}
-use Rattle.rb_tree.proofs.Numbering.{bytes_eq-same, position-map, list_any-map, map-append, position_or_len-push, position_within}
+use Rattle.rb_tree.proofs.Numbering.{bytes_eq-same, position-map, list_any-map, map-append, position_or_len-push, position_within, distinct-map}
 use Rattle.rb_tree.proofs.names.Names.add.Goals as goal
 
 -- what is kept of a text
@@ -59,3 +60,15 @@ returns-clause-added c =
     ap (map (λ (t : Key). t.items)) g
     ∙ pushed c.args.text.now keys c.in_ok-copy.copy (sym c.in_default.ensures.found) e
     ∙ ap (λ names. with_text names c.args.text.now) c.self.view_is
+
+pub invariant_of-self-2 : goal.invariant_of-self-2
+invariant_of-self-2 c =
+    let keys = c.self.inside.texts.keys in
+    let g = grown c.args.text.now keys _ c.in_ok-copy.copy c.in_ok-copy.ensures.items (sym c.in_default.ensures.found) c.in_ok-at.ensures.keys in
+    let longer = ap length g ∙ length-append keys (c.in_ok-copy.copy ∷ []) in
+    let before = sym (length-map keys (λ (t : Key). t.items)) ∙ ap length c.self.view_is in
+    let room = c.requires in
+    (omega arith, distinct-map bytes_eq (λ (t : Key). t.items) c.insert_full.new.self.keys c.in_ok-at.ensures.unique)
+
+pub returns-clause-different : goal.returns-clause-different
+returns-clause-different c = distinct-map bytes_eq (λ (t : Key). t.items) c.insert_full.new.self.keys c.in_ok-at.ensures.unique
