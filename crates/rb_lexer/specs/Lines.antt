@@ -9,13 +9,16 @@ use Rattle.rb_lexer.specs.declared.newline.Lines.{Lines}
 use Rattle.rb_lexer.specs.Mark.{is_closing}
 use Rattle.rb_lexer.specs.Newlines.{closing_next, without_dropped}
 
--- whether a token closes a bracket
+-- whether a token closes a bracket or code in a text
 abbrev pub is_closing_kind : TokenKind → Bool
+is_closing_kind kind.CodeClose = true
 is_closing_kind (kind.Mark m) = is_closing m
 is_closing_kind k = false
 
 -- what becomes of a line feed directly behind a token that is none
 abbrev pub next_behind : TokenKind → Next
+next_behind (kind.Label name) = Dropped
+next_behind kind.CodeOpen = Dropped
 next_behind (kind.Mark m) = if is_closing m then Stays else Dropped
 next_behind k = Stays
 

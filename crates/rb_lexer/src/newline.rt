@@ -16,9 +16,9 @@ use std::mem;
 enum Next {
     /// One that comes next is dropped.
     Dropped,
-    /// One that comes next stays, unless what follows closes a bracket.
+    /// One that comes next stays, unless what follows closes a bracket or code in a text.
     Stays,
-    /// This one came, and stays unless what follows closes a bracket. Others that come next are dropped.
+    /// This one came, and stays unless what follows closes such. Others that come next are dropped.
     Waits(Token),
 }
 
@@ -80,11 +80,12 @@ fn is_newline(kind: &TokenKind) -> bool
     matches!(kind, TokenKind::Newline)
 }
 
-/// Whether a token closes a bracket.
+/// Whether a token closes a bracket or code in a text.
 fn is_closing(kind: &TokenKind) -> bool
     ensures { result ≡ is_closing_kind kind.now }
 {
     match kind {
+        TokenKind::CodeClose => true,
         TokenKind::Mark(mark) => closes(*mark),
         _ => false,
     }
@@ -104,6 +105,7 @@ fn next_behind(kind: &TokenKind) -> Next
     ensures { result ≡ next_behind kind.now }
 {
     match kind {
+        TokenKind::Label(_) | TokenKind::CodeOpen => Next::Dropped,
         TokenKind::Mark(mark) if !closes(*mark) => Next::Dropped,
         _ => Next::Stays,
     }

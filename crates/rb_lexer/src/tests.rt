@@ -172,7 +172,19 @@ fn line_feeds_are_dropped_where_a_line_goes_on(rt: HostRuntime) -> Result<(), Fa
         ),
         (
             "\"#{a\n}\"",
-            "open 0-1, code 1-3, a 3-4, newline 4-5, code end 5-6, close 6-7, end 7-7",
+            "open 0-1, code 1-3, a 3-4, code end 5-6, close 6-7, end 7-7",
+        ),
+        (
+            "\"#{\n1\n2\n}\"",
+            "open 0-1, code 1-3, 1 4-5, newline 5-6, 2 6-7, code end 8-9, close 9-10, end 10-10",
+        ),
+        (
+            "{a:\n1}",
+            "OpenBrace 0-1, label a 1-3, 1 4-5, CloseBrace 5-6, end 6-6",
+        ),
+        (
+            "f(1, {b:\n2})",
+            "f 0-1, OpenParen 1-2, 1 2-3, Comma 3-4, _OpenBrace 5-6, label b 6-8, 2 9-10, CloseBrace 10-11, CloseParen 11-12, end 12-12",
         ),
     ] {
         let found = tokens_of(rt.alloc(), source)?;
@@ -206,6 +218,13 @@ fn sources_are_refused(rt: HostRuntime) {
         ("\"a#{1}\\a\"", LexFault::BadEscape(6)),
         ("9223372036854775808", LexFault::IntegerTooWide(0)),
         ("a 9_223_372_036_854_775_808b", LexFault::IntegerTooWide(2)),
+        ("a = 9223372036854775808\nb", LexFault::IntegerTooWide(4)),
+        ("\"é\" 9223372036854775808", LexFault::IntegerTooWide(5)),
+        ("'é' 'b", LexFault::UnclosedText(5)),
+        ("puts ~1", LexFault::BadCharacter(5)),
+        ("puts \"a\\q\"", LexFault::BadEscape(7)),
+        ("puts \"ab", LexFault::UnclosedText(5)),
+        ("puts 9223372036854775808", LexFault::IntegerTooWide(5)),
     ] {
         let found = lex(rt.alloc(), source.as_bytes()).err();
         assert_eq!(rt; found, Some(fault), "of {source:?}");
@@ -214,12 +233,16 @@ fn sources_are_refused(rt: HostRuntime) {
 
 #[test]
 fn bytes_that_are_no_text_are_refused(rt: HostRuntime) {
-    assert_eq!(rt; lex(rt.alloc(), b"\xff").err(), Some(LexFault::NotUtf8(0)));
-    assert_eq!(rt; lex(rt.alloc(), b"~\xc3").err(), Some(LexFault::NotUtf8(1)));
-    assert_eq!(rt;
-        lex(rt.alloc(), b"a\xc3\xa9\xffb").err(),
-        Some(LexFault::NotUtf8(3))
-    );
+    for (source, at) in [
+        (b"\xff".as_slice(), 0),
+        (b"~\xc3", 1),
+        (b"a\xc3\xa9\xffb", 3),
+        (b"a = 1\nb\xffc", 7),
+        (b"puts 1\xff", 6),
+    ] {
+        let found = lex(rt.alloc(), source).err();
+        assert_eq!(rt; found, Some(LexFault::NotUtf8(at)), "of {source:?}");
+    }
 }
 
 #[test]
@@ -233,9 +256,11 @@ fn the_largest_sources_are_read(rt: HostRuntime) -> Result<(), Fail> {
 
 #[test]
 fn larger_sources_are_refused(rt: HostRuntime) -> Result<(), Fail> {
-    let source = vec![in rt.alloc(); b'\xff'; 1_048_577]?;
-    let found = lex(rt.alloc(), source.as_slice()).err();
-    assert_eq!(rt; found, Some(LexFault::TooLarge));
+    for byte in [b' ', b'\xff'] {
+        let source = vec![in rt.alloc(); byte; 1_048_577]?;
+        let found = lex(rt.alloc(), source.as_slice()).err();
+        assert_eq!(rt; found, Some(LexFault::TooLarge));
+    }
     Ok(())
 }
 

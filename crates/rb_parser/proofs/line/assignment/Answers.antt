@@ -9,7 +9,7 @@ use Rattle.rb_parser.proofs.line.assignment.Goals as goal
 pub returns-clause-sound : goal.returns-clause-sound
 returns-clause-sound c =
     made_assignment c.args.names.now c.args.locals.now c.args.name.now c.args.target.now c.mark-item.result c.args.rest.now _ c.in-Some.id c.in_ok-value.value _ _
-    (first_and_rest c.args.rest.now c.mark-item.result c.in-len1-up.len_at_least c.mark-item.is) c.requires.word c.requires.free (sym c.in-Some.ensures)
+    (first_and_rest c.args.rest.now c.mark-item.result c.in-len1-up.len_at_least c.mark-item.is) c.requires.word c.requires.free (sym c.in-Some.ensures.found)
     (assign_mark c.mark-item.result.kind (sym c.if-not-is_assign.ensures)) c.in_ok-value.ensures.sound c.in_ok-new.ensures c.in_ok-add.ensures.added
 
 pub returns-then-not-is_assign-clause-refused : goal.returns-then-not-is_assign-clause-refused
@@ -32,5 +32,5 @@ pub returns-in_default-find-clause-refused : goal.returns-in_default-find-clause
 returns-in_default-find-clause-refused c = (
   refl,
   no_number c.args.names.now c.args.locals.now c.args.name.now c.args.target.now c.mark-item.result c.args.rest.now _ (first_and_rest c.args.rest.now c.mark-item.result c.in-len1-up.len_at_least c.mark-item.is)
-      c.requires.word c.requires.free (sym c.in_default-find.ensures),
+      c.requires.word c.requires.free (sym c.in_default-find.ensures.found),
 )
