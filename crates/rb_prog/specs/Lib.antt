@@ -1,5 +1,6 @@
 pub mod Edge
 pub mod Memory
+pub mod Stream
 pub mod Transfer
 pub mod History
 pub mod Meaning

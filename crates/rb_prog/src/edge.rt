@@ -4,11 +4,13 @@ mod memory;
 mod real;
 mod steady;
 mod stored;
+mod stream;
 mod traits;
 
 pub use memory::{MemoryFiles, MemorySink};
-pub use real::{ErrSink, RealFiles, StdSink};
+pub use real::RealFiles;
 pub use steady::{NeverFailsFiles, NeverFailsSink, OpenGate};
+pub use stream::StreamSink;
 pub use traits::{Files, Gate, Read, Sink, Write};
 
 #[cfg(test)]

@@ -1,15 +1,17 @@
 // Whole runs over files and sinks in memory. The expected values are worked out by hand from the language.
 
-use crate::edge::{MemoryFiles, MemorySink, OpenGate};
+use crate::edge::{Gate, MemoryFiles, MemorySink, OpenGate};
 use crate::model::{Call, End, Fault, Reply, Value};
 use crate::{Report, run};
 use rb_tree::{Items, Span, Text};
 use std::alloc::{AllocError, Global};
+use std::process::ExitCode;
 use std::sync::Arc;
+use std::sync::atomic::{AtomicU64, Ordering};
 use std::test::Fail;
 
 /// Enough for what the scripts here print.
-const ROOM: usize = 4096;
+const ROOM: usize = 16_384;
 
 /// The files that hold one script under `a.rb`.
 fn script(alloc: Global, source: &str, failing: Vec<u64>) -> Result<MemoryFiles, AllocError> {
@@ -91,6 +93,7 @@ fn scripts_have_their_output_and_status(rt: HostRuntime) -> Result<(), Fail> {
         assert_eq!(rt; report.status, status, "{source}");
         assert_eq!(rt; report.out.bytes(), output.as_bytes(), "{source}");
         assert_eq!(rt; report.front.is_some(), status < 2, "{source}");
+        assert!(rt; report.exit_code() == ExitCode::from(status), "{source}");
     }
     Ok(())
 }
@@ -196,5 +199,63 @@ fn a_history_has_each_print_and_the_end_with_their_steps(rt: HostRuntime) -> Res
         assert_eq!(rt; steps.as_slice(), prints, "{source}");
         assert_eq!(rt; ends.as_slice(), [(end, last)].as_slice(), "{source}");
     }
+    Ok(())
+}
+
+/// So many names, each assigned on a line of its own and printed on the next, and what that prints.
+fn long_script(alloc: Global, names: u32) -> Result<(String, String), AllocError> {
+    let mut source = String::new(alloc);
+    let mut output = String::new(alloc);
+    for number in 0..names {
+        let lines = format!(in alloc; "a{number} = {number}\nputs a{number}\n")?;
+        source.push_str(lines.as_str())?;
+        let line = format!(in alloc; "{number}\n")?;
+        output.push_str(line.as_str())?;
+    }
+    Ok((source, output))
+}
+
+#[test]
+fn a_script_of_thousands_of_lines_names_and_prints_runs(rt: HostRuntime) -> Result<(), Fail> {
+    let alloc = rt.alloc();
+    let (source, output) = long_script(alloc, 2000)?;
+    let mut files = script(alloc, source.as_str(), Vec::new(alloc))?;
+    let report = ran(alloc, &["run", "a.rb"], &mut files, Vec::new(alloc))?;
+    assert_eq!(rt; report.status, 0);
+    assert!(rt; report.out.bytes() == output.as_bytes());
+    let front = report.front.expect(&rt, "a history");
+    assert_eq!(rt; front.entries().len(), 2001);
+    Ok(())
+}
+
+/// A gate that counts its calls.
+#[derive(Drop)]
+struct Counting {
+    calls: AtomicU64,
+}
+
+impl Gate for Counting {
+    fn before(&self, _thread: u64, _step: u64) {
+        self.calls.fetch_add(1, Ordering::SeqCst);
+    }
+
+    fn after(&self, _thread: u64, _step: u64) {
+        self.calls.fetch_add(1, Ordering::SeqCst);
+    }
+}
+
+#[test]
+fn the_gate_is_not_called_where_nothing_is_shared(rt: HostRuntime) -> Result<(), Fail> {
+    let alloc = rt.alloc();
+    let mut files = script(alloc, "puts 1\nputs 2", Vec::new(alloc))?;
+    let words = words(alloc, &["run", "a.rb"])?;
+    let out = MemorySink::new(alloc, Vec::new(alloc), ROOM)?;
+    let mut err = MemorySink::new(alloc, Vec::new(alloc), ROOM)?;
+    let calls = AtomicU64::new(0);
+    let gate = Arc::new(alloc, Counting { calls })?;
+    let kept = Arc::try_clone(&gate)?;
+    let report = run(alloc, words.as_slice(), &mut files, out, &mut err, gate);
+    assert_eq!(rt; report.out.bytes(), b"1\n2\n".as_slice());
+    assert_eq!(rt; kept.calls.load(Ordering::SeqCst), 0);
     Ok(())
 }

@@ -3,6 +3,7 @@
 ghost use Rattle.std.specs.Prelude.{◌≡◌, ◌⊎◌, ◌≤◌, ◌↔◌, ℕ, List, [], Option, Some, None, IfOk, Err, map, length, string_bytes};
 ghost use Rattle.std.specs.Option.{option_map};
 ghost use Rattle.std.specs.Borrow.{Bor};
+ghost use Rattle.std.specs.Process.{exit_status};
 ghost use Rattle.rb_tree.specs.declared.node.Program.{Program as Tree};
 ghost use Rattle.rb_lexer.specs.declared.fault.LexFault.TheVariants as Unread;
 ghost use Rattle.rb_prog.specs.Edge.{Bytes, Adds, Rose};
@@ -18,6 +19,7 @@ use rb_lexer::{LexFault, lex};
 use rb_parser::{ParseFault, parse};
 use rb_tree::Program;
 use std::alloc::Global;
+use std::process::ExitCode;
 use std::sync::Arc;
 
 /// What a run gives back: its status, the sink with all that was written, and the history of the run.
@@ -27,6 +29,15 @@ pub struct Report<K> {
     pub status: u8,
     pub out: K,
     pub front: Option<RunFront>,
+}
+
+impl<K> Report<K> {
+    /// The status that the process ends with.
+    pub fn exit_code(&self) -> ExitCode
+        ensures { exit_status result ≡ self.now.status }
+    {
+        ExitCode::from(self.status)
+    }
 }
 
 /// Why a source has no program.

@@ -34,6 +34,22 @@ fn a_name_has_one_number_by_its_first_use(rt: HostRuntime) -> Result<(), Fail> {
 }
 
 #[test]
+fn many_names_have_their_numbers(rt: HostRuntime) -> Result<(), Fail> {
+    let alloc = rt.alloc();
+    let mut names = Names::new(alloc);
+    for number in 0..3000 {
+        let text = format!(in alloc; "{number}")?;
+        assert!(rt; names.len() < 3000);
+        assert_eq!(rt; names.add(text.as_bytes())?, NameId(number));
+    }
+    for number in 0..3000 {
+        let text = format!(in alloc; "{number}")?;
+        assert_eq!(rt; names.find(text.as_bytes()), Some(NameId(number)));
+    }
+    Ok(())
+}
+
+#[test]
 fn bytes_have_lines_and_columns_from_1(rt: HostRuntime) -> Result<(), Fail> {
     let source = b"ab\n\nc\n".as_slice();
     for (at, line, column) in [

@@ -1,7 +1,7 @@
 //! `rbso`: runs a script of a stated Ruby subset.
 #![tactic(auto)]
 
-use rb_prog::edge::{ErrSink, OpenGate, RealFiles, StdSink};
+use rb_prog::edge::{OpenGate, RealFiles, StreamSink};
 use rb_prog::run;
 use std::alloc::Global;
 use std::process::ExitCode;
@@ -22,29 +22,29 @@ fn words<R: Env + AllocGlobal>(rt: &R) -> io::Result<Vec<String>> {
     Ok(args.collect(rt.alloc())?)
 }
 
-/// The status of a run over the real file, standard output and standard error.
-fn status(rt: &HostRuntime, alloc: Global) -> u8 {
+/// The end of a run over the real file, standard output and standard error.
+fn end(rt: &HostRuntime, alloc: Global) -> ExitCode {
     let words = match words(rt) {
         Ok(words) => words,
-        Err(error) if error.kind() == io::ErrorKind::InvalidData => return USAGE,
-        Err(_) => return OUT_OF_MEMORY,
+        Err(error) if error.kind() == io::ErrorKind::InvalidData => return ExitCode::from(USAGE),
+        Err(_) => return ExitCode::from(OUT_OF_MEMORY),
     };
     let Ok(gate) = Arc::new(alloc, OpenGate {}) else {
-        return OUT_OF_MEMORY;
+        return ExitCode::from(OUT_OF_MEMORY);
     };
     let mut files = RealFiles::new(alloc, rt);
-    let mut err = ErrSink::new(rt.stderr());
+    let mut err = StreamSink::new(rt.stderr());
     let report = run(
         alloc,
         words.as_slice(),
         &mut files,
-        StdSink::new(rt),
+        StreamSink::new(rt.stdout()),
         &mut err,
         gate,
     );
-    report.status
+    report.exit_code()
 }
 
 fn main(rt: HostRuntime) -> ExitCode {
-    ExitCode::from(status(&rt, rt.alloc()))
+    end(&rt, rt.alloc())
 }

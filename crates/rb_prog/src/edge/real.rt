@@ -1,21 +1,23 @@
-// The files and the standard streams of the system, which tell no content.
+// The files of the system, which tell no content.
 
-ghost use Rattle.std.specs.Prelude.{◌≡◌, ◌≤◌, ◌+◌, ◌-◌, ◌^◌, None, length, min, string_bytes, IfOk, IfSome, IsSomeAnd, IsTrue};
-ghost use Rattle.rb_prog.specs.Edge.{Rose, Untold, Writes};
+ghost use Rattle.std.specs.Prelude.{◌≡◌, ◌≤◌, ◌+◌, ◌-◌, ◌^◌, ℕ, List, length, min, string_bytes, IfOk, IfSome, IsSomeAnd, IsTrue};
+ghost use Rattle.std.specs.Io.KnownBytes.{ReadConsumes};
+ghost use Rattle.rb_prog.specs.Edge.{Reads, Rose, Untold};
 
-use super::traits::{Files, Read, Sink, Write};
+use super::stream::{read_answer, read_some};
+use super::traits::{Files, Read};
 use std::alloc::Global;
 use std::fs::File;
 use std::io;
-use std::io::{ErrorKind, Seek, SeekFrom, Stderr};
+use std::io::{Seek, SeekFrom};
 use std::rt::Files as System;
 
 /// A file that stays open between two reads. Where there was no memory for its path, it has none and serves one read.
 #[derive(Drop)]
-struct Opened<F> {
-    path: Option<String>,
-    file: F,
-    at: u64,
+pub(super) struct Opened<F> {
+    pub(super) path: Option<String>,
+    pub(super) file: F,
+    pub(super) at: u64,
 }
 
 impl<F> Opened<F> {
@@ -28,6 +30,20 @@ impl<F> Opened<F> {
             Some(kept) => kept.as_str() == path && self.at == at,
             None => false,
         }
+    }
+}
+
+impl<F: io::Read> Opened<F> {
+    /// Reads on.
+    pub(super) fn read(&mut self, room: &mut [u8]) -> io::Result<usize>
+        ensures within { IfOk result (λ n. n ≤ length room.old) }
+        ensures bytes { ReadConsumes (F.remaining self.old.file) (F.remaining self.new.file) result room.new }
+        ensures place { IfOk result (λ n. self.new.at ≡ min (self.old.at + n) (2 ^ 64 - 1)) }
+        ensures path { self.new.path ≡ self.old.path }
+    {
+        let count = read_some(&mut self.file, room)?;
+        self.at = self.at.saturating_add(count as u64);
+        Ok(count)
     }
 }
 
@@ -80,24 +96,10 @@ impl<'a, R: System> RealFiles<'a, R> {
         ensures failed { self.new.failed ≡ self.old.failed }
     {
         let mut opened = self.opened(path, at)?;
-        let count = read_some(&mut opened.file, room)?;
-        opened.at = at.saturating_add(count as u64);
+        let count = opened.read(room)?;
         self.last = Some(opened);
         Ok(count)
     }
-}
-
-/// Reads once, and again where a signal came in between.
-fn read_some<F: io::Read>(file: &mut F, room: &mut [u8]) -> io::Result<usize>
-    ensures { IfOk result (λ n. n ≤ length room.old) }
-{
-    for _ in 0..u64::MAX {
-        match file.read(room) {
-            Err(error) if error.kind() == ErrorKind::Interrupted => {}
-            answer => return answer,
-        }
-    }
-    Err(io::Error::from(ErrorKind::Interrupted))
 }
 
 impl<R: System> Files for RealFiles<'_, R> {
@@ -105,95 +107,19 @@ impl<R: System> Files for RealFiles<'_, R> {
 
     ghost faults = { λ it. it.failed };
 
-    fn read(&mut self, path: &str, at: u64, room: &mut [u8]) -> Read {
-        match self.read_at(path, at, room) {
-            Ok(0) if !room.is_empty() => Read::End,
-            Ok(count) => Read::Got(count),
-            Err(error) if error.kind() == ErrorKind::NotFound => Read::Missing,
-            Err(_) => {
-                self.failed = self.failed.saturating_add(1);
-                Read::Failed
-            }
-        }
-    }
-}
-
-/// The standard output. A write goes straight out.
-#[derive(Drop)]
-pub struct StdSink<'a, P: Print> {
-    output: &'a P,
-    failed: u64,
-}
-
-impl<'a, P: Print> StdSink<'a, P> {
-    /// The standard output of this runtime.
-    pub fn new(output: &'a P) -> StdSink<'a, P>
-        ensures { result.failed ≡ 0 }
+    fn read(&mut self, path: &str, at: u64, room: &mut [u8]) -> Read
+        ensures held { (p : List ℕ) → Untold ≡ Untold }
+        ensures reads { Reads Untold at (length room.old) room.new result }
+        ensures rises { self.old.failed ≤ self.new.failed }
+        ensures cause { result ≡ Read.Failed → Rose self.old.failed self.new.failed }
+        // Behind the bytes that were got stands the open file.
+        ensures place { (n : ℕ) → result ≡ Read.Got n → IsSomeAnd self.new.last (λ it. it.at ≡ min (at + n) (2 ^ 64 - 1)) }
     {
-        StdSink { output, failed: 0 }
-    }
-}
-
-impl<P: Print> Sink for StdSink<'_, P> {
-    ghost told = { λ _. None };
-
-    ghost faults = { λ it. it.failed };
-
-    fn write(&mut self, bytes: &[u8]) -> Write {
-        write_out(self.output, &mut self.failed, bytes)
-    }
-}
-
-/// The standard error. A write goes straight out.
-#[derive(Drop)]
-pub struct ErrSink {
-    output: Stderr,
-    failed: u64,
-}
-
-impl ErrSink {
-    /// This standard error, as the runtime's `stderr()` gives it.
-    pub fn new(output: Stderr) -> ErrSink
-        ensures { result.failed ≡ 0 }
-    {
-        ErrSink { output, failed: 0 }
-    }
-}
-
-impl Sink for ErrSink {
-    ghost told = { λ _. None };
-
-    ghost faults = { λ it. it.failed };
-
-    fn write(&mut self, bytes: &[u8]) -> Write {
-        write_out(&self.output, &mut self.failed, bytes)
-    }
-}
-
-/// Writes bytes from the front. To take nothing of bytes that are there counts as a failure.
-fn write_out<P: Print>(output: &P, failed: &mut u64, bytes: &[u8]) -> Write
-    ensures writes { Writes None None bytes.now result }
-    ensures rises { failed.old ≤ failed.new }
-    ensures cause { result ≡ Write.Failed → Rose failed.old failed.new }
-{
-    match write_some(output, bytes) {
-        Ok(count) if count > 0 || bytes.is_empty() => Write::Took(count),
-        _ => {
-            *failed = failed.saturating_add(1);
-            Write::Failed
+        let size = room.len();
+        let answer = read_answer(size, self.read_at(path, at, room));
+        if let Read::Failed = answer {
+            self.failed = self.failed.saturating_add(1);
         }
+        answer
     }
-}
-
-/// Writes once, and again where a signal came in between.
-fn write_some<P: Print>(output: &P, bytes: &[u8]) -> io::Result<usize>
-    ensures { IfOk result (λ n. n ≤ length bytes.now) }
-{
-    for _ in 0..u64::MAX {
-        match output.write_some(bytes) {
-            Err(error) if error.kind() == ErrorKind::Interrupted => {}
-            answer => return answer,
-        }
-    }
-    Err(io::Error::from(ErrorKind::Interrupted))
 }

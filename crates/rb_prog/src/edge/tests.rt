@@ -1,10 +1,14 @@
 // The answers of files and sinks, by example.
 
+ghost use Rattle.std.specs.Prelude.{◌≤◌, IfOk};
+
+use super::real::Opened;
+use super::stream::read_answer;
 use super::*;
 use rb_tree::{Items, Text};
 use std::alloc::{AllocError, Global};
 use std::test::Fail;
-use std::{fmt, fs, io};
+use std::{fs, io};
 
 /// A file of these bytes.
 fn file(alloc: Global, path: &str, bytes: &[u8]) -> Result<(Text, Text), AllocError> {
@@ -163,47 +167,128 @@ fn files_of_the_system_answer_from_a_place_on(rt: HostRuntime) -> Result<(), Fai
 
 #[test]
 fn the_standard_streams_take_bytes(rt: HostRuntime) {
-    assert_eq!(rt; StdSink::new(&rt).write(b"out\n"), Write::Took(4));
-    assert_eq!(rt; StdSink::new(&rt).write(b""), Write::Took(0));
-    assert_eq!(rt; ErrSink::new(rt.stderr()).write(b"err\n"), Write::Took(4));
+    assert_eq!(rt;
+        StreamSink::new(rt.stdout()).write(b"out\n"),
+        Write::Took(4)
+    );
+    assert_eq!(rt; StreamSink::new(rt.stdout()).write(b""), Write::Took(0));
+    assert_eq!(rt;
+        StreamSink::new(rt.stderr()).write(b"err\n"),
+        Write::Took(4)
+    );
 }
 
-/// An output that takes nothing, or fails.
+/// What a stream does at one step.
+#[derive(Clone, Copy, Drop)]
+enum Step {
+    /// It moves so many bytes at most.
+    Moves(usize),
+    /// It fails.
+    Fails(io::ErrorKind),
+}
+
+/// A stream that does as listed and then moves nothing, and the bytes that it was given.
 #[derive(Drop)]
-struct Stuck {
-    fails: bool,
+struct Listed {
+    steps: Vec<Step>,
+    next: usize,
+    given: Vec<u8>,
 }
 
-impl Print for Stuck {
-    fn print<D: fmt::Display + Drop>(&self, _value: D) -> io::Result<()> {
-        Ok(())
+impl Listed {
+    fn new(alloc: Global, steps: &[Step]) -> Result<Listed, AllocError> {
+        Ok(Listed {
+            steps: Vec::from_slice(alloc, steps)?,
+            next: 0,
+            given: Vec::new(alloc),
+        })
     }
 
-    fn println<D: fmt::Display + Drop>(&self, _value: D) -> io::Result<()> {
-        Ok(())
-    }
-
-    fn write_all(&self, _bytes: &[u8]) -> io::Result<()> {
-        Ok(())
-    }
-
-    fn write_some(&self, _bytes: &[u8]) -> io::Result<usize> {
-        if self.fails {
-            return Err(io::Error::from(io::ErrorKind::BrokenPipe));
+    /// How many of so many bytes the next step moves.
+    fn count(&mut self, most: usize) -> io::Result<usize>
+        ensures { IfOk result (λ n. n ≤ most) }
+    {
+        let step = match self.steps.get(self.next) {
+            Some(step) => *step,
+            None => Step::Moves(0),
+        };
+        self.next = self.next.saturating_add(1);
+        match step {
+            Step::Moves(count) => Ok(count.min(most)),
+            Step::Fails(kind) => Err(io::Error::from(kind)),
         }
-        Ok(0)
     }
+}
+
+impl io::Write for Listed {
+    fn write(&mut self, bytes: &[u8]) -> io::Result<usize> {
+        let count = self.count(bytes.len())?;
+        self.given.extend_from_slice(&bytes[..count])?;
+        Ok(count)
+    }
+
+    fn flush(&mut self) -> io::Result<()> {
+        Ok(())
+    }
+}
+
+impl io::Read for Listed {
+    fn read(&mut self, room: &mut [u8]) -> io::Result<usize> {
+        let count = self.count(room.len())?;
+        room[..count].fill(b'x');
+        Ok(count)
+    }
+}
+
+/// Steps, each a call but for the interrupted ones, which are tried again.
+const STEPS: [Step; 7] = [
+    Step::Moves(2),
+    Step::Fails(io::ErrorKind::Interrupted),
+    Step::Moves(1),
+    Step::Fails(io::ErrorKind::BrokenPipe),
+    Step::Fails(io::ErrorKind::NotFound),
+    Step::Moves(0),
+    Step::Moves(0),
+];
+
+#[test]
+fn a_stream_that_takes_a_part_takes_the_front(rt: HostRuntime) -> Result<(), Fail> {
+    let mut sink = StreamSink::new(Listed::new(rt.alloc(), &STEPS)?);
+    for (piece, answer, faults) in [
+        ("abc", Write::Took(2), 0),
+        ("c", Write::Took(1), 0),
+        ("def", Write::Failed, 1),
+        ("def", Write::Failed, 2),
+        ("def", Write::Failed, 3),
+        ("", Write::Took(0), 3),
+    ] {
+        assert_eq!(rt; sink.write(piece.as_bytes()), answer, "{piece}");
+        assert_eq!(rt; sink.failed, faults, "{piece}");
+    }
+    assert_eq!(rt; sink.output.given.as_slice(), b"abc".as_slice());
+    Ok(())
 }
 
 #[test]
-fn an_output_that_takes_nothing_fails(rt: HostRuntime) {
-    for (fails, piece, answer) in [
-        (false, "", Write::Took(0)),
-        (false, "abc", Write::Failed),
-        (true, "", Write::Failed),
-        (true, "abc", Write::Failed),
+fn a_stream_that_gives_a_part_gives_the_front(rt: HostRuntime) -> Result<(), Fail> {
+    let file = Listed::new(rt.alloc(), &STEPS)?;
+    let mut opened = Opened {
+        path: None,
+        file,
+        at: 5,
+    };
+    for (size, answer, at) in [
+        (3, Read::Got(2), 7),
+        (3, Read::Got(1), 8),
+        (3, Read::Failed, 8),
+        (3, Read::Missing, 8),
+        (3, Read::End, 8),
+        (0, Read::Got(0), 8),
     ] {
-        let output = Stuck { fails };
-        assert_eq!(rt; StdSink::new(&output).write(piece.as_bytes()), answer);
+        let mut room = vec![in rt.alloc(); 0u8; size]?;
+        let read = opened.read(room.as_mut_slice());
+        assert_eq!(rt; read_answer(size, read), answer);
+        assert_eq!(rt; opened.at, at);
     }
+    Ok(())
 }
