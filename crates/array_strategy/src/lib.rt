@@ -1,13 +1,16 @@
-// A library with one function.
+//! A list that stores its items as raw integers for as long as it holds nothing else.
 #![tactic(auto)]
 
-ghost use Rattle.std.specs.Prelude.{◌≡◌};
-ghost use Rattle.array_strategy.specs.Echo.{echo_of};
+mod array;
+mod fault;
+mod place;
+mod storage;
+#[cfg(test)]
+mod tests;
 
-// The `ensures` clause is the contract: what `echo` returns is `echo_of` of its argument, a definition
-// in `specs/Echo.antt`, which a caller's clause can cite too.
-pub fn echo(x: usize) -> usize
-    ensures { result ≡ echo_of x }
-{
-    x
-}
+pub use array::{LocalArray, MAX_LEN};
+pub use fault::PutFault;
+// A crate can name an array in a contract only if the types of its fields are exported.
+#[doc(hidden)]
+pub use storage::Store;
+pub use storage::Strategy;
