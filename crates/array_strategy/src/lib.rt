@@ -3,6 +3,7 @@
 
 mod array;
 mod fault;
+mod growth;
 mod place;
 mod storage;
 #[cfg(test)]
