@@ -25,6 +25,10 @@ place_of (pos i) n = Some i
 place_of (negsuc i) n = if nat_lt i n then Some (n - suc i) else None
 
 module _ {V : Type 0} where
+  -- no items
+  abbrev pub empty : Elements V
+  empty = record { items = []; strategy = Empty }
+
   -- the item at an index
   abbrev pub item_at : List V → ℤ → Option V
   item_at xs i = option_and_then (slice_get xs) (place_of i (length xs))

@@ -68,4 +68,106 @@ impl<V: Item> LocalArray<V> {
     {
         self.store.strategy()
     }
+
+    /// A copy of the item at an index, where a negative one counts from the end. An integer needs no memory.
+    pub fn at(&self, index: i64) -> Result<Option<V>, AllocError>
+        ensures found { IfOk result (λ found. found ≡ item_at self.now.items index) }
+        ensures refused { OnErr result ((self.now.strategy ≡ Strategy.Anys) × IsSome (item_at self.now.items index)) }
+    {
+        match place_at(index, self.len()) {
+            Some(place) => self.store.get(place),
+            None => Ok(None),
+        }
+    }
+
+    /// Puts an item at an index, where a negative one counts from the end. The array is first filled up to there.
+    #[tactic(auto, using(crate::proofs::Puts::puts))]
+    pub fn put(&mut self, index: i64, item: V, fill: V) -> Result<(), PutFault>
+        ensures done { OnOk result (IsSomeAnd (place_of index (length self.old.items)) (λ j. self.new ≡ put_at V.integer self.old j item fill)) }
+        ensures too_small { (result ≡ Err PutFault.TooSmall) ↔ (place_of index (length self.old.items) ≡ None) }
+        ensures too_long { (result ≡ Err PutFault.TooLong) ↔ IsSomeAnd (place_of index (length self.old.items)) (λ j. MAX_LEN ≤ j) }
+        ensures kept { OnErr result (self.new ≡ self.old) }
+    {
+        let len = self.len();
+        let Some(place) = place_at(index, len) else {
+            return Err(PutFault::TooSmall);
+        };
+        if place >= MAX_LEN {
+            return Err(PutFault::TooLong);
+        }
+        if place < len {
+            self.store.replace(self.alloc, place, item)?;
+            return Ok(());
+        }
+        if place == len {
+            self.store.push(self.alloc, item)?;
+            return Ok(());
+        }
+        self.store.push_filled(self.alloc, place - len, fill, item)?;
+        Ok(())
+    }
+
+    /// Puts an item behind the last.
+    pub fn push(&mut self, item: V) -> Result<(), PutFault>
+        ensures done { OnOk result (self.new ≡ pushed V.integer self.old item) }
+        ensures too_long { (result ≡ Err PutFault.TooLong) ↔ (length self.old.items ≡ MAX_LEN) }
+        ensures cause { result ≢ Err PutFault.TooSmall }
+        ensures kept { OnErr result (self.new ≡ self.old) }
+    {
+        if self.len() == MAX_LEN {
+            return Err(PutFault::TooLong);
+        }
+        self.store.push(self.alloc, item)?;
+        Ok(())
+    }
+
+    /// Puts an item before the first.
+    pub fn unshift(&mut self, item: V) -> Result<(), PutFault>
+        ensures done { OnOk result (self.new ≡ unshifted V.integer self.old item) }
+        ensures too_long { (result ≡ Err PutFault.TooLong) ↔ (length self.old.items ≡ MAX_LEN) }
+        ensures cause { result ≢ Err PutFault.TooSmall }
+        ensures kept { OnErr result (self.new ≡ self.old) }
+    {
+        if self.len() == MAX_LEN {
+            return Err(PutFault::TooLong);
+        }
+        self.store.unshift(self.alloc, item)?;
+        Ok(())
+    }
+
+    /// Takes the last item out.
+    pub fn pop(&mut self) -> Option<V>
+        ensures taken { result ≡ slice_get self.old.items (length self.old.items - 1) }
+        ensures rest { self.new.items ≡ take (length self.old.items - 1) self.old.items }
+        ensures strategy { self.new.strategy ≡ self.old.strategy }
+    {
+        self.store.pop()
+    }
+
+    /// Takes the first item out.
+    pub fn shift(&mut self) -> Option<V>
+        ensures taken { result ≡ slice_get self.old.items 0 }
+        ensures rest { self.new.items ≡ drop 1 self.old.items }
+        ensures strategy { self.new.strategy ≡ self.old.strategy }
+    {
+        self.store.shift()
+    }
+
+    /// Takes the item at an index out, where a negative one counts from the end.
+    pub fn delete_at(&mut self, index: i64) -> Option<V>
+        ensures taken { result ≡ item_at self.old.items index }
+        ensures rest { self.new.items ≡ without_item self.old.items index }
+        ensures strategy { self.new.strategy ≡ self.old.strategy }
+    {
+        let place = place_at(index, self.len())?;
+        self.store.remove(place)
+    }
+
+    /// Takes all items out, and gives their memory back.
+    pub fn clear(&mut self)
+        ensures items { self.new.items ≡ [] }
+        ensures strategy { self.new.strategy ≡ Strategy.Empty }
+    {
+        self.store = Store::Empty;
+    }
 }
