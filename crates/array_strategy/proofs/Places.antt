@@ -1,12 +1,13 @@
 -- Items at places of a list.
 use Rattle.std.proofs.Common.{◌≡◌, ℕ, zero, suc, ◌+◌, ◌-◌, ◌<◌, ◌≤◌, List, [], ◌∷◌, ◌++◌, map, length, take, drop, replicate, slice_get, slice_set, refl, sym, ap, ◌∙◌, arith, append_assoc, append-nil, add-one}
-use Rattle.std.specs.Prelude.{None}
+use Rattle.std.specs.Prelude.{ℤ, None, All, slice_index_or}
 use Rattle.std.specs.List.{remove}
 use Rattle.std.proofs.lemmas.Grind.{common_steps}
 use Rattle.std.proofs.lemmas.List.{take-map, drop-map, map-set, map-append, length-replicate, take-append-le}
 use Rattle.std.proofs.lemmas.List.Edits.{sets-eq}
+use Rattle.std.proofs.lemmas.List.Elements.{All-map}
 use Rattle.std.proofs.lemmas.Option.{slice_get_past}
-use Rattle.array_strategy.specs.Elements.{with_item}
+use Rattle.array_strategy.specs.Elements.{IsIntegerBy, with_item}
 
 pub map-remove : {X Y : Type 0} (f : X → Y) (xs : List X) (i : ℕ) → map f (remove xs i) ≡ remove (map f xs) i
 map-remove f xs i = grind (arith, common_steps, take-map, drop-map)
@@ -21,6 +22,10 @@ map-replicate f (suc n) x = ap (λ ys. f x ∷ ys) (map-replicate f n x)
 
 pub map-filled : {X Y : Type 0} (f : X → Y) (xs : List X) (n : ℕ) (x y : X) → map f (xs ++ replicate n x ++ y ∷ []) ≡ map f xs ++ replicate n (f x) ++ f y ∷ []
 map-filled f xs n x y = simp (map-append, map-replicate)
+
+-- the items of integers stand for integers
+pub All-integers : {V : Type 0} (int : ℤ → V) (ns : List ℤ) → All (IsIntegerBy int) (map int ns)
+All-integers int ns = All-map (IsIntegerBy int) int ns (λ k d h. (slice_index_or ns k d, refl))
 
 pub ruleset places = (map-remove, slice_get-outside, map-set, map-filled)
 

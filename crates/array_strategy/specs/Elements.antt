@@ -1,5 +1,5 @@
 -- What a contract sees of an array: its items, and the storage strategy that they are held by.
-use Rattle.std.specs.Prelude.{◌≡◌, ℕ, suc, ◌+◌, ◌-◌, ◌<◌, ◌≤◌, nat_lt, if◌then◌else◌, ℤ, pos, negsuc, List, [], ◌∷◌, ◌++◌, length, take, drop, replicate, slice_get, option_and_then, Option, None, Some, refl}
+use Rattle.std.specs.Prelude.{◌≡◌, ◌≢◌, ℕ, suc, ◌+◌, ◌-◌, ◌<◌, ◌≤◌, nat_lt, if◌then◌else◌, ℤ, pos, negsuc, List, [], ◌∷◌, ◌++◌, length, take, drop, replicate, slice_get, option_and_then, Option, None, Some, IsSomeAnd, refl}
 use Rattle.std.specs.List.{remove}
 use Rattle.std.specs.Option.{option_map_or}
 use Rattle.std.specs.Coded.{Coded, code_by, coded×, coded_list}
@@ -25,6 +25,10 @@ place_of (pos i) n = Some i
 place_of (negsuc i) n = if nat_lt i n then Some (n - suc i) else None
 
 module _ {V : Type 0} where
+  -- an item that stands for an integer
+  abbrev pub IsIntegerBy : (ℤ → V) → V → Type 0
+  IsIntegerBy int v = (n : ℤ) × (v ≡ int n)
+
   -- no items
   abbrev pub empty : Elements V
   empty = record { items = []; strategy = Empty }
@@ -57,3 +61,7 @@ module _ {V : Type 0} where
     -- an array with v at place j, first filled up to there
     abbrev pub put_at : ℕ → V → V → Elements V
     put_at j v fill = record { items = with_item old.items j v fill; strategy = strategy_with (filled_strategy j fill) (integer v) }
+
+    -- a put of v at an index may ask for memory: the list grows, or its strategy changes
+    abbrev pub MayNeedMemory : ℤ → V → Type 0
+    MayNeedMemory i v = IsSomeAnd (place_of i (length old.items)) (λ j. j < length old.items → strategy_with old.strategy (integer v) ≢ old.strategy)

@@ -1,7 +1,7 @@
 //! The array.
 
-ghost use Rattle.std.specs.Prelude.{◌≡◌, ◌≢◌, ◌<◌, ◌≤◌, ◌+◌, ◌-◌, ◌++◌, ◌∷◌, [], length, take, drop, slice_get, IsTrue, ◌↔◌, None, Some, IsSome, IsSomeAnd, IfOk, OnOk, OnErr};
-ghost use Rattle.array_strategy.specs.Elements.{item_at, without_item, place_of, pushed, unshifted, put_at};
+ghost use Rattle.std.specs.Prelude.{◌≡◌, ◌≢◌, ◌<◌, ◌≤◌, ◌+◌, ◌-◌, ◌++◌, ◌∷◌, [], length, take, drop, slice_get, IsTrue, All, ◌↔◌, None, Some, IsSome, IsSomeAnd, IfSome, IfOk, OnOk, OnErr};
+ghost use Rattle.array_strategy.specs.Elements.{IsIntegerBy, item_at, without_item, place_of, empty, pushed, unshifted, put_at, MayNeedMemory};
 
 use std::alloc::{AllocError, Global};
 use std::marker::Model;
@@ -38,8 +38,7 @@ impl<V: Item> Model for LocalArray<V> {
 impl<V: Item> LocalArray<V> {
     /// The empty array. It takes no memory.
     pub fn new(alloc: Global) -> Self
-        ensures items { result.items ≡ [] }
-        ensures strategy { result.strategy ≡ Strategy.Empty }
+        ensures { result ≡ empty }
     {
         LocalArray {
             store: Store::Empty,
@@ -64,7 +63,9 @@ impl<V: Item> LocalArray<V> {
 
     /// How it holds its items.
     pub fn strategy(&self) -> Strategy
-        ensures { result ≡ self.now.strategy }
+        ensures exact { result ≡ self.now.strategy }
+        ensures none { result ≡ Strategy.Empty → self.now.items ≡ [] }
+        ensures raw { result ≡ Strategy.Ints → All (IsIntegerBy V.int) self.now.items }
     {
         self.store.strategy()
     }
@@ -72,6 +73,7 @@ impl<V: Item> LocalArray<V> {
     /// A copy of the item at an index, where a negative one counts from the end. An integer needs no memory.
     pub fn at(&self, index: i64) -> Result<Option<V>, AllocError>
         ensures found { IfOk result (λ found. found ≡ item_at self.now.items index) }
+        ensures raw { self.now.strategy ≡ Strategy.Ints → IfOk result (λ found. IfSome found (λ item. IsSome (V.integer item))) }
         ensures refused { OnErr result ((self.now.strategy ≡ Strategy.Anys) × IsSome (item_at self.now.items index)) }
     {
         match place_at(index, self.len()) {
@@ -86,6 +88,7 @@ impl<V: Item> LocalArray<V> {
         ensures done { OnOk result (IsSomeAnd (place_of index (length self.old.items)) (λ j. self.new ≡ put_at V.integer self.old j item fill)) }
         ensures too_small { (result ≡ Err PutFault.TooSmall) ↔ (place_of index (length self.old.items) ≡ None) }
         ensures too_long { (result ≡ Err PutFault.TooLong) ↔ IsSomeAnd (place_of index (length self.old.items)) (λ j. MAX_LEN ≤ j) }
+        ensures memory { result ≡ Err PutFault.Memory → MayNeedMemory V.integer self.old index item }
         ensures kept { OnErr result (self.new ≡ self.old) }
     {
         let len = self.len();
@@ -165,8 +168,7 @@ impl<V: Item> LocalArray<V> {
 
     /// Takes all items out, and gives their memory back.
     pub fn clear(&mut self)
-        ensures items { self.new.items ≡ [] }
-        ensures strategy { self.new.strategy ≡ Strategy.Empty }
+        ensures { self.new ≡ empty }
     {
         self.store = Store::Empty;
     }

@@ -1,6 +1,6 @@
 //! The storage of an array: nothing, raw integers or any items.
 
-ghost use Rattle.std.specs.Prelude.{◌≡◌, ◌≢◌, ◌<◌, ◌≤◌, ◌+◌, ◌-◌, ◌^◌, ◌++◌, ◌∷◌, [], length, map, take, drop, slice_get, IfOk, OnOk, OnErr};
+ghost use Rattle.std.specs.Prelude.{◌≡◌, ◌≢◌, ◌<◌, ◌≤◌, ◌+◌, ◌-◌, ◌^◌, ◌++◌, ◌∷◌, [], length, map, take, drop, slice_get, All, IsSome, IfSome, IfOk, OnOk, OnErr};
 ghost use Rattle.std.specs.List.{remove};
 
 use std::alloc::{AllocError, Global};
@@ -30,7 +30,7 @@ pub enum Store<V> {
 
 impl<V: Item> Store<V> {
     ghost use Rattle.array_strategy.specs.Storage.{stored, replaced, filled};
-    ghost use Rattle.array_strategy.specs.Elements.{strategy_with, empty, pushed, unshifted};
+    ghost use Rattle.array_strategy.specs.Elements.{IsIntegerBy, strategy_with, empty, pushed, unshifted};
 
     /// How many items it holds.
     pub(crate) fn len(&self) -> usize
@@ -45,7 +45,9 @@ impl<V: Item> Store<V> {
 
     /// How it holds them.
     pub(crate) fn strategy(&self) -> Strategy
-        ensures { result ≡ (stored V.int self.now).strategy }
+        ensures exact { result ≡ (stored V.int self.now).strategy }
+        ensures none { result ≡ Strategy.Empty → (stored V.int self.now).items ≡ [] }
+        ensures raw { result ≡ Strategy.Ints → All (IsIntegerBy V.int) (stored V.int self.now).items }
     {
         match self {
             Store::Empty => Strategy::Empty,
@@ -57,6 +59,7 @@ impl<V: Item> Store<V> {
     /// A copy of the item at a place; only an item that is no raw integer needs memory.
     pub(crate) fn get(&self, place: usize) -> Result<Option<V>, AllocError>
         ensures found { IfOk result (λ found. found ≡ slice_get (stored V.int self.now).items place) }
+        ensures raw { (stored V.int self.now).strategy ≡ Strategy.Ints → IfOk result (λ found. IfSome found (λ item. IsSome (V.integer item))) }
         ensures refused { OnErr result ((stored V.int self.now).strategy ≡ Strategy.Anys) }
         ensures at_item { OnErr result (place < length (stored V.int self.now).items) }
     {
