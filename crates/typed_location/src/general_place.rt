@@ -5,16 +5,25 @@ ghost use Rattle.typed_location.specs.Word.{word_of, Fits, tagged as tagged_word
 ghost use Rattle.typed_location.specs.declared.general_place.Any.{Any};
 
 const TAG_BITS: u32 = 3;
+
 const TAG_MASK: u64 = 7;
+
 const TAG_FIXED: u64 = 0;
+
 const TAG_SMALL: u64 = 1;
+
 const TAG_SYM: u64 = 2;
+
 const TAG_TEXT: u64 = 3;
+
 const TAG_BOXED: u64 = 4;
+
 const TAG_THING: u64 = 5;
 
 const NIL: u64 = 0;
+
 const FALSE: u64 = 1;
+
 const TRUE: u64 = 2;
 
 /// What a general word stands for: a value that is in the word itself, or the address of one.
