@@ -3,13 +3,12 @@
 ghost use Rattle.std.specs.Prelude.{◌≡◌, ◌≢◌, ◌<◌, ◌≤◌, ◌+◌, ◌-◌, ◌++◌, ◌∷◌, [], length, take, drop, slice_get, IsTrue, All, ◌↔◌, None, Some, IsSome, IsSomeAnd, IfSome, IfOk, OnOk, OnErr};
 ghost use Rattle.array_strategy.specs.Elements.{IsIntegerBy, item_at, without_item, place_of, empty, pushed, unshifted, put_at, MayNeedMemory};
 
-use std::alloc::{AllocError, Global};
-use std::marker::Model;
-use typed_location::Item;
-
 use crate::fault::PutFault;
 use crate::place::place_at;
 use crate::storage::{Store, Strategy};
+use std::alloc::{AllocError, Global};
+use std::marker::Model;
+use typed_location::Item;
 
 /// The greatest length of an array.
 pub const MAX_LEN: usize = 16_777_216;

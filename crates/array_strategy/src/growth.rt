@@ -31,11 +31,7 @@ pub(crate) fn push_filled<V: Item>(
 }
 
 // Adds copies where there is room for two more; a refused copy leaves some behind the old items.
-fn push_copies<V: Item>(
-    items: &mut VecDeque<V>,
-    count: usize,
-    fill: &V,
-) -> Result<(), AllocError>
+fn push_copies<V: Item>(items: &mut VecDeque<V>, count: usize, fill: &V) -> Result<(), AllocError>
     requires { deque_len items.old + count + 2 ≤ deque_capacity items.old }
     ensures done { OnOk result (items.new.items ≡ items.old.items ++ replicate count fill.now) }
     ensures room { OnOk result (deque_len items.new + 2 ≤ deque_capacity items.new) }

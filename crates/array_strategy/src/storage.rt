@@ -3,11 +3,10 @@
 ghost use Rattle.std.specs.Prelude.{◌≡◌, ◌≢◌, ◌<◌, ◌≤◌, ◌+◌, ◌-◌, ◌^◌, ◌++◌, ◌∷◌, [], length, map, take, drop, slice_get, All, IsSome, IfSome, IfOk, OnOk, OnErr};
 ghost use Rattle.std.specs.List.{remove};
 
+use crate::growth::{push_filled, widened};
 use std::alloc::{AllocError, Global};
 use std::collections::VecDeque;
 use typed_location::Item;
-
-use crate::growth::{push_filled, widened};
 
 /// How an array holds its items.
 #[derive(Clone, Copy, PartialEq, Eq, Debug)]
@@ -217,7 +216,13 @@ impl<V: Item> Store<V> {
 
     #[tactic(auto, using(crate::proofs::Places::places))]
     /// Puts `count` copies of `fill` and then an item behind the last.
-    pub(crate) fn push_filled(&mut self, alloc: Global, count: usize, fill: V, item: V) -> Result<(), AllocError>
+    pub(crate) fn push_filled(
+        &mut self,
+        alloc: Global,
+        count: usize,
+        fill: V,
+        item: V,
+    ) -> Result<(), AllocError>
         requires some { 0 < count }
         requires small { count < 2 ^ 32 }
         requires few { length (stored V.int self.old).items < 2 ^ 32 }

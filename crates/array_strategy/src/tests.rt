@@ -1,1 +1,231 @@
-//! Tests.
+//! Each call by example, by both strategies, and a caller that a runtime would have.
+
+ghost use Rattle.std.specs.Prelude.{◌≡◌, ◌-ℤ◌, pos, Some, length, IfSome, IfNone, IfOk, IsSomeAnd, OnErr};
+ghost use Rattle.array_strategy.specs.Elements.{item_at, place_of, put_at};
+
+use crate::{LocalArray, MAX_LEN, PutFault, Strategy};
+use std::alloc::{AllocError, Global};
+use std::test::Fail;
+use typed_location::Item;
+
+// `array[index] += 1`, where that item is an integer that has a next one; the answer is the next one.
+fn increment<V: Item>(array: &mut LocalArray<V>, index: i64) -> Result<Option<i64>, PutFault>
+    ensures counted { IfOk result (λ found. IfSome found (λ n. item_at array.old.items index ≡ Some (V.int (n -ℤ pos 1)))) }
+    ensures written { IfOk result (λ found. IfSome found (λ n. IsSomeAnd (place_of index (length array.old.items)) (λ j. array.new ≡ put_at V.integer array.old j (V.int n) (V.int n)))) }
+    ensures raw { array.old.strategy ≡ Strategy.Ints → array.new.strategy ≡ Strategy.Ints }
+    ensures none { IfOk result (λ found. IfNone found (array.new ≡ array.old)) }
+    ensures kept { OnErr result (array.new ≡ array.old) }
+{
+    let Some(item) = array.at(index)? else {
+        return Ok(None);
+    };
+    let Some(n) = item.as_int() else {
+        return Ok(None);
+    };
+    let Some(next) = n.checked_add(1) else {
+        return Ok(None);
+    };
+    array.put(index, V::of_int(next), V::of_int(next))?;
+    Ok(Some(next))
+}
+
+// A value of a small language; a copy of the last one is always refused.
+#[derive(Clone, Copy, PartialEq, Eq, Debug)]
+enum Value {
+    Nil,
+    Int(i64),
+    Scarce,
+}
+
+use Value::{Int, Nil, Scarce};
+
+impl Item for Value {
+    ghost use Rattle.std.specs.Prelude.{ℤ, Some, None, refl};
+    ghost use Rattle.array_strategy.specs.declared.tests.Value.TheVariants.{Nil, Int, Scarce};
+
+    ghost int = { Int };
+
+    ghost integer = { elim [ Nil ↦ None | Int n ↦ Some n | Scarce ↦ None ] };
+
+    ghost known = { λ _ _. refl };
+
+    ghost only = { elim [ Nil ↦ λ n e. Prim.cc | Int m ↦ λ n e. Prim.cc | Scarce ↦ λ n e. Prim.cc ] };
+
+    fn as_int(&self) -> Option<i64> {
+        match self {
+            Value::Int(n) => Some(*n),
+            _ => None,
+        }
+    }
+
+    fn of_int(n: i64) -> Self {
+        Value::Int(n)
+    }
+
+    fn copy(&self) -> Result<Self, AllocError> {
+        match self {
+            Value::Scarce => Err(AllocError),
+            other => Ok(*other),
+        }
+    }
+}
+
+// The array of these items, general from the first on if `strategy` says so.
+fn array_of(
+    alloc: Global,
+    strategy: Strategy,
+    items: &[Value],
+) -> Result<LocalArray<Value>, PutFault> {
+    let mut array = LocalArray::new(alloc);
+    if strategy == Strategy::Anys {
+        array.push(Nil)?;
+        let _ = array.pop();
+    }
+    for item in items {
+        array.push(*item)?;
+    }
+    Ok(array)
+}
+
+// The items of the array, each taken from its front.
+fn items_of(alloc: Global, mut array: LocalArray<Value>) -> Result<Vec<Value>, AllocError> {
+    let mut items = Vec::new(alloc);
+    for _ in 0..array.len() {
+        if let Some(item) = array.shift() {
+            items.push(item)?;
+        }
+    }
+    Ok(items)
+}
+
+#[test]
+fn a_put_fills_up_and_widens(rt: HostRuntime) -> Result<(), Fail> {
+    let alloc = rt.alloc();
+    let ints = Strategy::Ints;
+    let anys = Strategy::Anys;
+    let start = [Int(1), Int(2), Int(3)];
+    for (index, item, fill, left, strategy) in [
+        (0, Int(9), Nil, [Int(9), Int(2), Int(3)].as_slice(), ints),
+        (-1, Int(9), Nil, [Int(1), Int(2), Int(9)].as_slice(), ints),
+        (-3, Int(9), Nil, [Int(9), Int(2), Int(3)].as_slice(), ints),
+        (1, Nil, Int(0), [Int(1), Nil, Int(3)].as_slice(), anys),
+        (
+            3,
+            Int(9),
+            Nil,
+            [Int(1), Int(2), Int(3), Int(9)].as_slice(),
+            ints,
+        ),
+        (
+            4,
+            Int(9),
+            Int(0),
+            [Int(1), Int(2), Int(3), Int(0), Int(9)].as_slice(),
+            ints,
+        ),
+        (
+            4,
+            Int(9),
+            Scarce,
+            [Int(1), Int(2), Int(3), Scarce, Int(9)].as_slice(),
+            anys,
+        ),
+        (
+            5,
+            Int(9),
+            Nil,
+            [Int(1), Int(2), Int(3), Nil, Nil, Int(9)].as_slice(),
+            anys,
+        ),
+        (
+            5,
+            Nil,
+            Int(0),
+            [Int(1), Int(2), Int(3), Int(0), Int(0), Nil].as_slice(),
+            anys,
+        ),
+    ] {
+        for held in [ints, anys] {
+            let mut array = array_of(alloc, held, &start)?;
+            assert_eq!(rt; array.put(index, item, fill), Ok(()));
+            let wanted = if held == anys { anys } else { strategy };
+            assert_eq!(rt; array.strategy(), wanted, "{index}");
+            assert_eq!(rt; items_of(alloc, array)?.as_slice(), left, "{index}");
+        }
+    }
+    Ok(())
+}
+
+#[test]
+fn a_refused_put_leaves_the_array(rt: HostRuntime) -> Result<(), Fail> {
+    let alloc = rt.alloc();
+    let start = [Int(1), Int(2), Int(3)];
+    for (index, fill, fault) in [
+        (-4, Nil, PutFault::TooSmall),
+        (i64::MIN, Nil, PutFault::TooSmall),
+        (16_777_216, Nil, PutFault::TooLong),
+        (i64::MAX, Nil, PutFault::TooLong),
+        (5, Scarce, PutFault::Memory),
+    ] {
+        for held in [Strategy::Ints, Strategy::Anys] {
+            let mut array = array_of(alloc, held, &start)?;
+            assert_eq!(rt; array.put(index, Int(9), fill), Err(fault), "{index}");
+            assert_eq!(rt; array.strategy(), held, "{index}");
+            assert_eq!(rt;
+                items_of(alloc, array)?.as_slice(),
+                start.as_slice(),
+                "{index}"
+            );
+        }
+    }
+    Ok(())
+}
+
+#[test]
+fn items_are_taken_from_both_ends_and_by_index(rt: HostRuntime) -> Result<(), Fail> {
+    let alloc = rt.alloc();
+    for held in [Strategy::Ints, Strategy::Anys] {
+        let mut array = array_of(alloc, held, &[Int(1), Int(2), Int(3), Int(4), Int(5)])?;
+        assert_eq!(rt; array.at(-1)?, Some(Int(5)));
+        assert_eq!(rt; array.at(5)?, None);
+        assert_eq!(rt; array.at(-6)?, None);
+        assert_eq!(rt; array.delete_at(-2), Some(Int(4)));
+        assert_eq!(rt; array.delete_at(4), None);
+        assert_eq!(rt; array.delete_at(-5), None);
+        assert_eq!(rt; array.shift(), Some(Int(1)));
+        array.unshift(Int(0))?;
+        assert_eq!(rt; array.pop(), Some(Int(5)));
+        assert_eq!(rt; array.len(), 3);
+        assert_eq!(rt; increment(&mut array, -1)?, Some(4));
+        assert_eq!(rt; increment(&mut array, 3)?, None);
+        for left in [Some(Int(4)), Some(Int(2)), Some(Int(0)), None] {
+            assert_eq!(rt; array.pop(), left);
+        }
+        assert!(rt; array.is_empty() && array.shift().is_none());
+        assert_eq!(rt; array.strategy(), held);
+        array.clear();
+        assert_eq!(rt; array.strategy(), Strategy::Empty);
+    }
+    Ok(())
+}
+
+#[test]
+fn a_general_item_widens_an_array_for_good(rt: HostRuntime) -> Result<(), Fail> {
+    let alloc = rt.alloc();
+    let mut array = array_of(alloc, Strategy::Ints, &[Int(1), Int(2)])?;
+    array.unshift(Nil)?;
+    assert_eq!(rt; array.shift(), Some(Nil));
+    assert_eq!(rt; array.strategy(), Strategy::Anys);
+    assert_eq!(rt;
+        items_of(alloc, array)?.as_slice(),
+        [Int(1), Int(2)].as_slice()
+    );
+    let mut full = LocalArray::new(alloc);
+    full.put(16_777_215, 0_i64, 0)?;
+    assert_eq!(rt; full.len(), MAX_LEN);
+    assert_eq!(rt; full.push(0), Err(PutFault::TooLong));
+    assert_eq!(rt; full.unshift(0), Err(PutFault::TooLong));
+    assert_eq!(rt; full.pop(), Some(0));
+    assert_eq!(rt; full.push(1), Ok(()));
+    Ok(())
+}
