@@ -229,3 +229,60 @@ fn a_general_item_widens_an_array_for_good(rt: HostRuntime) -> Result<(), Fail> 
     assert_eq!(rt; full.push(1), Ok(()));
     Ok(())
 }
+
+// One call, picked by a number, on an array and on a plain list: whether they answer alike.
+fn answers_alike(
+    array: &mut LocalArray<Value>,
+    plain: &mut Vec<Value>,
+    pick: u64,
+) -> Result<bool, Fail> {
+    let item = if pick % 13 == 0 {
+        Nil
+    } else {
+        Int(i64::from((pick % 1000) as u32))
+    };
+    let back = (pick / 8 % 6) as usize;
+    match pick % 8 {
+        0 | 1 => {
+            plain.push(item)?;
+            Ok(array.push(item).is_ok())
+        }
+        2 => {
+            plain.insert(0, item)?;
+            Ok(array.unshift(item).is_ok())
+        }
+        3 => Ok(array.pop() == plain.pop()),
+        4 if !plain.is_empty() => Ok(array.shift() == Some(plain.remove(0))),
+        5 if 0 < back && back <= plain.len() => {
+            let place = plain.len() - back;
+            Ok(array.delete_at(-(back as i64)) == Some(plain.remove(place)))
+        }
+        6 if back < plain.len() => {
+            plain[back] = item;
+            Ok(array.put(back as i64, item, Nil).is_ok())
+        }
+        _ => Ok(array.at(back as i64)? == plain.get(back).copied()),
+    }
+}
+
+#[test]
+fn a_long_sequence_goes_as_on_a_plain_list(rt: HostRuntime) -> Result<(), Fail> {
+    let alloc = rt.alloc();
+    let mut array = LocalArray::new(alloc);
+    let mut plain = Vec::new(alloc);
+    let mut pick = 1_u64;
+    for _ in 0..3000 {
+        pick = pick.wrapping_mul(6_364_136_223_846_793_005).wrapping_add(1);
+        assert!(rt;
+            answers_alike(&mut array, &mut plain, pick >> 33)?,
+            "{pick}"
+        );
+        assert_eq!(rt; array.len(), plain.len());
+        if pick % 512 == 0 {
+            array.clear();
+            plain.clear();
+        }
+    }
+    assert_eq!(rt; items_of(alloc, array)?.as_slice(), plain.as_slice());
+    Ok(())
+}
