@@ -1,8 +1,7 @@
 -- What a contract sees of an array: its items, and the storage strategy that they are held by.
-use Rattle.std.specs.Prelude.{◌≡◌, ◌≢◌, ℕ, suc, ◌+◌, ◌-◌, ◌<◌, ◌≤◌, nat_lt, if◌then◌else◌, ℤ, pos, negsuc, List, [], ◌∷◌, ◌++◌, length, take, drop, replicate, slice_get, option_and_then, Option, None, Some, IsSomeAnd, refl}
+use Rattle.std.specs.Prelude.{◌≡◌, ◌≢◌, ℕ, suc, ◌-◌, ◌<◌, nat_lt, if◌then◌else◌, ℤ, pos, negsuc, List, [], ◌∷◌, ◌++◌, length, take, drop, replicate, slice_get, option_and_then, Option, None, Some, IsSomeAnd}
 use Rattle.std.specs.List.{remove}
 use Rattle.std.specs.Option.{option_map_or}
-use Rattle.std.specs.Coded.{Coded, code_by, coded×, coded_list}
 use Rattle.array_strategy.specs.declared.storage.Strategy.{Strategy}
 use Rattle.array_strategy.specs.declared.storage.Strategy.TheVariants.{Empty, Ints, Anys}
 

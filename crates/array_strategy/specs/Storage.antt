@@ -1,5 +1,5 @@
 -- The array that a storage holds, and what the writes of a storage leave.
-use Rattle.std.specs.Prelude.{ℕ, ℤ, List, [], ◌∷◌, ◌++◌, map, replicate, slice_set, Option}
+use Rattle.std.specs.Prelude.{ℕ, ℤ, [], ◌∷◌, ◌++◌, map, replicate, slice_set, Option}
 use Rattle.array_strategy.specs.Elements.{Elements, strategy_with}
 use Rattle.array_strategy.specs.declared.storage.Strategy.TheVariants as strategy
 use Rattle.array_strategy.specs.declared.storage.Store.{Store}
