@@ -99,20 +99,51 @@ fn items_of(alloc: Global, mut array: LocalArray<Value>) -> Result<Vec<Value>, A
 }
 
 #[test]
-fn a_put_fills_up_and_widens(rt: HostRuntime) -> Result<(), Fail> {
+fn a_put_writes_fills_up_and_widens_or_leaves_the_array(rt: HostRuntime) -> Result<(), Fail> {
     let alloc = rt.alloc();
-    let ints = Strategy::Ints;
-    let anys = Strategy::Anys;
+    let (ints, anys) = (Strategy::Ints, Strategy::Anys);
+    let (small, long) = (Err(PutFault::TooSmall), Err(PutFault::TooLong));
     let start = [Int(1), Int(2), Int(3)];
-    for (index, item, fill, left, strategy) in [
-        (0, Int(9), Nil, [Int(9), Int(2), Int(3)].as_slice(), ints),
-        (-1, Int(9), Nil, [Int(1), Int(2), Int(9)].as_slice(), ints),
-        (-3, Int(9), Nil, [Int(9), Int(2), Int(3)].as_slice(), ints),
-        (1, Nil, Int(0), [Int(1), Nil, Int(3)].as_slice(), anys),
+    for (index, item, fill, answer, left, strategy) in [
+        (
+            0,
+            Int(9),
+            Nil,
+            Ok(()),
+            [Int(9), Int(2), Int(3)].as_slice(),
+            ints,
+        ),
+        (
+            -1,
+            Int(9),
+            Nil,
+            Ok(()),
+            [Int(1), Int(2), Int(9)].as_slice(),
+            ints,
+        ),
+        (
+            -3,
+            Int(9),
+            Nil,
+            Ok(()),
+            [Int(9), Int(2), Int(3)].as_slice(),
+            ints,
+        ),
+        (-4, Int(9), Nil, small, start.as_slice(), ints),
+        (i64::MIN, Nil, Nil, small, start.as_slice(), ints),
+        (
+            1,
+            Nil,
+            Int(0),
+            Ok(()),
+            [Int(1), Nil, Int(3)].as_slice(),
+            anys,
+        ),
         (
             3,
             Int(9),
             Nil,
+            Ok(()),
             [Int(1), Int(2), Int(3), Int(9)].as_slice(),
             ints,
         ),
@@ -120,6 +151,7 @@ fn a_put_fills_up_and_widens(rt: HostRuntime) -> Result<(), Fail> {
             4,
             Int(9),
             Int(0),
+            Ok(()),
             [Int(1), Int(2), Int(3), Int(0), Int(9)].as_slice(),
             ints,
         ),
@@ -127,55 +159,35 @@ fn a_put_fills_up_and_widens(rt: HostRuntime) -> Result<(), Fail> {
             4,
             Int(9),
             Scarce,
+            Ok(()),
             [Int(1), Int(2), Int(3), Scarce, Int(9)].as_slice(),
-            anys,
-        ),
-        (
-            5,
-            Int(9),
-            Nil,
-            [Int(1), Int(2), Int(3), Nil, Nil, Int(9)].as_slice(),
             anys,
         ),
         (
             5,
             Nil,
             Int(0),
+            Ok(()),
             [Int(1), Int(2), Int(3), Int(0), Int(0), Nil].as_slice(),
             anys,
         ),
+        (
+            5,
+            Int(9),
+            Scarce,
+            Err(PutFault::Memory),
+            start.as_slice(),
+            ints,
+        ),
+        (16_777_216, Int(9), Nil, long, start.as_slice(), ints),
+        (i64::MAX, Nil, Nil, long, start.as_slice(), ints),
     ] {
         for held in [ints, anys] {
             let mut array = array_of(alloc, held, &start)?;
-            assert_eq!(rt; array.put(index, item, fill), Ok(()));
+            assert_eq!(rt; array.put(index, item, fill), answer, "{index}");
             let wanted = if held == anys { anys } else { strategy };
             assert_eq!(rt; array.strategy(), wanted, "{index}");
             assert_eq!(rt; items_of(alloc, array)?.as_slice(), left, "{index}");
-        }
-    }
-    Ok(())
-}
-
-#[test]
-fn a_refused_put_leaves_the_array(rt: HostRuntime) -> Result<(), Fail> {
-    let alloc = rt.alloc();
-    let start = [Int(1), Int(2), Int(3)];
-    for (index, fill, fault) in [
-        (-4, Nil, PutFault::TooSmall),
-        (i64::MIN, Nil, PutFault::TooSmall),
-        (16_777_216, Nil, PutFault::TooLong),
-        (i64::MAX, Nil, PutFault::TooLong),
-        (5, Scarce, PutFault::Memory),
-    ] {
-        for held in [Strategy::Ints, Strategy::Anys] {
-            let mut array = array_of(alloc, held, &start)?;
-            assert_eq!(rt; array.put(index, Int(9), fill), Err(fault), "{index}");
-            assert_eq!(rt; array.strategy(), held, "{index}");
-            assert_eq!(rt;
-                items_of(alloc, array)?.as_slice(),
-                start.as_slice(),
-                "{index}"
-            );
         }
     }
     Ok(())
