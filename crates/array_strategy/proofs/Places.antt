@@ -1,0 +1,53 @@
+-- Items at places of a list.
+use Rattle.std.proofs.Common.{◌≡◌, ℕ, zero, suc, ◌+◌, ◌-◌, ◌<◌, ◌≤◌, List, [], ◌∷◌, ◌++◌, map, length, take, drop, replicate, slice_get, slice_set, refl, ap, ◌∙◌, arith, append_assoc, append-nil, add-one}
+use Rattle.std.specs.Prelude.{ℤ, None, All, slice_index_or}
+use Rattle.std.specs.List.{remove}
+use Rattle.std.proofs.lemmas.Grind.{common_steps}
+use Rattle.std.proofs.lemmas.List.{take-map, drop-map, map-set, map-append, length-replicate, take-append-le}
+use Rattle.std.proofs.lemmas.List.Edits.{sets-eq}
+use Rattle.std.proofs.lemmas.List.Elements.{All-map}
+use Rattle.std.proofs.lemmas.Option.{slice_get_past}
+use Rattle.array_strategy.specs.Elements.{IsIntegerBy, with_item}
+
+pub map-remove : {X Y : Type 0} (f : X → Y) (xs : List X) (i : ℕ) → map f (remove xs i) ≡ remove (map f xs) i
+map-remove f xs i = grind (arith, common_steps, take-map, drop-map)
+
+-- there is no item where the place is not within the list
+pub slice_get-outside : {X : Type 0} (xs : List X) (i : ℕ) → (i < length xs → ⊥) → slice_get xs i ≡ None
+slice_get-outside xs i outside = slice_get_past xs i (omega arith)
+
+pub map-replicate : {X Y : Type 0} (f : X → Y) (n : ℕ) (x : X) → map f (replicate n x) ≡ replicate n (f x)
+map-replicate f zero x = refl
+map-replicate f (suc n) x = ap (λ ys. f x ∷ ys) (map-replicate f n x)
+
+pub map-filled : {X Y : Type 0} (f : X → Y) (xs : List X) (n : ℕ) (x y : X) → map f (xs ++ replicate n x ++ y ∷ []) ≡ map f xs ++ replicate n (f x) ++ f y ∷ []
+map-filled f xs n x y = simp (map-append, map-replicate)
+
+-- the items of integers stand for integers
+pub All-integers : {V : Type 0} (int : ℤ → V) (ns : List ℤ) → All (IsIntegerBy int) (map int ns)
+All-integers int ns = All-map (IsIntegerBy int) int ns (λ k d h. (slice_index_or ns k d, refl))
+
+pub ruleset places = (map-remove, slice_get-outside, map-set, map-filled)
+
+-- within the list, the item there gives way
+pub with_item-within : {X : Type 0} (xs : List X) (j : ℕ) (v fill : X) → j < length xs → with_item xs j v fill ≡ slice_set xs j v
+with_item-within xs j v fill h =
+    let none : j - length xs ≡ 0 = omega arith in
+    let padded : xs ++ replicate (j - length xs) fill ≡ xs = rw none (append-nil xs) in
+    let fits : j + 1 ≤ length xs = omega arith in
+    let parts : slice_set xs j v ≡ take j xs ++ v ∷ drop (suc j) xs = sets-eq (v ∷ []) xs j fits ∙ (rw add-one (append_assoc (take j xs) (v ∷ []) (drop (suc j) xs))) in
+    rw (padded, parts) refl
+
+-- further on, the list is filled up first
+pub with_item-beyond : {X : Type 0} (xs : List X) (j : ℕ) (v fill : X) → length xs ≤ j → with_item xs j v fill ≡ xs ++ replicate (j - length xs) fill ++ v ∷ []
+with_item-beyond xs j v fill h =
+    let whole : take j (xs ++ replicate (j - length xs) fill) ≡ xs ++ replicate (j - length xs) fill = grind (arith, common_steps) in
+    let rest : drop (suc j) xs ≡ [] = grind (arith, common_steps) in
+    rw (whole, rest) refl
+
+-- behind the last item, nothing is filled in
+pub with_item-end : {X : Type 0} (xs : List X) (j : ℕ) (v fill : X) → j ≡ length xs → with_item xs j v fill ≡ xs ++ v ∷ []
+with_item-end xs j v fill h =
+    let none : j - length xs ≡ 0 = omega arith in
+    let le : length xs ≤ j = omega arith in
+    grind (arith, common_steps, with_item-beyond xs j v fill le, none)

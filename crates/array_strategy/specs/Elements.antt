@@ -1,0 +1,66 @@
+-- What a contract sees of an array: its items, and the storage strategy that they are held by.
+use Rattle.std.specs.Prelude.{◌≡◌, ◌≢◌, ℕ, suc, ◌-◌, ◌<◌, nat_lt, if◌then◌else◌, ℤ, pos, negsuc, List, [], ◌∷◌, ◌++◌, length, take, drop, replicate, slice_get, option_and_then, Option, None, Some, IsSomeAnd}
+use Rattle.std.specs.List.{remove}
+use Rattle.std.specs.Option.{option_map_or}
+use Rattle.array_strategy.specs.declared.storage.Strategy.{Strategy}
+use Rattle.array_strategy.specs.declared.storage.Strategy.TheVariants.{Empty, Ints, Anys}
+
+-- the items in order, and the strategy
+pub record Elements (V : Type 0) : Type 0 where
+  pub items : List V
+  pub strategy : Strategy
+
+-- The strategy of an array that takes an item in, by the integer that the item stands for, if any. It never turns back.
+abbrev pub strategy_with : Strategy → Option ℤ → Strategy
+strategy_with Empty None = Anys
+strategy_with Empty (Some n) = Ints
+strategy_with Ints None = Anys
+strategy_with Ints (Some n) = Ints
+strategy_with Anys found = Anys
+
+-- the place that an index names among n items; a negative one counts from the end
+abbrev pub place_of : ℤ → ℕ → Option ℕ
+place_of (pos i) n = Some i
+place_of (negsuc i) n = if nat_lt i n then Some (n - suc i) else None
+
+module _ {V : Type 0} where
+  -- an item that stands for an integer
+  abbrev pub IsIntegerBy : (ℤ → V) → V → Type 0
+  IsIntegerBy int v = (n : ℤ) × (v ≡ int n)
+
+  -- no items
+  abbrev pub empty : Elements V
+  empty = record { items = []; strategy = Empty }
+
+  -- the item at an index
+  abbrev pub item_at : List V → ℤ → Option V
+  item_at xs i = option_and_then (slice_get xs) (place_of i (length xs))
+
+  -- the items without the one at an index
+  abbrev pub without_item : List V → ℤ → List V
+  without_item xs i = option_map_or (remove xs) (place_of i (length xs)) xs
+
+  -- the items with v at place j, first filled up to there
+  abbrev pub with_item : List V → ℕ → V → V → List V
+  with_item xs j v fill = take j (xs ++ replicate (j - length xs) fill) ++ v ∷ drop (suc j) xs
+
+  module _ (integer : V → Option ℤ) (old : Elements V) where
+    -- an array with v behind its last item
+    abbrev pub pushed : V → Elements V
+    pushed v = record { items = old.items ++ v ∷ []; strategy = strategy_with old.strategy (integer v) }
+
+    -- an array with v before its first item
+    abbrev pub unshifted : V → Elements V
+    unshifted v = record { items = v ∷ old.items; strategy = strategy_with old.strategy (integer v) }
+
+    -- the strategy of an array that is filled up to place j
+    abbrev pub filled_strategy : ℕ → V → Strategy
+    filled_strategy j fill = if nat_lt (length old.items) j then strategy_with old.strategy (integer fill) else old.strategy
+
+    -- an array with v at place j, first filled up to there
+    abbrev pub put_at : ℕ → V → V → Elements V
+    put_at j v fill = record { items = with_item old.items j v fill; strategy = strategy_with (filled_strategy j fill) (integer v) }
+
+    -- a put of v at an index may ask for memory: the list grows, or its strategy changes
+    abbrev pub MayNeedMemory : ℤ → V → Type 0
+    MayNeedMemory i v = IsSomeAnd (place_of i (length old.items)) (λ j. j < length old.items → strategy_with old.strategy (integer v) ≢ old.strategy)

@@ -1,0 +1,21 @@
+-- The array that a storage holds, and what the writes of a storage leave.
+use Rattle.std.specs.Prelude.{ℕ, ℤ, [], ◌∷◌, ◌++◌, map, replicate, slice_set, Option}
+use Rattle.array_strategy.specs.Elements.{Elements, strategy_with}
+use Rattle.array_strategy.specs.declared.storage.Strategy.TheVariants as strategy
+use Rattle.array_strategy.specs.declared.storage.Store.{Store}
+use Rattle.array_strategy.specs.declared.storage.Store.TheVariants.{Empty, Ints, Anys}
+
+-- raw integers stand for their items
+abbrev pub stored : {V : Type 0} → (ℤ → V) → Store V → Elements V
+stored int Empty = record { items = []; strategy = strategy.Empty }
+stored int (Ints ns) = record { items = map int ns.items; strategy = strategy.Ints }
+stored int (Anys vs) = record { items = vs.items; strategy = strategy.Anys }
+
+module _ {V : Type 0} (integer : V → Option ℤ) (old : Elements V) where
+  -- an array with v in place of the item at place j
+  abbrev pub replaced : ℕ → V → Elements V
+  replaced j v = record { items = slice_set old.items j v; strategy = strategy_with old.strategy (integer v) }
+
+  -- an array with so many copies of `fill` and then v behind its last item
+  abbrev pub filled : ℕ → V → V → Elements V
+  filled count fill v = record { items = old.items ++ replicate count fill ++ v ∷ []; strategy = strategy_with (strategy_with old.strategy (integer fill)) (integer v) }

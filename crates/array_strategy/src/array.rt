@@ -1,0 +1,174 @@
+//! The array.
+
+ghost use Rattle.std.specs.Prelude.{◌≡◌, ◌≢◌, ◌<◌, ◌≤◌, ◌+◌, ◌-◌, ◌++◌, ◌∷◌, [], length, take, drop, slice_get, IsTrue, All, ◌↔◌, None, Some, IsSome, IsSomeAnd, IfSome, IfOk, OnOk, OnErr};
+ghost use Rattle.array_strategy.specs.Elements.{IsIntegerBy, item_at, without_item, place_of, empty, pushed, unshifted, put_at, MayNeedMemory};
+
+use crate::fault::PutFault;
+use crate::place::place_at;
+use crate::storage::{Store, Strategy};
+use std::alloc::{AllocError, Global};
+use std::marker::Model;
+use typed_location::Item;
+
+/// The greatest length of an array.
+pub const MAX_LEN: usize = 16_777_216;
+
+/// A list of items, which holds them as raw integers for as long as they all stand for integers.
+#[derive(Drop)]
+pub struct LocalArray<V: Item> {
+    store: Store<V>,
+    alloc: Global,
+}
+
+impl<V: Item> Model for LocalArray<V> {
+    ghost use Rattle.std.specs.Prelude.{◌≤◌, length};
+    ghost use Rattle.array_strategy.specs.declared.array.TheConstants.{MAX_LEN};
+    ghost use Rattle.array_strategy.specs.Elements.{Elements};
+
+    ghost Value = { Elements V };
+
+    ghost use Rattle.array_strategy.specs.Storage.{stored};
+
+    ghost view = { λ a. stored V.int a.store };
+
+    ghost invariant = { λ a. length (stored V.int a.store).items ≤ MAX_LEN };
+}
+
+impl<V: Item> LocalArray<V> {
+    /// The empty array. It takes no memory.
+    pub fn new(alloc: Global) -> Self
+        ensures { result ≡ empty }
+    {
+        LocalArray {
+            store: Store::Empty,
+            alloc,
+        }
+    }
+
+    /// How many items it has.
+    pub fn len(&self) -> usize
+        ensures exact { result ≡ length self.now.items }
+        ensures bound { result ≤ MAX_LEN }
+    {
+        self.store.len()
+    }
+
+    /// Whether it has none.
+    pub fn is_empty(&self) -> bool
+        ensures { IsTrue result ↔ (self.now.items ≡ []) }
+    {
+        self.len() == 0
+    }
+
+    /// How it holds its items.
+    pub fn strategy(&self) -> Strategy
+        ensures exact { result ≡ self.now.strategy }
+        ensures none { result ≡ Strategy.Empty → self.now.items ≡ [] }
+        ensures raw { result ≡ Strategy.Ints → All (IsIntegerBy V.int) self.now.items }
+    {
+        self.store.strategy()
+    }
+
+    /// A copy of the item at an index, where a negative one counts from the end. An integer needs no memory.
+    pub fn at(&self, index: i64) -> Result<Option<V>, AllocError>
+        ensures found { IfOk result (λ found. found ≡ item_at self.now.items index) }
+        ensures raw { self.now.strategy ≡ Strategy.Ints → IfOk result (λ found. IfSome found (λ item. IsSome (V.integer item))) }
+        ensures refused { OnErr result ((self.now.strategy ≡ Strategy.Anys) × IsSome (item_at self.now.items index)) }
+    {
+        match place_at(index, self.len()) {
+            Some(place) => self.store.get(place),
+            None => Ok(None),
+        }
+    }
+
+    /// Puts an item at an index, where a negative one counts from the end. The array is first filled up to there.
+    #[tactic(auto, using(crate::proofs::Puts::puts))]
+    pub fn put(&mut self, index: i64, item: V, fill: V) -> Result<(), PutFault>
+        ensures done { OnOk result (IsSomeAnd (place_of index (length self.old.items)) (λ j. self.new ≡ put_at V.integer self.old j item fill)) }
+        ensures too_small { (result ≡ Err PutFault.TooSmall) ↔ (place_of index (length self.old.items) ≡ None) }
+        ensures too_long { (result ≡ Err PutFault.TooLong) ↔ IsSomeAnd (place_of index (length self.old.items)) (λ j. MAX_LEN ≤ j) }
+        ensures memory { result ≡ Err PutFault.Memory → MayNeedMemory V.integer self.old index item }
+        ensures kept { OnErr result (self.new ≡ self.old) }
+    {
+        let len = self.len();
+        let Some(place) = place_at(index, len) else {
+            return Err(PutFault::TooSmall);
+        };
+        if place >= MAX_LEN {
+            return Err(PutFault::TooLong);
+        }
+        if place < len {
+            self.store.replace(self.alloc, place, item)?;
+            return Ok(());
+        }
+        if place == len {
+            self.store.push(self.alloc, item)?;
+            return Ok(());
+        }
+        self.store.push_filled(self.alloc, place - len, fill, item)?;
+        Ok(())
+    }
+
+    /// Puts an item behind the last.
+    pub fn push(&mut self, item: V) -> Result<(), PutFault>
+        ensures done { OnOk result (self.new ≡ pushed V.integer self.old item) }
+        ensures too_long { (result ≡ Err PutFault.TooLong) ↔ (length self.old.items ≡ MAX_LEN) }
+        ensures cause { result ≢ Err PutFault.TooSmall }
+        ensures kept { OnErr result (self.new ≡ self.old) }
+    {
+        if self.len() == MAX_LEN {
+            return Err(PutFault::TooLong);
+        }
+        self.store.push(self.alloc, item)?;
+        Ok(())
+    }
+
+    /// Puts an item before the first.
+    pub fn unshift(&mut self, item: V) -> Result<(), PutFault>
+        ensures done { OnOk result (self.new ≡ unshifted V.integer self.old item) }
+        ensures too_long { (result ≡ Err PutFault.TooLong) ↔ (length self.old.items ≡ MAX_LEN) }
+        ensures cause { result ≢ Err PutFault.TooSmall }
+        ensures kept { OnErr result (self.new ≡ self.old) }
+    {
+        if self.len() == MAX_LEN {
+            return Err(PutFault::TooLong);
+        }
+        self.store.unshift(self.alloc, item)?;
+        Ok(())
+    }
+
+    /// Takes the last item out.
+    pub fn pop(&mut self) -> Option<V>
+        ensures taken { result ≡ slice_get self.old.items (length self.old.items - 1) }
+        ensures rest { self.new.items ≡ take (length self.old.items - 1) self.old.items }
+        ensures strategy { self.new.strategy ≡ self.old.strategy }
+    {
+        self.store.pop()
+    }
+
+    /// Takes the first item out.
+    pub fn shift(&mut self) -> Option<V>
+        ensures taken { result ≡ slice_get self.old.items 0 }
+        ensures rest { self.new.items ≡ drop 1 self.old.items }
+        ensures strategy { self.new.strategy ≡ self.old.strategy }
+    {
+        self.store.shift()
+    }
+
+    /// Takes the item at an index out, where a negative one counts from the end.
+    pub fn delete_at(&mut self, index: i64) -> Option<V>
+        ensures taken { result ≡ item_at self.old.items index }
+        ensures rest { self.new.items ≡ without_item self.old.items index }
+        ensures strategy { self.new.strategy ≡ self.old.strategy }
+    {
+        let place = place_at(index, self.len())?;
+        self.store.remove(place)
+    }
+
+    /// Takes all items out, and gives their memory back.
+    pub fn clear(&mut self)
+        ensures { self.new ≡ empty }
+    {
+        self.store = Store::Empty;
+    }
+}

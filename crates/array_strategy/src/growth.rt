@@ -1,0 +1,61 @@
+//! Queues that grow by many items at once.
+
+ghost use Rattle.std.specs.Prelude.{◌≡◌, ◌<◌, ◌≤◌, ◌+◌, ◌-◌, ◌^◌, ◌++◌, ◌∷◌, [], length, map, take, replicate, IfOk, OnOk, OnErr};
+ghost use Rattle.std.specs.VecDeque.{deque_len, deque_capacity};
+
+use std::alloc::{AllocError, Global};
+use std::collections::VecDeque;
+use typed_location::Item;
+
+/// Adds `count` copies of `fill`, of which the last is `fill` itself, and then an item.
+pub(crate) fn push_filled<V: Item>(
+    items: &mut VecDeque<V>,
+    count: usize,
+    fill: V,
+    item: V,
+) -> Result<(), AllocError>
+    requires some { 0 < count }
+    requires few { count < 2 ^ 32 }
+    ensures done { OnOk result (items.new.items ≡ items.old.items ++ replicate count fill ++ item ∷ []) }
+    ensures kept { OnErr result (items.new.items ≡ items.old.items) }
+{
+    let len = items.len();
+    items.reserve(count + 1)?;
+    if let Err(refused) = push_copies(items, count - 1, &fill) {
+        items.truncate(len);
+        return Err(refused);
+    }
+    items.push_back_reserved(fill);
+    items.push_back_reserved(item);
+    Ok(())
+}
+
+// Adds copies where there is room for two more; a refused copy leaves some behind the old items.
+fn push_copies<V: Item>(items: &mut VecDeque<V>, count: usize, fill: &V) -> Result<(), AllocError>
+    requires { deque_len items.old + count + 2 ≤ deque_capacity items.old }
+    ensures done { OnOk result (items.new.items ≡ items.old.items ++ replicate count fill.now) }
+    ensures room { OnOk result (deque_len items.new + 2 ≤ deque_capacity items.new) }
+    ensures behind { take (deque_len items.old) items.new.items ≡ items.old.items }
+{
+    'copies: for _ in 0..count {
+        items.push_back_reserved(fill.copy()?);
+    }
+    Ok(())
+}
+
+/// The items that raw integers stand for, with room for more.
+pub(crate) fn widened<V: Item>(
+    alloc: Global,
+    ints: &VecDeque<i64>,
+    room: usize,
+) -> Result<VecDeque<V>, AllocError>
+    requires { deque_len ints.now + room < 2 ^ 64 }
+    ensures items { IfOk result (λ anys. anys.items ≡ map V.int ints.now.items) }
+    ensures room { IfOk result (λ anys. deque_len ints.now + room ≤ deque_capacity anys) }
+{
+    let mut anys = VecDeque::with_capacity(alloc, ints.len() + room)?;
+    'ints: for n in ints {
+        anys.push_back_reserved(V::of_int(*n));
+    }
+    Ok(anys)
+}

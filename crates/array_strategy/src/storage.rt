@@ -1,0 +1,288 @@
+//! The storage of an array: nothing, raw integers or any items.
+
+ghost use Rattle.std.specs.Prelude.{◌≡◌, ◌≢◌, ◌<◌, ◌≤◌, ◌+◌, ◌-◌, ◌^◌, ◌++◌, ◌∷◌, [], length, map, take, drop, slice_get, All, IsSome, IfSome, IfOk, OnOk, OnErr};
+ghost use Rattle.std.specs.List.{remove};
+
+use crate::growth::{push_filled, widened};
+use std::alloc::{AllocError, Global};
+use std::collections::VecDeque;
+use typed_location::Item;
+
+/// How an array holds its items.
+#[derive(Clone, Copy, PartialEq, Eq, Debug)]
+pub enum Strategy {
+    /// It holds none.
+    Empty,
+    /// It holds raw integers.
+    Ints,
+    /// It holds the items themselves.
+    Anys,
+}
+
+/// The storage of an array.
+#[derive(Drop)]
+pub enum Store<V> {
+    Empty,
+    Ints(VecDeque<i64>),
+    Anys(VecDeque<V>),
+}
+
+impl<V: Item> Store<V> {
+    ghost use Rattle.array_strategy.specs.Storage.{stored, replaced, filled};
+    ghost use Rattle.array_strategy.specs.Elements.{IsIntegerBy, strategy_with, empty, pushed, unshifted};
+
+    /// How many items it holds.
+    pub(crate) fn len(&self) -> usize
+        ensures { result ≡ length (stored V.int self.now).items }
+    {
+        match self {
+            Store::Empty => 0,
+            Store::Ints(ints) => ints.len(),
+            Store::Anys(anys) => anys.len(),
+        }
+    }
+
+    /// How it holds them.
+    pub(crate) fn strategy(&self) -> Strategy
+        ensures exact { result ≡ (stored V.int self.now).strategy }
+        ensures none { result ≡ Strategy.Empty → (stored V.int self.now).items ≡ [] }
+        ensures raw { result ≡ Strategy.Ints → All (IsIntegerBy V.int) (stored V.int self.now).items }
+    {
+        match self {
+            Store::Empty => Strategy::Empty,
+            Store::Ints(_) => Strategy::Ints,
+            Store::Anys(_) => Strategy::Anys,
+        }
+    }
+
+    /// A copy of the item at a place; only an item that is no raw integer needs memory.
+    pub(crate) fn get(&self, place: usize) -> Result<Option<V>, AllocError>
+        ensures found { IfOk result (λ found. found ≡ slice_get (stored V.int self.now).items place) }
+        ensures raw { (stored V.int self.now).strategy ≡ Strategy.Ints → IfOk result (λ found. IfSome found (λ item. IsSome (V.integer item))) }
+        ensures refused { OnErr result ((stored V.int self.now).strategy ≡ Strategy.Anys) }
+        ensures at_item { OnErr result (place < length (stored V.int self.now).items) }
+    {
+        match self {
+            Store::Empty => Ok(None),
+            Store::Ints(ints) => match ints.get(place) {
+                Some(n) => Ok(Some(V::of_int(*n))),
+                None => Ok(None),
+            },
+            Store::Anys(anys) => match anys.get(place) {
+                Some(item) => Ok(Some(item.copy()?)),
+                None => Ok(None),
+            },
+        }
+    }
+
+    /// Takes the last item out.
+    pub(crate) fn pop(&mut self) -> Option<V>
+        ensures taken { result ≡ slice_get (stored V.int self.old).items (length (stored V.int self.old).items - 1) }
+        ensures rest { (stored V.int self.new).items ≡ take (length (stored V.int self.old).items - 1) (stored V.int self.old).items }
+        ensures strategy { (stored V.int self.new).strategy ≡ (stored V.int self.old).strategy }
+    {
+        match self {
+            Store::Empty => None,
+            Store::Ints(ints) => match ints.pop_back() {
+                Some(n) => Some(V::of_int(n)),
+                None => None,
+            },
+            Store::Anys(anys) => anys.pop_back(),
+        }
+    }
+
+    /// Takes the first item out.
+    pub(crate) fn shift(&mut self) -> Option<V>
+        ensures taken { result ≡ slice_get (stored V.int self.old).items 0 }
+        ensures rest { (stored V.int self.new).items ≡ drop 1 (stored V.int self.old).items }
+        ensures strategy { (stored V.int self.new).strategy ≡ (stored V.int self.old).strategy }
+    {
+        match self {
+            Store::Empty => None,
+            Store::Ints(ints) => match ints.pop_front() {
+                Some(n) => Some(V::of_int(n)),
+                None => None,
+            },
+            Store::Anys(anys) => anys.pop_front(),
+        }
+    }
+
+    /// Takes the item at a place out.
+    #[tactic(auto, using(crate::proofs::Places::places))]
+    pub(crate) fn remove(&mut self, place: usize) -> Option<V>
+        ensures taken { result ≡ slice_get (stored V.int self.old).items place }
+        ensures rest { (stored V.int self.new).items ≡ remove (stored V.int self.old).items place }
+        ensures strategy { (stored V.int self.new).strategy ≡ (stored V.int self.old).strategy }
+    {
+        match self {
+            Store::Empty => None,
+            Store::Ints(ints) => match ints.remove(place) {
+                Some(n) => Some(V::of_int(n)),
+                None => None,
+            },
+            Store::Anys(anys) => anys.remove(place),
+        }
+    }
+
+    #[tactic(auto, using(crate::proofs::Places::places))]
+    /// Puts an item in place of another; only a change of strategy needs memory.
+    pub(crate) fn replace(&mut self, alloc: Global, place: usize, item: V) -> Result<(), AllocError>
+        requires within { place < length (stored V.int self.old).items }
+        requires few { length (stored V.int self.old).items < 2 ^ 32 }
+        ensures done { OnOk result (stored V.int self.new ≡ replaced V.integer (stored V.int self.old) place item) }
+        ensures kept { OnErr result (stored V.int self.new ≡ stored V.int self.old) }
+        ensures refused { OnErr result (strategy_with (stored V.int self.old).strategy (V.integer item) ≢ (stored V.int self.old).strategy) }
+    {
+        match self {
+            Store::Empty => unreachable!(),
+            Store::Ints(ints) => match item.as_int() {
+                Some(n) => {
+                    ints[place] = n;
+                    Ok(())
+                }
+                None => {
+                    let mut anys = widened(alloc, ints, 0)?;
+                    anys[place] = item;
+                    *self = Store::Anys(anys);
+                    Ok(())
+                }
+            },
+            Store::Anys(anys) => {
+                anys[place] = item;
+                Ok(())
+            }
+        }
+    }
+
+    /// Puts an item behind the last.
+    pub(crate) fn push(&mut self, alloc: Global, item: V) -> Result<(), AllocError>
+        requires { length (stored V.int self.old).items < 2 ^ 32 }
+        ensures done { OnOk result (stored V.int self.new ≡ pushed V.integer (stored V.int self.old) item) }
+        ensures kept { OnErr result (stored V.int self.new ≡ stored V.int self.old) }
+    {
+        match self {
+            Store::Empty => {
+                *self = Store::of_one(alloc, item)?;
+                Ok(())
+            }
+            Store::Ints(ints) => match item.as_int() {
+                Some(n) => {
+                    ints.push_back(n)?;
+                    Ok(())
+                }
+                None => {
+                    let mut anys = widened(alloc, ints, 1)?;
+                    anys.push_back_reserved(item);
+                    *self = Store::Anys(anys);
+                    Ok(())
+                }
+            },
+            Store::Anys(anys) => {
+                anys.push_back(item)?;
+                Ok(())
+            }
+        }
+    }
+
+    /// Puts an item before the first.
+    pub(crate) fn unshift(&mut self, alloc: Global, item: V) -> Result<(), AllocError>
+        requires { length (stored V.int self.old).items < 2 ^ 32 }
+        ensures done { OnOk result (stored V.int self.new ≡ unshifted V.integer (stored V.int self.old) item) }
+        ensures kept { OnErr result (stored V.int self.new ≡ stored V.int self.old) }
+    {
+        match self {
+            Store::Empty => {
+                *self = Store::of_one(alloc, item)?;
+                Ok(())
+            }
+            Store::Ints(ints) => match item.as_int() {
+                Some(n) => {
+                    ints.push_front(n)?;
+                    Ok(())
+                }
+                None => {
+                    let mut anys = widened(alloc, ints, 1)?;
+                    anys.push_front_reserved(item);
+                    *self = Store::Anys(anys);
+                    Ok(())
+                }
+            },
+            Store::Anys(anys) => {
+                anys.push_front(item)?;
+                Ok(())
+            }
+        }
+    }
+
+    #[tactic(auto, using(crate::proofs::Places::places))]
+    /// Puts `count` copies of `fill` and then an item behind the last.
+    pub(crate) fn push_filled(
+        &mut self,
+        alloc: Global,
+        count: usize,
+        fill: V,
+        item: V,
+    ) -> Result<(), AllocError>
+        requires some { 0 < count }
+        requires small { count < 2 ^ 32 }
+        requires few { length (stored V.int self.old).items < 2 ^ 32 }
+        ensures done { OnOk result (stored V.int self.new ≡ filled V.integer (stored V.int self.old) count fill item) }
+        ensures kept { OnErr result (stored V.int self.new ≡ stored V.int self.old) }
+    {
+        match self {
+            Store::Empty => {
+                *self = Store::of_filled(alloc, count, fill, item)?;
+                Ok(())
+            }
+            Store::Ints(ints) => match (fill.as_int(), item.as_int()) {
+                (Some(filler), Some(n)) => push_filled(ints, count, filler, n),
+                _ => {
+                    let mut anys = widened(alloc, ints, count + 1)?;
+                    push_filled(&mut anys, count, fill, item)?;
+                    *self = Store::Anys(anys);
+                    Ok(())
+                }
+            },
+            Store::Anys(anys) => push_filled(anys, count, fill, item),
+        }
+    }
+
+    // The storage of one item.
+    fn of_one(alloc: Global, item: V) -> Result<Store<V>, AllocError>
+        ensures { IfOk result (λ store. stored V.int store ≡ pushed V.integer empty item) }
+    {
+        match item.as_int() {
+            Some(n) => {
+                let mut ints = VecDeque::new(alloc);
+                ints.push_back(n)?;
+                Ok(Store::Ints(ints))
+            }
+            None => {
+                let mut anys = VecDeque::new(alloc);
+                anys.push_back(item)?;
+                Ok(Store::Anys(anys))
+            }
+        }
+    }
+
+    #[tactic(auto, using(crate::proofs::Places::places))]
+    // The storage of `count` copies of `fill` and then an item.
+    fn of_filled(alloc: Global, count: usize, fill: V, item: V) -> Result<Store<V>, AllocError>
+        requires some { 0 < count }
+        requires small { count < 2 ^ 32 }
+        ensures { IfOk result (λ store. stored V.int store ≡ filled V.integer empty count fill item) }
+    {
+        match (fill.as_int(), item.as_int()) {
+            (Some(filler), Some(n)) => {
+                let mut ints = VecDeque::new(alloc);
+                push_filled(&mut ints, count, filler, n)?;
+                Ok(Store::Ints(ints))
+            }
+            _ => {
+                let mut anys = VecDeque::new(alloc);
+                push_filled(&mut anys, count, fill, item)?;
+                Ok(Store::Anys(anys))
+            }
+        }
+    }
+}

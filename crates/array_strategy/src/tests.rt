@@ -1,0 +1,288 @@
+//! Each call by example, by both strategies, and a caller that a runtime would have.
+
+ghost use Rattle.std.specs.Prelude.{◌≡◌, ◌-ℤ◌, pos, Some, length, IfSome, IfNone, IfOk, IsSomeAnd, OnErr};
+ghost use Rattle.array_strategy.specs.Elements.{item_at, place_of, put_at};
+
+use crate::{LocalArray, MAX_LEN, PutFault, Strategy};
+use std::alloc::{AllocError, Global};
+use std::test::Fail;
+use typed_location::Item;
+
+// `array[index] += 1`, where that item is an integer that has a next one; the answer is the next one.
+fn increment<V: Item>(array: &mut LocalArray<V>, index: i64) -> Result<Option<i64>, PutFault>
+    ensures counted { IfOk result (λ found. IfSome found (λ n. item_at array.old.items index ≡ Some (V.int (n -ℤ pos 1)))) }
+    ensures written { IfOk result (λ found. IfSome found (λ n. IsSomeAnd (place_of index (length array.old.items)) (λ j. array.new ≡ put_at V.integer array.old j (V.int n) (V.int n)))) }
+    ensures raw { array.old.strategy ≡ Strategy.Ints → array.new.strategy ≡ Strategy.Ints }
+    ensures none { IfOk result (λ found. IfNone found (array.new ≡ array.old)) }
+    ensures kept { OnErr result (array.new ≡ array.old) }
+{
+    let Some(item) = array.at(index)? else {
+        return Ok(None);
+    };
+    let Some(n) = item.as_int() else {
+        return Ok(None);
+    };
+    let Some(next) = n.checked_add(1) else {
+        return Ok(None);
+    };
+    array.put(index, V::of_int(next), V::of_int(next))?;
+    Ok(Some(next))
+}
+
+// A value of a small language; a copy of the last one is always refused.
+#[derive(Clone, Copy, PartialEq, Eq, Debug)]
+enum Value {
+    Nil,
+    Int(i64),
+    Scarce,
+}
+
+use Value::{Int, Nil, Scarce};
+
+impl Item for Value {
+    ghost use Rattle.std.specs.Prelude.{ℤ, Some, None, refl};
+    ghost use Rattle.array_strategy.specs.declared.tests.Value.TheVariants.{Nil, Int, Scarce};
+
+    ghost int = { Int };
+
+    ghost integer = { elim [ Nil ↦ None | Int n ↦ Some n | Scarce ↦ None ] };
+
+    ghost known = { λ _ _. refl };
+
+    ghost only = { elim [ Nil ↦ λ n e. Prim.cc | Int m ↦ λ n e. Prim.cc | Scarce ↦ λ n e. Prim.cc ] };
+
+    fn as_int(&self) -> Option<i64> {
+        match self {
+            Value::Int(n) => Some(*n),
+            _ => None,
+        }
+    }
+
+    fn of_int(n: i64) -> Self {
+        Value::Int(n)
+    }
+
+    fn copy(&self) -> Result<Self, AllocError> {
+        match self {
+            Value::Scarce => Err(AllocError),
+            other => Ok(*other),
+        }
+    }
+}
+
+// The array of these items, general from the first on if `strategy` says so.
+fn array_of(
+    alloc: Global,
+    strategy: Strategy,
+    items: &[Value],
+) -> Result<LocalArray<Value>, PutFault> {
+    let mut array = LocalArray::new(alloc);
+    if strategy == Strategy::Anys {
+        array.push(Nil)?;
+        let _ = array.pop();
+    }
+    for item in items {
+        array.push(*item)?;
+    }
+    Ok(array)
+}
+
+// The items of the array, each taken from its front.
+fn items_of(alloc: Global, mut array: LocalArray<Value>) -> Result<Vec<Value>, AllocError> {
+    let mut items = Vec::new(alloc);
+    for _ in 0..array.len() {
+        if let Some(item) = array.shift() {
+            items.push(item)?;
+        }
+    }
+    Ok(items)
+}
+
+#[test]
+fn a_put_writes_fills_up_and_widens_or_leaves_the_array(rt: HostRuntime) -> Result<(), Fail> {
+    let alloc = rt.alloc();
+    let (ints, anys) = (Strategy::Ints, Strategy::Anys);
+    let (small, long) = (Err(PutFault::TooSmall), Err(PutFault::TooLong));
+    let start = [Int(1), Int(2), Int(3)];
+    for (index, item, fill, answer, left, strategy) in [
+        (
+            0,
+            Int(9),
+            Nil,
+            Ok(()),
+            [Int(9), Int(2), Int(3)].as_slice(),
+            ints,
+        ),
+        (
+            -1,
+            Int(9),
+            Nil,
+            Ok(()),
+            [Int(1), Int(2), Int(9)].as_slice(),
+            ints,
+        ),
+        (
+            -3,
+            Int(9),
+            Nil,
+            Ok(()),
+            [Int(9), Int(2), Int(3)].as_slice(),
+            ints,
+        ),
+        (-4, Int(9), Nil, small, start.as_slice(), ints),
+        (i64::MIN, Nil, Nil, small, start.as_slice(), ints),
+        (
+            1,
+            Nil,
+            Int(0),
+            Ok(()),
+            [Int(1), Nil, Int(3)].as_slice(),
+            anys,
+        ),
+        (
+            3,
+            Int(9),
+            Nil,
+            Ok(()),
+            [Int(1), Int(2), Int(3), Int(9)].as_slice(),
+            ints,
+        ),
+        (
+            4,
+            Int(9),
+            Int(0),
+            Ok(()),
+            [Int(1), Int(2), Int(3), Int(0), Int(9)].as_slice(),
+            ints,
+        ),
+        (
+            4,
+            Int(9),
+            Scarce,
+            Ok(()),
+            [Int(1), Int(2), Int(3), Scarce, Int(9)].as_slice(),
+            anys,
+        ),
+        (
+            5,
+            Nil,
+            Int(0),
+            Ok(()),
+            [Int(1), Int(2), Int(3), Int(0), Int(0), Nil].as_slice(),
+            anys,
+        ),
+        (
+            5,
+            Int(9),
+            Scarce,
+            Err(PutFault::Memory),
+            start.as_slice(),
+            ints,
+        ),
+        (16_777_216, Int(9), Nil, long, start.as_slice(), ints),
+        (i64::MAX, Nil, Nil, long, start.as_slice(), ints),
+    ] {
+        for held in [ints, anys] {
+            let mut array = array_of(alloc, held, &start)?;
+            assert_eq!(rt; array.put(index, item, fill), answer, "{index}");
+            let wanted = if held == anys { anys } else { strategy };
+            assert_eq!(rt; array.strategy(), wanted, "{index}");
+            assert_eq!(rt; items_of(alloc, array)?.as_slice(), left, "{index}");
+        }
+    }
+    Ok(())
+}
+
+#[test]
+fn a_strategy_stays_until_the_array_is_cleared(rt: HostRuntime) -> Result<(), Fail> {
+    for held in [Strategy::Ints, Strategy::Anys] {
+        let mut array = array_of(rt.alloc(), held, &[Int(1), Int(2)])?;
+        assert_eq!(rt; increment(&mut array, -1)?, Some(3));
+        assert_eq!(rt; increment(&mut array, 2)?, None);
+        for left in [Some(Int(3)), Some(Int(1)), None] {
+            assert_eq!(rt; array.pop(), left);
+        }
+        assert!(rt; array.is_empty() && array.strategy() == held);
+        array.clear();
+        assert_eq!(rt; array.strategy(), Strategy::Empty);
+    }
+    Ok(())
+}
+
+#[test]
+fn a_general_item_widens_an_array_for_good(rt: HostRuntime) -> Result<(), Fail> {
+    let alloc = rt.alloc();
+    let mut array = array_of(alloc, Strategy::Ints, &[Int(1), Int(2)])?;
+    array.unshift(Nil)?;
+    assert_eq!(rt; array.shift(), Some(Nil));
+    assert_eq!(rt; array.strategy(), Strategy::Anys);
+    assert_eq!(rt;
+        items_of(alloc, array)?.as_slice(),
+        [Int(1), Int(2)].as_slice()
+    );
+    let mut full = LocalArray::new(alloc);
+    full.put(16_777_215, 0_i64, 0)?;
+    assert_eq!(rt; full.len(), MAX_LEN);
+    assert_eq!(rt; full.push(0), Err(PutFault::TooLong));
+    assert_eq!(rt; full.unshift(0), Err(PutFault::TooLong));
+    assert_eq!(rt; full.pop(), Some(0));
+    assert_eq!(rt; full.push(1), Ok(()));
+    Ok(())
+}
+
+// One call, picked by a number, on an array and on a plain list: whether they answer alike.
+fn answers_alike(
+    array: &mut LocalArray<Value>,
+    plain: &mut Vec<Value>,
+    pick: u64,
+) -> Result<bool, Fail> {
+    let item = if pick % 13 == 0 {
+        Nil
+    } else {
+        Int(i64::from((pick % 1000) as u32))
+    };
+    let back = (pick / 8 % 6) as usize;
+    match pick % 8 {
+        0 | 1 => {
+            plain.push(item)?;
+            Ok(array.push(item).is_ok())
+        }
+        2 => {
+            plain.insert(0, item)?;
+            Ok(array.unshift(item).is_ok())
+        }
+        3 => Ok(array.pop() == plain.pop()),
+        4 if !plain.is_empty() => Ok(array.shift() == Some(plain.remove(0))),
+        5 if 0 < back && back <= plain.len() => {
+            let place = plain.len() - back;
+            Ok(array.delete_at(-(back as i64)) == Some(plain.remove(place)))
+        }
+        6 if back < plain.len() => {
+            plain[back] = item;
+            Ok(array.put(back as i64, item, Nil).is_ok())
+        }
+        _ => Ok(array.at(back as i64)? == plain.get(back).copied()),
+    }
+}
+
+#[test]
+fn a_long_sequence_goes_as_on_a_plain_list(rt: HostRuntime) -> Result<(), Fail> {
+    let alloc = rt.alloc();
+    let mut array = LocalArray::new(alloc);
+    let mut plain = Vec::new(alloc);
+    let mut pick = 1_u64;
+    for _ in 0..3000 {
+        pick = pick.wrapping_mul(6_364_136_223_846_793_005).wrapping_add(1);
+        assert!(rt;
+            answers_alike(&mut array, &mut plain, pick >> 33)?,
+            "{pick}"
+        );
+        assert_eq!(rt; array.len(), plain.len());
+        if pick % 512 == 0 {
+            array.clear();
+            plain.clear();
+        }
+    }
+    assert_eq!(rt; items_of(alloc, array)?.as_slice(), plain.as_slice());
+    Ok(())
+}
