@@ -1,0 +1,2 @@
+//! A store of shapes in memory: `Tree`.
+#![tactic(auto)]
