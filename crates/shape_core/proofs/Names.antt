@@ -1,5 +1,5 @@
 -- The laws of names.
-use Rattle.std.proofs.Common.{◌≡◌, ℕ, zero, suc, ◌<◌, ◌==◌, Bool, true, false, cond, List, [], ◌∷◌, ◌++◌, Option, Some, None, ◌⊎◌, inl, inr, refl, ap, sym, ◌∙◌, subst, arith, Contains, get_or, length}
+use Rattle.std.proofs.Common.{◌≡◌, ℕ, zero, suc, ◌<◌, ◌==◌, Bool, true, false, cond, [], ◌∷◌, ◌++◌, Option, Some, None, ◌⊎◌, inl, inr, refl, ap, sym, ◌∙◌, subst, arith, Contains, get_or, length}
 use Rattle.std.specs.Prelude.{IsSome, is_some}
 use Rattle.std.specs.Option.{option_map}
 use Rattle.std.proofs.lemmas.List.Elements.{Contains-append_right}
@@ -8,10 +8,9 @@ use Rattle.shape_core.specs.declared.edge.Kind.{Kind}
 use Rattle.shape_core.specs.declared.edge.Kind.TheVariants.{IntLoc, AnyLoc}
 use Rattle.shape_core.specs.declared.edge.Edge.{Edge}
 use Rattle.shape_core.specs.declared.edge.Edge.TheVariants.{Add, Widen, Share}
-use Rattle.shape_core.specs.declared.facts.Place.{Place}
 use Rattle.shape_core.specs.Path.{Path, next_place, find_on, kind_on, MayFollow, IsPath}
 use Rattle.shape_core.specs.Laws.{Adds, StandsWhereAdded, AddsOnce, WidensOnce, Stays}
-use Rattle.shape_core.proofs.Paths.{Found, found_more, lost_less, same_name, own_name}
+use Rattle.shape_core.proofs.Paths.{Found, found_more, same_name, own_name}
 
 -- an edge of a path is its newest or an older one
 newest_or_older : (edge : Edge) (path : Path) (it : Edge) → Contains (edge ∷ path) it → (edge ≡ it) ⊎ Contains path it
@@ -57,13 +56,13 @@ added : (path : Path) (name : NameId) → IsPath path → IsSome (find_on path n
 added [] name valid h = absurd (cc)
 added (Add given kind ∷ path) name valid h =
     added_step given name (find_on path name) (next_place path, kind) (Adds (Add given kind ∷ path) name)
-        (λ e. (kind, subst (λ (n : NameId). Contains (Add given kind ∷ path) (Add n kind)) e (newest (Add given kind) path)))
-        (λ w. added_older (Add given kind) path name (added path name valid.1 w)) h
+    (λ e. (kind, subst (λ (n : NameId). Contains (Add given kind ∷ path) (Add n kind)) e (newest (Add given kind) path)))
+    (λ w. added_older (Add given kind) path name (added path name valid.1 w)) h
 added (Widen given ∷ path) name valid h =
     added_step given name (find_on path name) (next_place path, AnyLoc) (Adds (Widen given ∷ path) name)
-        (λ e. added_older (Widen given) path name
-            (added path name valid.1 (subst (λ (n : NameId). IsSome (find_on path n)) e (kind_found (find_on path given) IntLoc valid.0))))
-        (λ w. added_older (Widen given) path name (added path name valid.1 w)) h
+    (λ e. added_older (Widen given) path name
+    (added path name valid.1 (subst (λ (n : NameId). IsSome (find_on path n)) e (kind_found (find_on path given) IntLoc valid.0))))
+    (λ w. added_older (Widen given) path name (added path name valid.1 w)) h
 added (Share ∷ path) name valid h = added_older Share path name (added path name valid.1 h)
 
 -- an older name is found
@@ -77,9 +76,10 @@ found : (path : Path) (name : NameId) (kind : Kind) → Contains path (Add name 
 found [] name kind h = absurd (omega (arith, h.1))
 found (edge ∷ path) name kind h =
     elim (newest_or_older edge path (Add name kind) h) [
-        inl e ↦ subst (λ (it : Edge). IsSome (find_on (it ∷ path) name)) (sym e)
-            (ap is_some (own_found name (next_place path, kind) (find_on path name)))
-      | inr w ↦ found_older edge path name (found path name kind w) ]
+      | inl e ↦ subst (λ (it : Edge). IsSome (find_on (it ∷ path) name)) (sym e)
+          (ap is_some (own_found name (next_place path, kind) (find_on path name)))
+      | inr w ↦ found_older edge path name (found path name kind w)
+    ]
 
 -- a name stands at a place exactly where its path adds it
 pub stands_where_added : StandsWhereAdded
@@ -94,11 +94,12 @@ unadded_later : (later rest : Path) (name : NameId) (kind : Kind)
 unadded_later [] rest name kind at valid h = absurd (omega (arith, h.1))
 unadded_later (edge ∷ later) rest name kind at valid h =
     elim (newest_or_older edge later (Add name kind) h) [
-        inl e ↦
+      | inl e ↦
           let free : find_on (later ++ rest) name ≡ None = subst (λ (it : Edge). MayFollow (later ++ rest) it) e valid.0 in
           let there : IsSome (find_on (later ++ rest) name) = found_later later rest name at in
           cc
-      | inr w ↦ unadded_later later rest name kind at valid.1 w ]
+      | inr w ↦ unadded_later later rest name kind at valid.1 w
+    ]
   where
     found_later : (later rest : Path) (name : NameId) → IsSome (find_on rest name) → IsSome (find_on (later ++ rest) name)
     found_later [] rest name h = h
@@ -107,9 +108,10 @@ unadded_later (edge ∷ later) rest name kind at valid h =
 -- a name is added once
 pub adds_once : AddsOnce
 adds_once later path name kind kind' valid =
-    let here : IsPath (Add name kind ∷ path) = IsPath-older later (Add name kind ∷ path) valid in
-    (λ w. unadded path name w.0 here.0 w.1,
-     λ w. unadded_later later (Add name kind ∷ path) name kind' (ap is_some (own_found name (next_place path, kind) (find_on path name))) valid w)
+    let here : IsPath (Add name kind ∷ path) = IsPath-older later (Add name kind ∷ path) valid in (
+      λ w. unadded path name w.0 here.0 w.1,
+      λ w. unadded_later later (Add name kind ∷ path) name kind' (ap is_some (own_found name (next_place path, kind) (find_on path name))) valid w,
+    )
 
 -- a look at the kind of a name, edge by edge
 kind_step : (given name : NameId) (path : Path) (kind : Kind) → (given ≡ name → kind ≡ AnyLoc) → kind_on path name ≡ Some AnyLoc
@@ -125,10 +127,10 @@ kind_step given name path kind here there = by (given.0 == name.0) refl
 widened_older : (edge : Edge) (path : Path) (name : NameId) → MayFollow path edge → kind_on path name ≡ Some AnyLoc → kind_on (edge ∷ path) name ≡ Some AnyLoc
 widened_older (Add given kind) path name free there =
     kind_step given name path kind
-        (λ e. let f : IsSome (find_on path name) = kind_found (find_on path name) AnyLoc there in
-              let none : find_on path name ≡ None = subst (λ (n : NameId). find_on path n ≡ None) e free in
-              absurd (let both : None ≡ find_on path name = sym none in let v = ap is_some both ∙ f in cc))
-        there
+    (λ e. let f : IsSome (find_on path name) = kind_found (find_on path name) AnyLoc there in
+    let none : find_on path name ≡ None = subst (λ (n : NameId). find_on path n ≡ None) e free in
+    absurd (let both : None ≡ find_on path name = sym none in let v = ap is_some both ∙ f in cc))
+    there
 widened_older (Widen given) path name free there = kind_step given name path AnyLoc (λ e. refl) there
 widened_older Share path name free there = there
 
@@ -137,9 +139,10 @@ widened : (path : Path) (name : NameId) → IsPath path → Contains path (Widen
 widened [] name valid h = absurd (omega (arith, h.1))
 widened (edge ∷ path) name valid h =
     elim (newest_or_older edge path (Widen name) h) [
-        inl e ↦ subst (λ (it : Edge). kind_on (it ∷ path) name ≡ Some AnyLoc) (sym e)
-            (ap (option_map (λ (f : Found). f.1)) (own_found name (next_place path, AnyLoc) (find_on path name)))
-      | inr w ↦ widened_older edge path name valid.0 (widened path name valid.1 w) ]
+      | inl e ↦ subst (λ (it : Edge). kind_on (it ∷ path) name ≡ Some AnyLoc) (sym e)
+          (ap (option_map (λ (f : Found). f.1)) (own_found name (next_place path, AnyLoc) (find_on path name)))
+      | inr w ↦ widened_older edge path name valid.0 (widened path name valid.1 w)
+    ]
 
 -- a name that may be widened was not widened
 unwidened : (path : Path) (name : NameId) → IsPath path → MayFollow path (Widen name) → Contains path (Widen name) → ⊥
@@ -150,9 +153,10 @@ unwidened_later : (later rest : Path) (name : NameId)
 unwidened_later [] rest name there valid h = absurd (omega (arith, h.1))
 unwidened_later (edge ∷ later) rest name there valid h =
     elim (newest_or_older edge later (Widen name) h) [
-        inl e ↦ unwidened (later ++ rest) name valid.1 (subst (λ (it : Edge). MayFollow (later ++ rest) it) e valid.0)
-            (Contains-append_right later rest (Widen name) there)
-      | inr w ↦ unwidened_later later rest name there valid.1 w ]
+      | inl e ↦ unwidened (later ++ rest) name valid.1 (subst (λ (it : Edge). MayFollow (later ++ rest) it) e valid.0)
+          (Contains-append_right later rest (Widen name) there)
+      | inr w ↦ unwidened_later later rest name there valid.1 w
+    ]
 
 -- a name is widened at most once
 pub widens_once : WidensOnce
@@ -174,10 +178,10 @@ stays [] path name place kind valid at none = at
 stays (Add given k ∷ later) path name place kind valid at none =
     let there = stays later path name place kind valid.1 at (λ w. none (older (Add given k) later (Widen name) w)) in
     stays_step given name (find_on (later ++ path) name) (next_place (later ++ path), k) (place, kind)
-        (λ e. let free : find_on (later ++ path) name ≡ None = subst (λ (n : NameId). find_on (later ++ path) n ≡ None) e valid.0 in cc) there
+    (λ e. let free : find_on (later ++ path) name ≡ None = subst (λ (n : NameId). find_on (later ++ path) n ≡ None) e valid.0 in cc) there
 stays (Widen given ∷ later) path name place kind valid at none =
     let there = stays later path name place kind valid.1 at (λ w. none (older (Widen given) later (Widen name) w)) in
     stays_step given name (find_on (later ++ path) name) (next_place (later ++ path), AnyLoc) (place, kind)
-        (λ e. none (subst (λ (n : NameId). Contains (Widen given ∷ later) (Widen n)) e (newest (Widen given) later))) there
+    (λ e. none (subst (λ (n : NameId). Contains (Widen given ∷ later) (Widen n)) e (newest (Widen given) later))) there
 stays (Share ∷ later) path name place kind valid at none =
     stays later path name place kind valid.1 at (λ w. none (older Share later (Widen name) w))

@@ -1,5 +1,5 @@
 -- The laws of places.
-use Rattle.std.proofs.Common.{◌≡◌, ◌≢◌, ℕ, suc, ◌<◌, ◌≤◌, ◌==◌, Bool, true, false, cond, List, [], ◌∷◌, ◌++◌, Option, Some, None, ◌⊎◌, inl, inr, refl, ap, sym, ◌∙◌, arith}
+use Rattle.std.proofs.Common.{◌≡◌, ◌≢◌, ℕ, suc, ◌<◌, ◌==◌, Bool, true, cond, [], ◌∷◌, ◌++◌, Option, Some, inl, inr, ap, sym, ◌∙◌, arith}
 use Rattle.std.specs.Prelude.{IsTrue}
 use Rattle.std.proofs.lemmas.Bool.{eq-eqb}
 use Rattle.rb_tree.specs.declared.span.NameId.{NameId}
@@ -33,12 +33,15 @@ apart_step : (given name other : NameId) (path : Path) (k : Kind) (place : Place
 apart_step given name other path k place kind kind' older h h' =
     let n = places_of path in
     elim (found_cases (given.0 == name.0) n k (find_on path name) (place, kind) h) [
-        inl v ↦ elim (found_cases (given.0 == other.0) n k (find_on path other) (place, kind') h') [
-            inl w ↦ sym (same_name given name v.0) ∙ same_name given other w.0
-          | inr w ↦ absurd (omega (arith, v.1, below path other place kind' w.1)) ]
+      | inl v ↦ elim (found_cases (given.0 == other.0) n k (find_on path other) (place, kind') h') [
+        | inl w ↦ sym (same_name given name v.0) ∙ same_name given other w.0
+        | inr w ↦ absurd (omega (arith, v.1, below path other place kind' w.1))
+      ]
       | inr v ↦ elim (found_cases (given.0 == other.0) n k (find_on path other) (place, kind') h') [
-            inl w ↦ absurd (omega (arith, w.1, below path name place kind v.1))
-          | inr w ↦ older v.1 w.1 ] ]
+        | inl w ↦ absurd (omega (arith, w.1, below path name place kind v.1))
+        | inr w ↦ older v.1 w.1
+      ]
+    ]
 
 -- two names do not stand at one place
 pub apart : StandsApart
@@ -77,31 +80,33 @@ retired_step : (given other : NameId) (path longer : Path) (k : Kind) (place pla
     → cond (given.0 == other.0) (Some (next_place longer, k)) (find_on longer other) ≡ Some (place', kind') → place ≢ place'
 retired_step given other path longer k place place' kind' small older h =
     elim (found_cases (given.0 == other.0) (places_of longer) k (find_on longer other) (place', kind') h) [
-        inl w ↦ λ e. omega (arith, w.1, ap (λ (p : Place). p.0) e)
-      | inr w ↦ older w.1 ]
+      | inl w ↦ λ e. omega (arith, w.1, ap (λ (p : Place). p.0) e)
+      | inr w ↦ older w.1
+    ]
 
 -- where the name itself was widened, another name is found at another place
 retired_now : (path : Path) (name other : NameId) (place place' : Place) (kind kind' : Kind)
     → find_on path name ≡ Some (place, kind) → find_on (Widen name ∷ path) other ≡ Some (place', kind') → place ≢ place'
 retired_now path name other place place' kind kind' at h same =
     elim (found_cases (name.0 == other.0) (places_of path) AnyLoc (find_on path other) (place', kind') h) [
-        inl w ↦ omega (arith, w.1, ap (λ (p : Place). p.0) same, below path name place kind at)
+      | inl w ↦ omega (arith, w.1, ap (λ (p : Place). p.0) same, below path name place kind at)
       | inr w ↦
           let there : find_on path other ≡ Some (place, kind') = w.1 ∙ ap (λ (p : Place). Some (p, kind')) (sym same) in
           let one : name ≡ other = apart path name other place kind kind' at there in
           let e : (name.0 == other.0) ≡ true = eq-eqb name.0 other.0 (ap (λ (n : NameId). n.0) one) in
-          cc ]
+          cc
+    ]
 
 -- a place that a widening left is never again the place of a name
 pub retired : RetiresForGood
 retired [] path name other place place' kind kind' at h = retired_now path name other place place' kind kind' at h
 retired (Add given k ∷ later) path name other place place' kind kind' at h =
     retired_step given other path (later ++ Widen name ∷ path) k place place' kind'
-        (omega (arith, below path name place kind at, places_grow later (Widen name ∷ path)))
-        (retired later path name other place place' kind kind' at) h
+    (omega (arith, below path name place kind at, places_grow later (Widen name ∷ path)))
+    (retired later path name other place place' kind kind' at) h
 retired (Widen given ∷ later) path name other place place' kind kind' at h =
     retired_step given other path (later ++ Widen name ∷ path) AnyLoc place place' kind'
-        (omega (arith, below path name place kind at, places_grow later (Widen name ∷ path)))
-        (retired later path name other place place' kind kind' at) h
+    (omega (arith, below path name place kind at, places_grow later (Widen name ∷ path)))
+    (retired later path name other place place' kind kind' at) h
 retired (Share ∷ later) path name other place place' kind kind' at h =
     retired later path name other place place' kind kind' at h

@@ -1,5 +1,5 @@
 -- Lists of shapes that grow by one.
-use Rattle.std.proofs.Common.{◌≡◌, ℕ, ◌+◌, ◌<◌, List, [], ◌∷◌, ◌++◌, ◌⊎◌, inl, inr, refl, ap, sym, ◌∙◌, subst, arith, Contains, get_or, length, length-append}
+use Rattle.std.proofs.Common.{◌≡◌, ℕ, ◌+◌, ◌<◌, List, [], ◌∷◌, ◌++◌, ◌⊎◌, inl, inr, ap, sym, ◌∙◌, subst, arith, Contains, get_or, length, length-append}
 use Rattle.std.proofs.lemmas.List.Elements.{Contains-get_or}
 use Rattle.std.proofs.Math.ListN.{get_or-append}
 use Rattle.std.proofs.Math.Seq.{get_or-append_seam}
@@ -38,11 +38,12 @@ Follows-root shapes class = record { path = tt; parent = λ edge path e. absurd 
 pub Follows-child : (shapes : List Shape) (id : ShapeId) (edge : Edge) → IsStore shapes → id.0 < length shapes → MayFollow (path_at shapes id) edge
     → Follows shapes (child_of (shape_at shapes id) edge)
 Follows-child shapes id edge store known allowed = record {
-    path = (allowed, store.paths id known);
-    parent = λ it path e.
-        let same : path_at shapes id ≡ path = cc in
-        let by : Path → Shape = λ p. record { class = (shape_at shapes id).class; path = p } in
-        (id, (known, ap by same)) }
+  path = (allowed, store.paths id known);
+  parent = λ it path e.
+      let same : path_at shapes id ≡ path = cc in
+      let by : Path → Shape = λ p. record { class = (shape_at shapes id).class; path = p } in
+      (id, (known, ap by same));
+}
 
 -- a number in a list with one shape more is an older one or the new one's, and the shape with it is known
 pub each_case : (shapes : List Shape) (shape : Shape) (P : ℕ → Shape → Type 0)
@@ -50,8 +51,9 @@ pub each_case : (shapes : List Shape) (shape : Shape) (P : ℕ → Shape → Typ
     → (id : ShapeId) → id.0 < length (shapes ++ shape ∷ []) → P id.0 (shape_at (shapes ++ shape ∷ []) id)
 each_case shapes shape P older newest id h =
     elim (number_cases shapes shape id h) [
-        inl lt ↦ subst (λ (s : Shape). P id.0 s) (sym (shape_at-older shapes shape id lt)) (older id lt)
-      | inr e ↦ subst (λ (s : Shape). P id.0 s) (sym (shape_at-newest shapes shape id e)) (subst (λ (n : ℕ). P n shape) (sym e) newest) ]
+      | inl lt ↦ subst (λ (s : Shape). P id.0 s) (sym (shape_at-older shapes shape id lt)) (older id lt)
+      | inr e ↦ subst (λ (s : Shape). P id.0 s) (sym (shape_at-newest shapes shape id e)) (subst (λ (n : ℕ). P n shape) (sym e) newest)
+    ]
 
 same_id : (id other : ShapeId) → id.0 ≡ other.0 → id ≡ other
 same_id id other e = let by : ℕ → ShapeId = λ n. record { 0 = n } in ap by e
@@ -65,14 +67,17 @@ distinct-push : (shapes : List Shape) (shape : Shape) → IsStore shapes → (Co
     → shape_at (shapes ++ shape ∷ []) id ≡ shape_at (shapes ++ shape ∷ []) other → id ≡ other
 distinct-push shapes shape store new id other h h' same =
     elim (number_cases shapes shape id h) [
-        inl lt ↦ elim (number_cases shapes shape other h') [
-            inl lt' ↦ store.distinct id other lt lt' (sym (shape_at-older shapes shape id lt) ∙ same ∙ shape_at-older shapes shape other lt')
-          | inr e' ↦ absurd (new (contains_at shapes shape id lt
-                (sym (shape_at-older shapes shape id lt) ∙ same ∙ shape_at-newest shapes shape other e'))) ]
+      | inl lt ↦ elim (number_cases shapes shape other h') [
+        | inl lt' ↦ store.distinct id other lt lt' (sym (shape_at-older shapes shape id lt) ∙ same ∙ shape_at-older shapes shape other lt')
+        | inr e' ↦ absurd (new (contains_at shapes shape id lt
+            (sym (shape_at-older shapes shape id lt) ∙ same ∙ shape_at-newest shapes shape other e')))
+      ]
       | inr e ↦ elim (number_cases shapes shape other h') [
-            inl lt' ↦ absurd (new (contains_at shapes shape other lt'
-                (sym (shape_at-older shapes shape other lt') ∙ sym same ∙ shape_at-newest shapes shape id e)))
-          | inr e' ↦ same_id id other (e ∙ sym e') ] ]
+        | inl lt' ↦ absurd (new (contains_at shapes shape other lt'
+            (sym (shape_at-older shapes shape other lt') ∙ sym same ∙ shape_at-newest shapes shape id e)))
+        | inr e' ↦ same_id id other (e ∙ sym e')
+      ]
+    ]
 
 -- no shapes are those of a store
 pub IsStore-none : IsStore []
@@ -86,14 +91,16 @@ HasBefore shapes n shape = (edge : Edge) (path : Path) → shape.path ≡ edge �
 -- and with one more behind that may follow they still are
 pub IsStore-push : (shapes : List Shape) (shape : Shape) → IsStore shapes → (Contains shapes shape → ⊥) → Follows shapes shape → IsStore (shapes ++ shape ∷ [])
 IsStore-push shapes shape store new follows = record {
-    distinct = distinct-push shapes shape store new;
-    paths = each_case shapes shape (λ n s. IsPath s.path) store.paths follows.path;
-    parents = λ id edge path h e. each_case shapes shape (HasBefore (shapes ++ shape ∷ [])) older newest id h edge path e }
+  distinct = distinct-push shapes shape store new;
+  paths = each_case shapes shape (λ n s. IsPath s.path) store.paths follows.path;
+  parents = λ id edge path h e. each_case shapes shape (HasBefore (shapes ++ shape ∷ [])) older newest id h edge path e;
+}
   where
     older : (id : ShapeId) → id.0 < length shapes → HasBefore (shapes ++ shape ∷ []) id.0 (shape_at shapes id)
     older id h edge path e =
         let p = store.parents id edge path h e in
         (p.0, p.1, shape_at-older shapes shape p.0 (omega (arith, p.1, h)) ∙ p.2)
+
     newest : HasBefore (shapes ++ shape ∷ []) (length shapes) shape
     newest edge path e =
         let p = follows.parent edge path e in
@@ -103,5 +110,6 @@ IsStore-push shapes shape store new follows = record {
 pub IsStore-gains : (old new : List Shape) (shape : Shape) → IsStore old → Gains old shape new → Follows old shape → IsStore new
 IsStore-gains old new shape store gains follows =
     elim gains [
-        inl w ↦ subst IsStore (sym w.1) store
-      | inr w ↦ subst IsStore (sym w.1) (IsStore-push old shape store w.0 follows) ]
+      | inl w ↦ subst IsStore (sym w.1) store
+      | inr w ↦ subst IsStore (sym w.1) (IsStore-push old shape store w.0 follows)
+    ]

@@ -1,13 +1,13 @@
 -- The laws of shapes, for all paths.
-use Rattle.std.specs.Prelude.{◌≡◌, ◌≢◌, ℕ, ◌<◌, Bool, true, false, List, [], ◌∷◌, ◌++◌, Option, Some, None, ◌↔◌, IsTrue, IsSome, Contains, length}
+use Rattle.std.specs.Prelude.{◌≡◌, ◌≢◌, ◌<◌, Bool, true, false, List, ◌∷◌, ◌++◌, Some, ◌↔◌, IsTrue, IsSome, Contains, length}
 use Rattle.rb_tree.specs.declared.span.NameId.{NameId}
 use Rattle.shape_core.specs.declared.edge.Kind.{Kind}
-use Rattle.shape_core.specs.declared.edge.Kind.TheVariants.{IntLoc, AnyLoc}
+use Rattle.shape_core.specs.declared.edge.Kind.TheVariants.{AnyLoc}
 use Rattle.shape_core.specs.declared.edge.Edge.{Edge}
 use Rattle.shape_core.specs.declared.edge.Edge.TheVariants.{Add, Widen, Share}
 use Rattle.shape_core.specs.declared.facts.Place.{Place}
 use Rattle.shape_core.specs.declared.facts.ShapeId.{ShapeId}
-use Rattle.shape_core.specs.Path.{Path, places_of, next_place, find_on, MayFollow, IsPath}
+use Rattle.shape_core.specs.Path.{Path, places_of, next_place, find_on, IsPath}
 use Rattle.shape_core.specs.Shape.{Shape, IsStore, shape_at}
 
 -- whether an edge gives a place

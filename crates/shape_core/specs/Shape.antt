@@ -1,5 +1,5 @@
 -- Shapes, and the shapes of a store in the order of making.
-use Rattle.std.specs.Prelude.{◌≡◌, ℕ, ◌<◌, List, [], ◌∷◌, ◌++◌, Option, Some, None, ◌⊎◌, length, slice_index_or, Contains, IsSomeAnd}
+use Rattle.std.specs.Prelude.{◌≡◌, ℕ, ◌<◌, List, [], ◌∷◌, ◌++◌, Option, None, ◌⊎◌, length, slice_index_or, Contains, IsSomeAnd}
 use Rattle.shape_core.specs.declared.edge.Edge.{Edge}
 use Rattle.shape_core.specs.declared.facts.ShapeId.{ShapeId}
 use Rattle.shape_core.specs.Path.{Path, IsPath}

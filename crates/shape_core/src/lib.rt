@@ -10,4 +10,4 @@ mod store;
 pub use edge::{Edge, Kind};
 pub use facts::{Place, ShapeFacts, ShapeId};
 pub use rb_tree::NameId;
-pub use store::ShapeStore;
+pub use store::{ShapeStore, may_follow};

@@ -22,22 +22,27 @@ Keeps-longer old new grown longer layout fits =
       fits = record {
         there = omega (arith, fits.there);
         long = omega (arith, fits.long, ap length l.1, length-append (table_at old layout.table) l.0);
-        own = fits.own };
+        own = fits.own;
+      };
       slots =
-        ap (λ (t : List Slot). slots_with t layout.places layout.own) l.1
-        ∙ slots_with-longer (table_at old layout.table) l.0 layout.places layout.own fits.long
-        ∙ sym (append-nil (slots_of old layout)) }
+          ap (λ (t : List Slot). slots_with t layout.places layout.own) l.1
+          ∙ slots_with-longer (table_at old layout.table) l.0 layout.places layout.own fits.long
+          ∙ sym (append-nil (slots_of old layout));
+    }
 
 -- a slot behind those of one table keeps each layout
 pub Keeps-push : (tables : Lists) (at : ℕ) (slot : Slot) → at < length tables → Keeps tables (set tables at (table_at tables at ++ slot ∷ []))
 Keeps-push tables at slot h =
     Keeps-longer tables (set tables at (table_at tables at ++ slot ∷ [])) (omega (arith, length-set tables at (table_at tables at ++ slot ∷ [])))
-        (λ n lt. elim (eqb_tells n at) [
-            inl w ↦ (slot ∷ [],
-                ap (table_at (set tables at (table_at tables at ++ slot ∷ []))) w.1
-                ∙ get_or-set_same tables at (table_at tables at ++ slot ∷ []) [] h
-                ∙ ap (λ m. table_at tables m ++ slot ∷ []) (sym w.1))
-          | inr w ↦ ([], get_or-set_other tables at n (table_at tables at ++ slot ∷ []) [] w.1 ∙ sym (append-nil (table_at tables n))) ])
+    (λ n lt. elim (eqb_tells n at) [
+      | inl w ↦ (
+        slot ∷ [],
+        ap (table_at (set tables at (table_at tables at ++ slot ∷ []))) w.1
+            ∙ get_or-set_same tables at (table_at tables at ++ slot ∷ []) [] h
+            ∙ ap (λ m. table_at tables m ++ slot ∷ []) (sym w.1),
+      )
+      | inr w ↦ ([], get_or-set_other tables at n (table_at tables at ++ slot ∷ []) [] w.1 ∙ sym (append-nil (table_at tables n)))
+    ])
 
 -- the same for a slot that was pushed where a table stands
 pub Keeps-pushed : (old tables : Lists) (at : ℕ) (slot : Slot) (read new : List Slot) → tables ≡ old → at < length old
@@ -45,4 +50,4 @@ pub Keeps-pushed : (old tables : Lists) (at : ℕ) (slot : Slot) (read new : Lis
 Keeps-pushed old tables at slot read new same lt is e =
     let shown : new ≡ table_at tables at ++ slot ∷ [] = e ∙ ap (λ (t : List Slot). t ++ slot ∷ []) (is ∙ get_or_default tables at read [] (subst (λ (t : Lists). at < length t) (sym same) lt)) in
     subst (λ (t : Lists). Keeps t (set tables at new)) same
-        (subst (λ (n : List Slot). Keeps tables (set tables at n)) (sym shown) (Keeps-push tables at slot (subst (λ (t : Lists). at < length t) (sym same) lt)))
+    (subst (λ (n : List Slot). Keeps tables (set tables at n)) (sym shown) (Keeps-push tables at slot (subst (λ (t : Lists). at < length t) (sym same) lt)))

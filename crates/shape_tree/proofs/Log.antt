@@ -15,7 +15,6 @@ use Rattle.shape_tree.specs.declared.table.Layout.{Layout}
 use Rattle.shape_tree.specs.Layouts.{Lists, Fits, table_at, slots_with, slots_of}
 use Rattle.shape_tree.specs.Slots.{slots_on, slot_at, found_below, latest}
 
-
 found_step : (name : NameId) (n : ℕ) (slot other : Slot) (rest rest' : Option (Place × Kind)) → slot ≡ other → rest ≡ rest'
     → cond (slot.name.0 == name.0) (Some (record { 0 = n }, slot.kind)) rest ≡ cond (other.name.0 == name.0) (Some (record { 0 = n }, other.kind)) rest'
 found_step name n slot other rest rest' e f =
@@ -27,8 +26,8 @@ pub found_below-append : (slots more : List Slot) (name : NameId) (n : ℕ) → 
 found_below-append slots more name zero h = refl
 found_below-append slots more name (suc n) h =
     found_step name n (slot_at (slots ++ more) n) (slot_at slots n) (found_below (slots ++ more) name n) (found_below slots name n)
-        (get_or-append slots more (record { name = record { 0 = 0 }; kind = AnyLoc }) n (omega arith))
-        (found_below-append slots more name n (omega arith))
+    (get_or-append slots more (record { name = record { 0 = 0 }; kind = AnyLoc }) n (omega arith))
+    (found_below-append slots more name n (omega arith))
 
 -- one slot more is looked at first
 pub latest-push : (slots : List Slot) (slot : Slot) (name : NameId)
@@ -36,9 +35,9 @@ pub latest-push : (slots : List Slot) (slot : Slot) (name : NameId)
 latest-push slots slot name =
     ap (found_below (slots ++ slot ∷ []) name) (length-append slots (slot ∷ []) ∙ add-one (length slots))
     ∙ found_step name (length slots) (slot_at (slots ++ slot ∷ []) (length slots)) slot
-        (found_below (slots ++ slot ∷ []) name (length slots)) (latest slots name)
-        (get_or-append_seam slots slot [] (record { name = record { 0 = 0 }; kind = AnyLoc }))
-        (found_below-append slots (slot ∷ []) name (length slots) (omega arith))
+    (found_below (slots ++ slot ∷ []) name (length slots)) (latest slots name)
+    (get_or-append_seam slots slot [] (record { name = record { 0 = 0 }; kind = AnyLoc }))
+    (found_below-append slots (slot ∷ []) name (length slots) (omega arith))
 
 -- a path has as many slots as places
 pub length-slots_on : (path : Path) → length (slots_on path) ≡ places_of path

@@ -54,7 +54,7 @@ one_key shapes (Child parent edge) (Child parent' edge') store before before' e 
     let edges : edge ≡ edge' = cc in
     let make : ℕ → Path → Shape = λ c p. record { class = c; path = p } in
     let same : shape_at shapes parent ≡ shape_at shapes parent'
-          = ap (λ c. make c (path_at shapes parent)) class ∙ ap (make (shape_at shapes parent').class) path in
+    = ap (λ c. make c (path_at shapes parent)) class ∙ ap (make (shape_at shapes parent').class) path in
     let ids : parent ≡ parent' = store.distinct parent parent' before before' same in
     ap (λ (p : ShapeId). Child p edge) ids ∙ ap (Child parent') edges
 
@@ -83,12 +83,12 @@ module _ (keys : List Key) (rows : List Row) (tables : Lists) (tree : IsTree key
       let n : ℕ = there.0 in
       let within : n < length keys = omega (arith, there.1, tree.counted) in
       let same : shape_of (shapes_of keys) (key_at keys n) ≡ shape
-            = sym (tree.named n within) ∙ get_or_default (shapes_of keys) n (root_of 0) shape there.1 ∙ there.2 in
+      = sym (tree.named n within) ∙ get_or_default (shapes_of keys) n (root_of 0) shape there.1 ∙ there.2 in
       let long : length keys ≤ length (shapes_of keys) = omega (arith, tree.counted) in
       let one : key_at keys n ≡ key
-            = one_key (shapes_of keys) (key_at keys n) key tree.store
-                (weaker (key_at keys n) n (length (shapes_of keys)) (omega (arith, within, long)) (tree.before n within))
-                (weaker key (length keys) (length (shapes_of keys)) long before) same in
+      = one_key (shapes_of keys) (key_at keys n) key tree.store
+      (weaker (key_at keys n) n (length (shapes_of keys)) (omega (arith, within, long)) (tree.before n within))
+      (weaker key (length keys) (length (shapes_of keys)) long before) same in
       new (subst (Contains keys) one (Contains-get_or keys n (Root 0) within))
 
 -- what holds of each number of a tree, its key, its row and its shape, holds with one more of each
@@ -99,20 +99,21 @@ each_more : (keys : List Key) (rows : List Row) (shapes : List Shape) (key : Key
     → P n (key_at (keys ++ key ∷ []) n) (row_at (rows ++ row ∷ []) n) (get_or (shapes ++ shape ∷ []) n (root_of 0))
 each_more keys rows shapes key row shape P even counted older newest n h =
     elim (index_cases keys key n h) [
-        inl lt ↦
+      | inl lt ↦
           subst (λ (k : Key). P n k (row_at (rows ++ row ∷ []) n) (get_or (shapes ++ shape ∷ []) n (root_of 0))) (sym (get_or-append keys (key ∷ []) _ n lt))
-            (subst (λ (r : Row). P n (key_at keys n) r (get_or (shapes ++ shape ∷ []) n (root_of 0))) (sym (get_or-append rows (row ∷ []) _ n (omega arith)))
-              (subst (λ (s : Shape). P n (key_at keys n) (row_at rows n) s) (sym (get_or-append shapes (shape ∷ []) (root_of 0) n (omega arith)))
-                (older n lt)))
+          (subst (λ (r : Row). P n (key_at keys n) r (get_or (shapes ++ shape ∷ []) n (root_of 0))) (sym (get_or-append rows (row ∷ []) _ n (omega arith)))
+          (subst (λ (s : Shape). P n (key_at keys n) (row_at rows n) s) (sym (get_or-append shapes (shape ∷ []) (root_of 0) n (omega arith)))
+          (older n lt)))
       | inr e ↦
           let last-key : key_at (keys ++ key ∷ []) n ≡ key = ap (key_at (keys ++ key ∷ [])) e ∙ get_or-append_seam keys key [] _ in
           let last-row : row_at (rows ++ row ∷ []) n ≡ row = ap (row_at (rows ++ row ∷ [])) (e ∙ sym even) ∙ get_or-append_seam rows row [] _ in
           let last-shape : get_or (shapes ++ shape ∷ []) n (root_of 0) ≡ shape
-                = ap (λ m. get_or (shapes ++ shape ∷ []) m (root_of 0)) (e ∙ sym counted) ∙ get_or-append_seam shapes shape [] (root_of 0) in
+          = ap (λ m. get_or (shapes ++ shape ∷ []) m (root_of 0)) (e ∙ sym counted) ∙ get_or-append_seam shapes shape [] (root_of 0) in
           subst (λ (k : Key). P n k (row_at (rows ++ row ∷ []) n) (get_or (shapes ++ shape ∷ []) n (root_of 0))) (sym last-key)
-            (subst (λ (r : Row). P n key r (get_or (shapes ++ shape ∷ []) n (root_of 0))) (sym last-row)
-              (subst (λ (s : Shape). P n key row s) (sym last-shape)
-                (subst (λ m. P m key row shape) (sym e) newest))) ]
+          (subst (λ (r : Row). P n key r (get_or (shapes ++ shape ∷ []) n (root_of 0))) (sym last-row)
+          (subst (λ (s : Shape). P n key row s) (sym last-shape)
+          (subst (λ m. P m key row shape) (sym e) newest)))
+    ]
 
 module _ (keys : List Key) (rows : List Row) (tables : Lists) (tree : IsTree keys rows tables)
     (key : Key) (row : Row) (before : StandsBefore key (length keys)) (new : Contains keys key → ⊥)
@@ -132,13 +133,14 @@ module _ (keys : List Key) (rows : List Row) (tables : Lists) (tree : IsTree key
   is_more : IsMore more
   unfolding IsMore
   is_more =
-      let long : length keys ≤ length (shapes_of keys) = omega (arith, tree.counted) in
-      (IsStore-push (shapes_of keys) made tree.store (fresh keys rows tables tree key before new) follows,
-       omega (arith, length-append (shapes_of keys) (made ∷ []), length-append keys (key ∷ []), tree.counted),
-       each_more keys rows (shapes_of keys) key row made (λ n k r s. s ≡ shape_of more k) tree.even tree.counted
-         (λ n h. tree.named n h ∙ sym (shape_of-older (shapes_of keys) made (key_at keys n) n (tree.before n h) (omega arith)))
-         (sym (shape_of-older (shapes_of keys) made key (length keys) before long)),
-       each_more keys rows (shapes_of keys) key row made (λ n k r s. IsRow tables s r) tree.even tree.counted tree.kept is)
+      let long : length keys ≤ length (shapes_of keys) = omega (arith, tree.counted) in (
+        IsStore-push (shapes_of keys) made tree.store (fresh keys rows tables tree key before new) follows,
+        omega (arith, length-append (shapes_of keys) (made ∷ []), length-append keys (key ∷ []), tree.counted),
+        each_more keys rows (shapes_of keys) key row made (λ n k r s. s ≡ shape_of more k) tree.even tree.counted
+            (λ n h. tree.named n h ∙ sym (shape_of-older (shapes_of keys) made (key_at keys n) n (tree.before n h) (omega arith)))
+            (sym (shape_of-older (shapes_of keys) made key (length keys) before long)),
+        each_more keys rows (shapes_of keys) key row made (λ n k r s. IsRow tables s r) tree.even tree.counted tree.kept is,
+      )
 
   -- a tree with one key more is one
   pub IsTree-push : IsTree (keys ++ key ∷ []) (rows ++ row ∷ []) tables
@@ -151,7 +153,8 @@ module _ (keys : List Key) (rows : List Row) (tables : Lists) (tree : IsTree key
         even = omega (arith, length-append rows (row ∷ []), length-append keys (key ∷ []), tree.even);
         before = each_more keys rows (shapes_of keys) key row made (λ n k r s. StandsBefore k n) tree.even tree.counted tree.before before;
         named = m.2;
-        kept = m.3 }
+        kept = m.3;
+      }
 
   -- it has the new shape behind
   pub gains_one : Gains (shapes_of keys) made (shapes_of (keys ++ key ∷ []))
@@ -159,8 +162,9 @@ module _ (keys : List Key) (rows : List Row) (tables : Lists) (tree : IsTree key
 
   -- with the next number
   pub has_one : Has (shapes_of (keys ++ key ∷ [])) (record { 0 = length keys }) made
-  has_one =
-      (omega (arith, ap length (shapes_of-push keys key), length-append (shapes_of keys) (made ∷ []), tree.counted),
-       ap (λ (s : List Shape). get_or s (length keys) (root_of 0)) (shapes_of-push keys key)
-       ∙ ap (λ n. get_or more n (root_of 0)) (sym tree.counted)
-       ∙ get_or-append_seam (shapes_of keys) made [] (root_of 0))
+  has_one = (
+    omega (arith, ap length (shapes_of-push keys key), length-append (shapes_of keys) (made ∷ []), tree.counted),
+    ap (λ (s : List Shape). get_or s (length keys) (root_of 0)) (shapes_of-push keys key)
+        ∙ ap (λ n. get_or more n (root_of 0)) (sym tree.counted)
+        ∙ get_or-append_seam (shapes_of keys) made [] (root_of 0),
+  )

@@ -30,7 +30,7 @@ module _ (keys : List Key) (rows : List Row) (tables : Lists) (shapes : List Sha
   row_is =
       let within : id.0 < length keys = subst (λ n. id.0 < n) (sym (ap length seen) ∙ tree.counted) known in
       subst (λ (s : List Shape). IsRow tables (shape_at s id) row) seen
-        (subst (IsRow tables (shape_at (shapes_of keys) id)) (sym is) (tree.kept id.0 within))
+      (subst (IsRow tables (shape_at (shapes_of keys) id)) (sym is) (tree.kept id.0 within))
 
   -- what is found in its layout is what its path says
   pub finds : (name : NameId) → latest (slots_of tables row.layout) name ≡ find_on (path_at shapes id) name

@@ -23,10 +23,11 @@ values-set_value_at (e ∷ es) (suc at) value = ap (λ vs. e.1 ∷ vs) (values-s
 IsRow-laid : (old new : Lists) (shape : Shape) (row : Row) (to : Layout) → IsRow old shape row → Extends old row.layout [] new to
     → IsRow new shape (record { class = row.class; shared = row.shared; layout = to })
 IsRow-laid old new shape row to is laid = record {
-    class = is.class;
-    shared = is.shared;
-    fits = laid.fits;
-    slots = laid.slots ∙ append-nil (slots_of old row.layout) ∙ is.slots }
+  class = is.class;
+  shared = is.shared;
+  fits = laid.fits;
+  slots = laid.slots ∙ append-nil (slots_of old row.layout) ∙ is.slots;
+}
 
 IsRow-keeps : (old new : Lists) (shape : Shape) (row : Row) → Keeps old new → IsRow old shape row → IsRow new shape row
 IsRow-keeps old new shape row keeps is = IsRow-laid old new shape row row.layout is (keeps row.layout is.fits)
@@ -34,12 +35,13 @@ IsRow-keeps old new shape row keeps is = IsRow-laid old new shape row row.layout
 -- a tree stays one over tables that keep its layouts
 pub IsTree-keeps : (keys : List Key) (rows : List Row) (old new : Lists) → Keeps old new → IsTree keys rows old → IsTree keys rows new
 IsTree-keeps keys rows old new keeps tree = record {
-    store = tree.store;
-    counted = tree.counted;
-    even = tree.even;
-    before = tree.before;
-    named = tree.named;
-    kept = λ n lt. IsRow-keeps old new _ (row_at rows n) keeps (tree.kept n lt) }
+  store = tree.store;
+  counted = tree.counted;
+  even = tree.even;
+  before = tree.before;
+  named = tree.named;
+  kept = λ n lt. IsRow-keeps old new _ (row_at rows n) keeps (tree.kept n lt);
+}
 
 -- and where a row takes another layout of its slots
 pub IsTree-settled : (keys : List Key) (rows : List Row) (old new : Lists) (at : ℕ) (to : Layout) → IsTree keys rows old → Keeps old new → at < length keys
@@ -54,14 +56,16 @@ IsTree-settled keys rows old new at to tree keeps known laid =
       before = tree.before;
       named = tree.named;
       kept = λ n lt.
-        let shape : Shape = get_or (shapes_of keys) n (root_of 0) in
-        elim (eqb_tells n at) [
-            inl w ↦
-              let here : IsRow new shape row = IsRow-laid old new shape (row_at rows at) to (subst (λ m. IsRow old shape (row_at rows m)) w.1 (tree.kept n lt)) laid in
-              let there : row_at (set rows at row) n ≡ row = ap (row_at (set rows at row)) w.1 ∙ get_or-set_same rows at row _ (omega (arith, tree.even)) in
-              subst (IsRow new shape) (sym there) here
-          | inr w ↦
-              subst (IsRow new shape) (sym (get_or-set_other rows at n row _ w.1)) (IsRow-keeps old new shape (row_at rows n) keeps (tree.kept n lt)) ] }
+          let shape : Shape = get_or (shapes_of keys) n (root_of 0) in
+          elim (eqb_tells n at) [
+            | inl w ↦
+                let here : IsRow new shape row = IsRow-laid old new shape (row_at rows at) to (subst (λ m. IsRow old shape (row_at rows m)) w.1 (tree.kept n lt)) laid in
+                let there : row_at (set rows at row) n ≡ row = ap (row_at (set rows at row)) w.1 ∙ get_or-set_same rows at row _ (omega (arith, tree.even)) in
+                subst (IsRow new shape) (sym there) here
+            | inr w ↦
+                subst (IsRow new shape) (sym (get_or-set_other rows at n row _ w.1)) (IsRow-keeps old new shape (row_at rows n) keeps (tree.kept n lt))
+          ];
+    }
 
 module _ {S : Type 0} (nodes : IndexMap Key Row S) (at : ℕ) (row : Row) (to : Layout) where
   -- a row with another layout
@@ -77,10 +81,10 @@ module _ {S : Type 0} (nodes : IndexMap Key Row S) (at : ℕ) (row : Row) (to : 
       → IsTree (keys (with_value_at nodes at laid)) (values (with_value_at nodes at laid)) new
   IsTree-laid old new tree keeps known is extends =
       subst (λ (ks : List Key). IsTree ks (values (with_value_at nodes at laid)) new) (sym (keys-with_value_at nodes at laid))
-        (subst (λ (rs : List Row). IsTree (keys nodes) rs new) (sym values-laid)
-          (subst (λ (r : Row). IsTree (keys nodes) (set (values nodes) at (record { class = r.class; shared = r.shared; layout = to })) new) (sym is)
-            (IsTree-settled (keys nodes) (values nodes) old new at to tree keeps (omega (arith, length-keys_of nodes.entries, known))
-              (subst (λ (r : Row). Extends old r.layout [] new to) is extends))))
+      (subst (λ (rs : List Row). IsTree (keys nodes) rs new) (sym values-laid)
+      (subst (λ (r : Row). IsTree (keys nodes) (set (values nodes) at (record { class = r.class; shared = r.shared; layout = to })) new) (sym is)
+      (IsTree-settled (keys nodes) (values nodes) old new at to tree keeps (omega (arith, length-keys_of nodes.entries, known))
+      (subst (λ (r : Row). Extends old r.layout [] new to) is extends))))
 
   pub layout-laid : at < index_map_len nodes → (row_at (values (with_value_at nodes at laid)) at).layout ≡ to
   layout-laid known =

@@ -5,8 +5,9 @@ mod key;
 mod rows;
 mod table;
 mod tables;
+#[cfg(test)]
+mod tests;
 mod tree;
 
 pub use shape_core::{Edge, Kind, NameId, Place, ShapeFacts, ShapeId, ShapeStore};
 pub use tree::Tree;
-

@@ -33,11 +33,7 @@ pub fn key_of(nodes: &Nodes, shape: ShapeId) -> Key
 }
 
 /// The layout of a shape once it is settled: one with no slot of its own.
-pub fn settle(
-    nodes: &mut Nodes,
-    tables: &mut Tables,
-    shape: ShapeId,
-) -> Result<Layout, AllocError>
+pub fn settle(nodes: &mut Nodes, tables: &mut Tables, shape: ShapeId) -> Result<Layout, AllocError>
     requires tree { IsTree (keys nodes.old) (values nodes.old) tables.old }
     requires known { shape.0 < index_map_len nodes.old }
     ensures keys { keys nodes.new ≡ keys nodes.old }

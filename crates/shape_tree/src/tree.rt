@@ -1,6 +1,7 @@
 // The tree of shapes.
 
 ghost use Rattle.std.specs.Prelude.{◌≡◌, [], length, IfOk};
+ghost use Rattle.shape_tree.specs.Keys.{first_ids};
 
 use crate::key::{Key, Row};
 use crate::rows::{Nodes, grow, key_of, row_of};
@@ -46,6 +47,17 @@ impl Tree {
         ensures { result ≡ length self.now }
     {
         self.nodes.len()
+    }
+
+    /// The shapes in the order of making.
+    pub fn list(&self, alloc: Global) -> Result<Vec<ShapeId>, AllocError>
+        ensures { IfOk result (λ ids. ids.items ≡ first_ids (length self.now)) }
+    {
+        let mut ids = Vec::new(alloc);
+        for number in 0..self.len() {
+            ids.push(ShapeId(number as u64))?;
+        }
+        Ok(ids)
     }
 }
 

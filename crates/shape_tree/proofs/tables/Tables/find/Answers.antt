@@ -14,4 +14,4 @@ pub returns : goal.returns
 returns c =
     c.find-2.ensures
     ∙ found_behind-own c.args.self.now c.self.inside.tables.items c.args.layout c.in-Some.own c.args.name _ c.requires c.in-Some.is
-        (sym c.if-eq.ensures) c.self.view_is c.index-table.ensures
+    (sym c.if-eq.ensures) c.self.view_is c.index-table.ensures
