@@ -6,6 +6,8 @@ mod edge;
 mod facts;
 pub mod laws;
 mod store;
+#[cfg(test)]
+mod tests;
 
 pub use edge::{Edge, Kind};
 pub use facts::{Place, ShapeFacts, ShapeId};

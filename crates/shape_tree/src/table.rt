@@ -61,7 +61,7 @@ impl Table {
         }
     }
 
-    /// A table of the first places of this one, with room for one more.
+    /// A table of the first places of this one.
     pub fn front(&self, alloc: Global, places: usize) -> Result<Table, AllocError>
         requires { places ≤ length self.now }
         ensures { IfOk result (λ t. t ≡ take places self.now) }

@@ -1,5 +1,10 @@
 // The tree by example.
 
+ghost use Rattle.std.specs.Prelude.{◌≡◌, ◌<◌, length};
+ghost use Rattle.std.specs.Option.{option_map};
+ghost use Rattle.shape_core.specs.Path.{find_on};
+ghost use Rattle.shape_core.specs.Shape.{path_at};
+
 use crate::{Edge, Kind, NameId, Place, ShapeFacts, ShapeId, ShapeStore, Tree};
 use shape_core::may_follow;
 use std::alloc::{AllocError, Global};
@@ -163,5 +168,23 @@ fn a_step_that_fails_leaves_the_store_as_it_was(rt: HostRuntime) -> Result<(), F
         }
     }
     assert!(rt; tree.len() == 17);
+    Ok(())
+}
+
+/// The place of a field for a read, where the object has the field.
+fn place_to_read(tree: &Tree, shape: ShapeId, name: NameId) -> Option<Place>
+    requires { shape.0 < length tree.now }
+    ensures { result ≡ option_map (λ found. found.0) (find_on (path_at tree.now shape) name) }
+{
+    tree.find(shape, name).map(|(place, _)| place)
+}
+
+#[test]
+fn a_field_is_read_at_its_place(rt: HostRuntime) -> Result<(), Fail> {
+    let mut tree = Tree::new(rt.alloc())?;
+    grow(&mut tree, 1, &[add(5)])?;
+    if tree.len() > 1 {
+        assert!(rt; place_to_read(&tree, ShapeId(1), NameId(5)) == Some(Place(0)));
+    }
     Ok(())
 }
