@@ -1,5 +1,5 @@
 -- Layouts over tables.
-use Rattle.std.specs.Prelude.{◌≡◌, ℕ, ◌+◌, ◌-◌, ◌<◌, ◌≤◌, List, [], ◌∷◌, ◌++◌, Option, Some, None, length, take, slice_index_or}
+use Rattle.std.specs.Prelude.{◌≡◌, ℕ, ◌+◌, ◌-◌, ◌<◌, ◌≤◌, List, [], ◌∷◌, ◌++◌, Option, Some, None, length, take, slice_index_or, slice_set, nat_lt, if◌then◌else◌}
 use Rattle.shape_tree.specs.declared.table.Slot.{Slot}
 use Rattle.shape_tree.specs.declared.table.Layout.{Layout}
 
@@ -42,3 +42,14 @@ pub record Extends (old : Lists) (layout : Layout) (more : List Slot) (new : Lis
 -- each layout over the old tables has the same slots over the new ones
 abbrev pub Keeps : Lists → Lists → Type 0
 Keeps old new = (layout : Layout) → Fits old layout → Extends old layout [] new layout
+
+-- the tables once a layout has no slot of its own: with a table of its slots behind, where it had one
+abbrev pub tables_settled : Lists → Layout → Option Slot → Lists
+tables_settled tables layout None = tables
+tables_settled tables layout (Some own) = tables ++ slots_of tables layout ∷ []
+
+-- the tables once a layout has a slot more: as they were, unless its table ends with it
+abbrev pub tables_extended : Lists → Layout → Slot → Lists
+tables_extended tables layout slot =
+    if nat_lt layout.places (length (table_at tables layout.table)) then tables
+    else slice_set tables layout.table (table_at tables layout.table ++ slot ∷ [])

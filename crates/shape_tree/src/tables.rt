@@ -2,7 +2,7 @@
 
 ghost use Rattle.std.specs.Prelude.{◌≡◌, ◌++◌, [], ◌∷◌, None, length, IfOk};
 ghost use Rattle.shape_tree.specs.Slots.{latest};
-ghost use Rattle.shape_tree.specs.Layouts.{Fits, slots_of, Keeps, Extends, root_layout};
+ghost use Rattle.shape_tree.specs.Layouts.{Fits, slots_of, Keeps, Extends, root_layout, tables_settled, tables_extended};
 
 use crate::table::{Layout, Slot, Table};
 use shape_core::{Kind, NameId, Place};
@@ -71,6 +71,7 @@ impl Tables {
         ensures kept { Keeps self.old self.new }
         ensures settled { IfOk result (λ to. to.own ≡ None) }
         ensures same { IfOk result (λ to. Extends self.old layout [] self.new to) }
+        ensures after { IfOk result (λ _. self.new ≡ tables_settled self.old layout layout.own) }
     {
         let Some(own) = layout.own else {
             return Ok(layout);
@@ -92,6 +93,7 @@ impl Tables {
         requires settled { layout.own ≡ None }
         ensures kept { Keeps self.old self.new }
         ensures extended { IfOk result (λ to. Extends self.old layout (slot ∷ []) self.new to) }
+        ensures after { IfOk result (λ _. self.new ≡ tables_extended self.old layout slot) }
     {
         if layout.places < self.tables[layout.table].len() {
             return Ok(Layout {
