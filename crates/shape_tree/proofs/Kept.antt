@@ -1,10 +1,9 @@
 -- Layouts over tables that grew.
-use Rattle.std.proofs.Common.{◌≡◌, ◌≢◌, ℕ, ◌+◌, ◌-◌, ◌<◌, ◌≤◌, ◌==◌, Bool, true, false, List, [], ◌∷◌, ◌++◌, Option, Some, None, ◌⊎◌, inl, inr, refl, ap, sym, ◌∙◌, subst, arith, length, take, set, get_or, length-set, length-append, append-nil}
+use Rattle.std.proofs.Common.{◌≡◌, ℕ, ◌-◌, ◌<◌, ◌≤◌, List, [], ◌∷◌, ◌++◌, Option, Some, None, inl, inr, ap, sym, ◌∙◌, subst, arith, length, set, get_or, length-set, length-append, append-nil}
 use Rattle.std.proofs.lemmas.List.{take-append-le, get_or-set_same, get_or-set_other, get_or_default}
 use Rattle.std.proofs.lemmas.Bool.Decides.{eqb_tells}
 use Rattle.shape_tree.specs.declared.table.Slot.{Slot}
-use Rattle.shape_tree.specs.declared.table.Layout.{Layout}
-use Rattle.shape_tree.specs.Layouts.{Lists, table_at, slots_with, slots_of, Fits, Extends, Keeps}
+use Rattle.shape_tree.specs.Layouts.{Lists, table_at, slots_with, slots_of, Keeps}
 
 -- later slots of a table do not show in its first ones
 slots_with-longer : (table more : List Slot) (places : ℕ) (own : Option Slot) → places ≤ length table → slots_with (table ++ more) places own ≡ slots_with table places own

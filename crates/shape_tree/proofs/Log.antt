@@ -1,12 +1,11 @@
 -- The slots of a path are what `find_on` says.
-use Rattle.std.proofs.Common.{◌≡◌, ℕ, zero, suc, ◌+◌, ◌-◌, ◌<◌, ◌≤◌, ◌==◌, Bool, true, false, cond, List, [], ◌∷◌, ◌++◌, Option, Some, None, refl, ap, sym, ◌∙◌, subst, arith, length, take, drop, get_or, length-append, append-nil, add-one}
+use Rattle.std.proofs.Common.{◌≡◌, ℕ, zero, suc, ◌-◌, ◌<◌, ◌≤◌, ◌==◌, true, false, cond, List, [], ◌∷◌, ◌++◌, Option, Some, None, refl, ap, sym, ◌∙◌, subst, arith, length, take, drop, get_or, length-append, append-nil, add-one}
 use Rattle.std.proofs.lemmas.List.{take-append-drop, get_or_default, length-take-le}
 use Rattle.std.proofs.Math.ListN.{get_or-append}
 use Rattle.std.proofs.Math.Seq.{get_or-append_seam}
 use Rattle.rb_tree.specs.declared.span.NameId.{NameId}
 use Rattle.shape_core.specs.declared.edge.Kind.{Kind}
 use Rattle.shape_core.specs.declared.edge.Kind.TheVariants.{AnyLoc}
-use Rattle.shape_core.specs.declared.edge.Edge.{Edge}
 use Rattle.shape_core.specs.declared.edge.Edge.TheVariants.{Add, Widen, Share}
 use Rattle.shape_core.specs.declared.facts.Place.{Place}
 use Rattle.shape_core.specs.Path.{Path, places_of, find_on}

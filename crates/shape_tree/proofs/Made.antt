@@ -1,14 +1,13 @@
 -- A tree with one key more.
-use Rattle.std.proofs.Common.{◌≡◌, ℕ, zero, suc, ◌+◌, ◌<◌, ◌≤◌, List, [], ◌∷◌, ◌++◌, ◌⊎◌, inl, inr, refl, ap, sym, ◌∙◌, subst, arith, length, get_or, Contains, length-append}
+use Rattle.std.proofs.Common.{◌≡◌, ℕ, ◌+◌, ◌<◌, ◌≤◌, List, [], ◌∷◌, ◌++◌, ◌⊎◌, inl, inr, refl, ap, sym, ◌∙◌, subst, arith, length, get_or, Contains, length-append}
 use Rattle.std.proofs.lemmas.List.{get_or_default}
 use Rattle.std.proofs.lemmas.List.Elements.{Contains-get_or}
 use Rattle.std.proofs.Math.ListN.{get_or-append}
 use Rattle.std.proofs.Math.Seq.{get_or-append_seam}
-use Rattle.shape_core.specs.declared.edge.Edge.{Edge}
 use Rattle.shape_core.specs.declared.facts.ShapeId.{ShapeId}
-use Rattle.shape_core.specs.Path.{Path, MayFollow}
+use Rattle.shape_core.specs.Path.{Path}
 use Rattle.shape_core.specs.Shape.{Shape, IsStore, Has, Gains, root_of, child_of, shape_at, path_at}
-use Rattle.shape_core.proofs.Stores.{Follows, Follows-root, Follows-child, IsStore-push}
+use Rattle.shape_core.proofs.Stores.{Follows, IsStore-push}
 use Rattle.shape_tree.specs.declared.key.Key.{Key}
 use Rattle.shape_tree.specs.declared.key.Key.TheVariants.{Root, Child}
 use Rattle.shape_tree.specs.declared.key.Row.{Row}

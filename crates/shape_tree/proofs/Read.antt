@@ -1,15 +1,15 @@
 -- What a row of a tree says of its shape.
-use Rattle.std.proofs.Common.{◌≡◌, ℕ, ◌-◌, ◌<◌, ◌≤◌, List, [], ◌∷◌, ◌++◌, Option, Some, None, refl, ap, sym, ◌∙◌, subst, arith, length, take, length-append}
+use Rattle.std.proofs.Common.{◌≡◌, ℕ, ◌-◌, ◌<◌, ◌≤◌, List, [], ◌∷◌, Option, Some, None, ap, sym, ◌∙◌, subst, arith, length, take, length-append}
 use Rattle.std.proofs.lemmas.List.{length-take-le}
 use Rattle.rb_tree.specs.declared.span.NameId.{NameId}
 use Rattle.shape_core.specs.declared.facts.ShapeId.{ShapeId}
-use Rattle.shape_core.specs.Path.{Path, find_on, places_of}
+use Rattle.shape_core.specs.Path.{find_on, places_of}
 use Rattle.shape_core.specs.Shape.{Shape, path_at, shape_at}
 use Rattle.shape_tree.specs.declared.key.Key.{Key}
 use Rattle.shape_tree.specs.declared.key.Row.{Row}
 use Rattle.shape_tree.specs.declared.table.Slot.{Slot}
 use Rattle.shape_tree.specs.declared.table.Layout.{Layout}
-use Rattle.shape_tree.specs.Slots.{latest, slots_on}
+use Rattle.shape_tree.specs.Slots.{latest}
 use Rattle.shape_tree.specs.Layouts.{Lists, Fits, HasPlace, slots_of, slots_with, table_at}
 use Rattle.shape_tree.specs.Shapes.{IsRow, IsTree, row_at, shapes_of}
 use Rattle.shape_tree.proofs.Log.{latest-slots_on, length-slots_on}

@@ -1,5 +1,5 @@
 -- The keys and rows of a tree, as its tables and rows change.
-use Rattle.std.proofs.Common.{◌≡◌, ◌≢◌, ℕ, zero, suc, ◌+◌, ◌<◌, Bool, true, false, List, [], ◌∷◌, ◌++◌, Option, None, Some, ◌⊎◌, inl, inr, refl, ap, sym, ◌∙◌, subst, arith, length, get_or, set, map, length-set, append-nil}
+use Rattle.std.proofs.Common.{◌≡◌, ℕ, zero, suc, ◌<◌, List, [], ◌∷◌, inl, inr, refl, ap, sym, ◌∙◌, subst, arith, length, get_or, set, length-set, append-nil}
 use Rattle.std.proofs.lemmas.List.{get_or-set_same, get_or-set_other}
 use Rattle.std.proofs.lemmas.Bool.Decides.{eqb_tells}
 use Rattle.indexmap.specs.IndexMap.{IndexMap, keys, values, index_map_len, with_value_at, set_value_at}
@@ -10,7 +10,7 @@ use Rattle.shape_core.specs.Shape.{Shape, root_of}
 use Rattle.shape_tree.specs.declared.table.Layout.{Layout}
 use Rattle.shape_tree.specs.declared.key.Key.{Key}
 use Rattle.shape_tree.specs.declared.key.Row.{Row}
-use Rattle.shape_tree.specs.Layouts.{Lists, Fits, Extends, Keeps, slots_of}
+use Rattle.shape_tree.specs.Layouts.{Lists, Extends, Keeps, slots_of}
 use Rattle.shape_tree.specs.Shapes.{IsRow, IsTree, row_at, shapes_of}
 
 -- the values after a write by index

@@ -1,5 +1,5 @@
 -- Layouts over tables.
-use Rattle.std.specs.Prelude.{◌≡◌, ℕ, ◌+◌, ◌-◌, ◌<◌, ◌≤◌, List, [], ◌∷◌, ◌++◌, Option, Some, None, length, take, slice_index_or, slice_set, nat_lt, if◌then◌else◌}
+use Rattle.std.specs.Prelude.{◌≡◌, ℕ, ◌-◌, ◌<◌, ◌≤◌, List, [], ◌∷◌, ◌++◌, Option, Some, None, length, take, slice_index_or, slice_set, nat_lt, if◌then◌else◌}
 use Rattle.shape_tree.specs.declared.table.Slot.{Slot}
 use Rattle.shape_tree.specs.declared.table.Layout.{Layout}
 

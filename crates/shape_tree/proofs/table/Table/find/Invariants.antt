@@ -1,4 +1,4 @@
-use Rattle.std.proofs.Common.{◌≡◌, ◌≤◌, ℕ}
+use Rattle.std.proofs.Common.{◌≡◌}
 use Rattle.shape_tree.specs.Slots.{found_below}
 use Rattle.shape_tree.proofs.table.Table.find.Given as goal
 
