@@ -1,0 +1,4 @@
+pub mod Paths
+pub mod Places
+pub mod Names
+pub mod Stores

@@ -1,0 +1,4 @@
+pub mod Path
+pub mod Shape
+pub mod Laws
+pub mod Parts

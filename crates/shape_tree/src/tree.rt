@@ -1,0 +1,112 @@
+// The tree of shapes.
+
+ghost use Rattle.std.specs.Prelude.{◌≡◌, [], length, IfOk};
+ghost use Rattle.shape_tree.specs.Keys.{first_ids};
+
+use crate::key::{Key, Row};
+use crate::rows::{Nodes, grow, key_of, row_of};
+use crate::tables::Tables;
+use indexmap::IndexMap;
+use shape_core::{Edge, Kind, NameId, Place, ShapeFacts, ShapeId, ShapeStore};
+use std::alloc::{AllocError, Global};
+use std::marker::Model;
+
+/// A store of shapes in memory. Contracts see it as the list of its shapes in the order of making.
+#[derive(Drop)]
+pub struct Tree {
+    nodes: Nodes,
+    tables: Tables,
+}
+
+impl Model for Tree {
+    ghost use Rattle.std.specs.Prelude.{List};
+    ghost use Rattle.indexmap.specs.IndexMap.{keys, values};
+    ghost use Rattle.shape_core.specs.Shape.{Shape};
+    ghost use Rattle.shape_tree.specs.Shapes.{shapes_of, IsTree};
+
+    ghost Value = { List Shape };
+
+    ghost view = { λ t. shapes_of (keys t.nodes) };
+
+    ghost invariant = { λ t. IsTree (keys t.nodes) (values t.nodes) t.tables };
+}
+
+impl Tree {
+    /// A store with no shape, whose memory `alloc` gives.
+    pub fn new(alloc: Global) -> Result<Tree, AllocError>
+        ensures { IfOk result (λ t. t ≡ []) }
+    {
+        Ok(Tree {
+            nodes: IndexMap::new(alloc),
+            tables: Tables::new(alloc)?,
+        })
+    }
+
+    /// How many shapes there are.
+    pub fn len(&self) -> usize
+        ensures { result ≡ length self.now }
+    {
+        self.nodes.len()
+    }
+
+    /// The shapes in the order of making.
+    pub fn list(&self, alloc: Global) -> Result<Vec<ShapeId>, AllocError>
+        ensures { IfOk result (λ ids. ids.items ≡ first_ids (length self.now)) }
+    {
+        let mut ids = Vec::new(alloc);
+        for number in 0..self.len() {
+            ids.push(ShapeId(number as u64))?;
+        }
+        Ok(ids)
+    }
+}
+
+impl ShapeStore for Tree {
+    ghost use Rattle.shape_core.specs.Shape.{Shape};
+
+    ghost shapes = { λ t. t };
+
+    fn root(&mut self, class: u32) -> Result<ShapeId, AllocError> {
+        let key = Key::Root(class);
+        if let Some(at) = self.nodes.get_index_of(&key) {
+            return Ok(ShapeId(at as u64));
+        }
+        let id = ShapeId(self.nodes.len() as u64);
+        let layout = self.tables.root();
+        let row = Row {
+            class,
+            shared: false,
+            layout,
+        };
+        self.nodes.insert(key, row)?;
+        Ok(id)
+    }
+
+    fn follow(&mut self, shape: ShapeId, edge: Edge) -> Result<ShapeId, AllocError> {
+        let key = Key::Child(shape, edge);
+        if let Some(at) = self.nodes.get_index_of(&key) {
+            return Ok(ShapeId(at as u64));
+        }
+        let row = grow(&mut self.nodes, &mut self.tables, shape, edge)?;
+        let id = ShapeId(self.nodes.len() as u64);
+        self.nodes.insert(key, row)?;
+        Ok(id)
+    }
+
+    fn find(&self, shape: ShapeId, name: NameId) -> Option<(Place, Kind)> {
+        let row = row_of(&self.nodes, shape);
+        self.tables.find(row.layout, name)
+    }
+
+    fn facts(&self, shape: ShapeId) -> ShapeFacts {
+        let row = row_of(&self.nodes, shape);
+        let key = key_of(&self.nodes, shape);
+        ShapeFacts {
+            class: row.class,
+            parent: key.parent(),
+            edge: key.edge(),
+            places: row.layout.places as u64,
+            shared: row.shared,
+        }
+    }
+}
