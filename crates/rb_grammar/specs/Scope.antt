@@ -3,6 +3,7 @@
 use Rattle.std.specs.Prelude.{Bool, false, ◌||◌, List, [], ◌∷◌, if◌then◌else◌}
 use Rattle.std.specs.List.{list_any}
 use Rattle.std.specs.Str.{bytes_eq}
+use Rattle.rb_tree.specs.Texts.{with_text}
 use Rattle.rb_grammar.specs.Tree.{Text, Word, TargetTree, to_local}
 
 -- the locals of one scope
@@ -38,8 +39,8 @@ leave (inner ∷ outer) = outer
 -- a name that becomes a local of the innermost scope
 abbrev pub with_local : Text → Scope → Scope
 with_local text [] = []
-with_local text (method names ∷ outer) = method (text ∷ names) ∷ outer
-with_local text (block names ∷ outer) = block (text ∷ names) ∷ outer
+with_local text (method names ∷ outer) = method (with_text names text) ∷ outer
+with_local text (block names ∷ outer) = block (with_text names text) ∷ outer
 
 abbrev pub with_params : List Word → Scope → Scope
 with_params [] scope = scope

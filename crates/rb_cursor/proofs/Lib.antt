@@ -1,0 +1,3 @@
+pub mod ScopeLemmas
+pub mod Classes
+pub mod Steps

@@ -1,0 +1,4 @@
+pub mod Class
+pub mod State
+pub mod Scopes
+pub mod Word
