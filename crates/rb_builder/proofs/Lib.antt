@@ -1,0 +1,12 @@
+pub mod Saying
+pub mod Rows
+pub mod Making
+pub mod Operators
+pub mod Walks
+pub mod Targets
+pub mod Bodies
+pub mod Pieces
+pub mod Pairs
+pub mod Operands
+pub mod Stores
+pub mod Scripts

@@ -1,0 +1,20 @@
+-- Methods, classes and items, one behind the other.
+use Rattle.std.proofs.Common.{◌≡◌, List, [], ◌∷◌, ◌++◌, refl, sym, ap, ◌∙◌}
+use Rattle.std.specs.Prelude.{map}
+use Rattle.std.proofs.lemmas.List.{map-append}
+use Rattle.rb_grammar.specs.Tree.{Numbering}
+use Rattle.rb_builder.specs.Walk.{Walk, gathering, numbering}
+use Rattle.rb_builder.specs.Grown.{Made, Keeps}
+
+-- what is kept stands behind the rest
+pub made_behind : {A B : Type 0} (w : Walk) (f : Numbering → B → A) (x : A) (old new : List A) (items : List B) (item : B)
+    → Keeps w x old new → Made w old (λ n. map (f n) items) → Made w x (λ n. f n item) → Made w new (λ n. map (f n) (items ++ item ∷ []))
+made_behind gathering f x old new items item k h m = tt
+made_behind (numbering n) f x old new items item k h m =
+    k ∙ ap (λ y. y ++ x ∷ []) h ∙ ap (λ y. map (f n) items ++ y ∷ []) m ∙ sym (map-append (f n) items (item ∷ []))
+
+-- what is made of two things
+pub made_of : {A B C : Type 0} (w : Walk) (x : A) (y : B) (f : Numbering → A) (g : Numbering → B) (k : A → B → C)
+    → Made w x f → Made w y g → Made w (k x y) (λ n. k (f n) (g n))
+made_of gathering x y f g k h i = tt
+made_of (numbering n) x y f g k h i = rw (h, i) refl

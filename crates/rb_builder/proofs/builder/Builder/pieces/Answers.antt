@@ -1,0 +1,14 @@
+use Rattle.std.proofs.Common.{refl, []}
+use Rattle.rb_builder.specs.Builder.{walk_of}
+use Rattle.rb_builder.proofs.Saying.{said_nothing}
+use Rattle.rb_builder.proofs.Making.{the_same}
+use Rattle.rb_builder.proofs.builder.Builder.pieces.Goals as goal
+
+pub returns : goal.returns
+returns c =
+    let w = walk_of c.args.self.now in
+    record {
+      height = refl;
+      pieces = the_same w c.new.result (λ n. []) (λ n. c.new.ensures);
+      said = said_nothing w c.new-2.result c.new-2.ensures.words c.new-2.ensures.threads c.new-2.ensures.bodies;
+    }

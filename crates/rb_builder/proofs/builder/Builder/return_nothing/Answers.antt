@@ -1,0 +1,16 @@
+use Rattle.std.proofs.Common.{refl}
+use Rattle.rb_grammar.specs.Tree as tree
+use Rattle.rb_builder.specs.Builder.{walk_of}
+use Rattle.rb_builder.proofs.Saying.{said_nothing}
+use Rattle.rb_builder.proofs.Making.{the_same}
+use Rattle.rb_builder.proofs.builder.Builder.return_nothing.Goals as goal
+
+pub returns : goal.returns
+returns c =
+    let w = walk_of c.args.self.now in
+    c.branch-at.ensures w (tree.return_nothing c.args.at) (record {
+      place = refl;
+      height = refl;
+      made = the_same w _ (tree.return_nothing c.args.at).node (λ n. refl);
+      says = said_nothing w c.new.result c.new.ensures.words c.new.ensures.threads c.new.ensures.bodies;
+    })
