@@ -15,14 +15,10 @@ use Rattle.rb_grammar.specs.Program.{max_height}
 use Rattle.rb_grammar.proofs.Runs.{answer_runs}
 use Rattle.rb_cursor.specs.declared.fault.ParseFault.{ParseFault}
 use Rattle.rb_cursor.specs.declared.fault.ParseFault.TheVariants as fault
-use Rattle.rb_cursor.specs.State.{State, next_place, answer_at, Reached, Failed, syntax, nested_too_deep, memory, Came, Took, Missed}
+use Rattle.rb_cursor.specs.State.{State, next_place, answer_at, at_rule, Reached, Failed, syntax, nested_too_deep, memory, Came, Took, Missed}
 use Rattle.rb_cursor.specs.declared.word.Word.{Word}
 use Rattle.rb_cursor.specs.Word.{TookWord}
 use Rattle.std.specs.Result.{IsErrAnd}
-
--- what the reader comes to at a rule
-abbrev pub at_rule : {A : Type 0} → ℕ → Rule A → State → Outcome A
-at_rule levels r s = run max_height (answer max_height) levels r s.scope s.looked s.rest
 
 -- a phrase is read by its rule
 pub by_rule : (levels : ℕ) (n : Phrase) (s : State) → answer_at levels n s ≡ at_rule levels (rule n) s
