@@ -10,3 +10,6 @@ pub mod Pairs
 pub mod Operands
 pub mod Stores
 pub mod Scripts
+pub mod Blocks
+pub mod Targeted
+pub mod Attributes

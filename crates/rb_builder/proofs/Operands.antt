@@ -1,5 +1,5 @@
 -- The trees of operands, of heads and of assignments, by what they are.
-use Rattle.std.proofs.Common.{◌≡◌, ◌≤◌, List, Result, Ok, Some, None, [], arith}
+use Rattle.std.proofs.Common.{◌≤◌, List, Result, Ok, Some, None, []}
 use Rattle.std.proofs.lemmas.Bool.{le-leb}
 use Rattle.rb_tree.specs.declared.span.Span.{Span}
 use Rattle.rb_cursor.specs.declared.fault.ParseFault.{ParseFault}

@@ -18,3 +18,16 @@ pub made_of : {A B C : Type 0} (w : Walk) (x : A) (y : B) (f : Numbering → A) 
     → Made w x f → Made w y g → Made w (k x y) (λ n. k (f n) (g n))
 made_of gathering x y f g k h i = tt
 made_of (numbering n) x y f g k h i = rw (h, i) refl
+
+pub made_with : {A B : Type 0} (w : Walk) (x : A) (f : Numbering → A) (k : A → B) → Made w x f → Made w (k x) (λ n. k (f n))
+made_with gathering x f k h = tt
+made_with (numbering n) x f k h = ap k h
+
+pub made_of_three : {A B C D : Type 0} (w : Walk) (x : A) (y : B) (z : C) (f : Numbering → A) (g : Numbering → B) (h : Numbering → C) (k : A → B → C → D)
+    → Made w x f → Made w y g → Made w z h → Made w (k x y z) (λ n. k (f n) (g n) (h n))
+made_of_three gathering x y z f g h k i j l = tt
+made_of_three (numbering n) x y z f g h k i j l = rw (i, j, l) refl
+
+-- the same as what is made
+pub made_same : {A : Type 0} (w : Walk) (x y : A) (f : Numbering → A) → y ≡ x → Made w x f → Made w y f
+made_same w x y f e h = rw e h

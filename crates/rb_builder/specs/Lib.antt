@@ -8,3 +8,5 @@ pub mod Numbers
 pub mod Literal
 pub mod Stored
 pub mod Script
+pub mod Block
+pub mod Attribute

@@ -13,10 +13,11 @@ ghost use Rattle.rb_builder.specs.Operand.{IsOperand, IsHead, IsTarget};
 
 use crate::builder::{Builder, branch, unnumbered};
 use crate::grown::{Grown, Row};
+use crate::grown_target::GrownTarget;
 use crate::operand::{Head, Operand, Target};
 use crate::word::Given;
 use rb_cursor::{ParseFault, Word};
-use rb_tree::{Boxed, Node, Span};
+use rb_tree::{AssignOp, Boxed, Node, Span};
 
 /// The name of the method that `receiver[index] = value` calls.
 const STORE_NAME: &[u8] = b"[]=";
@@ -221,6 +222,43 @@ impl<'n> Builder<'n> {
                     receiver: Boxed::new(self.alloc, receiver)?,
                     name: numbers.given(name)?,
                     args: nodes,
+                    at,
+                };
+                branch(at, highest, said, node)
+            }
+        }
+    }
+
+    /// `target += value`, and so on.
+    pub fn operated<'t>(
+        &self,
+        target: Target<'t>,
+        op: AssignOp,
+        at: Span,
+        value: Grown<'t>,
+    ) -> Result<Grown<'t>, ParseFault>
+        ensures { (t : tree.TargetTree) (a : tree.Tree) → IsTarget (walk_of self.now) target.entry t → IsTree (walk_of self.now) value.entry a → Builds (walk_of self.now) (tree.operated t op at a) result }
+    {
+        let GrownTarget {
+            height,
+            target,
+            mut said,
+        } = self.grown_target(target)?;
+        let Grown {
+            height: other,
+            node,
+            said: behind,
+            ..
+        } = value;
+        let highest = height.max(other);
+        said.join(behind)?;
+        match self.numbers {
+            None => branch(at, highest, said, unnumbered(at)),
+            Some(_) => {
+                let node = Node::OpAssign {
+                    target,
+                    op,
+                    value: Boxed::new(self.alloc, node)?,
                     at,
                 };
                 branch(at, highest, said, node)

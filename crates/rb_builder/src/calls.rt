@@ -1,4 +1,4 @@
-// Calls, operators among them, and the making of objects and threads.
+// Calls without blocks, operators among them, and the making of objects.
 
 ghost use Rattle.std.specs.Prelude.{List, Some, None};
 ghost use Rattle.rb_grammar.specs.Tree as tree;

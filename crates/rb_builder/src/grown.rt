@@ -1,4 +1,4 @@
-// Trees, rows of trees and blocks.
+// Trees and rows of trees.
 
 ghost use Rattle.std.specs.Prelude.{◌≤◌};
 

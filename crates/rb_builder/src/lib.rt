@@ -4,18 +4,24 @@
 #![tactic(auto)]
 
 mod assign;
+mod attribute;
+mod block;
 mod builder;
 mod calls;
 mod control;
 mod grown;
+mod grown_target;
 mod leaves;
 mod literal;
 mod numbers;
 mod operand;
 mod said;
 mod script;
+#[cfg(test)]
+mod tests;
 mod word;
 
+pub use block::{GrownBlock, GrownParams};
 pub use builder::Builder;
 pub use grown::{Grown, Row};
 pub use leaves::Constant;

@@ -1,19 +1,21 @@
 // Methods, classes and the items of a script.
 
-ghost use Rattle.std.specs.Prelude.{◌≡◌, OnOk, OnErr, IfOk, Err};
+ghost use Rattle.std.specs.Prelude.{◌≡◌, List, map, OnOk, OnErr, IfOk, Err};
 ghost use Rattle.rb_cursor.specs.declared.fault.ParseFault.TheVariants.{Memory};
 ghost use Rattle.rb_grammar.specs.Tree as tree;
 ghost use Rattle.rb_cursor.specs.Word.{word_by};
-ghost use Rattle.rb_builder.specs.Grown.{IsTree};
+ghost use Rattle.rb_builder.specs.Said.{text_given};
+ghost use Rattle.rb_builder.specs.Grown.{IsTree, IsRow};
 ghost use Rattle.rb_builder.specs.Script.{IsMethod, AreMembers, IsClass, AreItems};
 ghost use Rattle.rb_builder.specs.Builder.{walk_of};
 
+use crate::block::GrownParams;
 use crate::builder::Builder;
-use crate::grown::Grown;
+use crate::grown::{Grown, Row};
 use crate::said::Said;
 use crate::word::Given;
 use rb_cursor::{ParseFault, Word};
-use rb_tree::{Class, Items, Method, Node};
+use rb_tree::{Class, Items, Method, Node, Span};
 
 /// A method with what its text says.
 #[derive(Drop)]
@@ -46,6 +48,39 @@ pub struct GrownItems<'t> {
 }
 
 impl<'n> Builder<'n> {
+    /// A method, with the name that a token gives, at that token.
+    pub fn method<'t>(
+        &self,
+        name: Given<'t>,
+        at: Span,
+        params: &[Word<'t>],
+        body: Row<'t>,
+    ) -> Result<GrownMethod<'t>, ParseFault>
+        ensures ok { IfOk result (λ m. (w : tree.Word) (trees : List tree.Tree) → w.text ≡ text_given name.entry → w.at ≡ at → IsRow (walk_of self.now) body.entry trees → IsMethod (walk_of self.now) m (record { name = w; params = map word_by params.now; body = trees })) }
+        ensures memory { OnErr result (result ≡ Err Memory) }
+    {
+        let Row {
+            nodes,
+            said: last,
+            ..
+        } = body;
+        let mut said = self.giving(name)?;
+        let GrownParams {
+            params,
+            said: behind,
+        } = self.params(params)?;
+        said.join(behind)?;
+        said.join(last)?;
+        let number = self.number(name)?;
+        let method = Method {
+            name: number,
+            params,
+            body: nodes,
+            at,
+        };
+        Ok(GrownMethod { method, said })
+    }
+
     /// No methods.
     pub fn members<'t>(&self) -> GrownMembers<'t>
         ensures { AreMembers (walk_of self.now) result tree.no_members }

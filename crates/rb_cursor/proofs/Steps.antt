@@ -15,7 +15,8 @@ use Rattle.rb_grammar.specs.Program.{max_height}
 use Rattle.rb_grammar.proofs.Runs.{answer_runs}
 use Rattle.rb_cursor.specs.declared.fault.ParseFault.{ParseFault}
 use Rattle.rb_cursor.specs.declared.fault.ParseFault.TheVariants as fault
-use Rattle.rb_cursor.specs.State.{State, next_place, answer_at, at_rule, Reached, Failed, syntax, nested_too_deep, memory, Came, Took, Missed}
+use Rattle.rb_cursor.specs.State.{State, next_place, answer_at, Reached, Failed, syntax, nested_too_deep, memory, Came, Took, Missed}
+use Rattle.rb_cursor.specs.Here.{at_rule}
 use Rattle.rb_cursor.specs.declared.word.Word.{Word}
 use Rattle.rb_cursor.specs.Word.{TookWord}
 use Rattle.std.specs.Result.{IsErrAnd}
@@ -149,7 +150,7 @@ ends_so (refused ts) = refl
 ends_so (too_nested at) = refl
 ends_so spent = refl
 
-phrase_last : (levels : ℕ) (n : Phrase) (s : State) → at_rule levels (phrase n done) s ≡ answer_at levels n s
+pub phrase_last : (levels : ℕ) (n : Phrase) (s : State) → at_rule levels (phrase n done) s ≡ answer_at levels n s
 phrase_last levels n s = ends_so (answer_at levels n s)
 
 -- ---- how an answer follows from what the parts of a rule come to
@@ -158,12 +159,12 @@ phrase_last levels n s = ends_so (answer_at levels n s)
 pub record Follows {A B : Type 0} (Is : B → A → Type 0) (levels : ℕ) (r : Rule A) (s new : State) (result : Result B ParseFault) : Type 0 where
   pub came : Came Is new (at_rule levels r s) result
 
-carry : {A B : Type 0} (Is : B → A → Type 0) (new : State) {o p : Outcome A} (result : Result B ParseFault) → o ≡ p → Came Is new p result → Came Is new o result
+pub carry : {A B : Type 0} (Is : B → A → Type 0) (new : State) {o p : Outcome A} (result : Result B ParseFault) → o ≡ p → Came Is new p result → Came Is new o result
 carry Is new (Ok b) same h = record { value = h.value; reads = same ∙ h.reads; same = h.same }
 carry Is new (Err e) same h = through same h
 
 module _ {A B : Type 0} {Is : B → A → Type 0} {levels : ℕ} {new : State} where
-  follows_from : {r q : Rule A} {s t : State} {result : Result B ParseFault}
+  pub follows_from : {r q : Rule A} {s t : State} {result : Result B ParseFault}
       → at_rule levels r s ≡ at_rule levels q t → Follows Is levels q t new result → Follows Is levels r s new result
   follows_from {result = result} same h = record { came = carry Is new result same h.came }
 

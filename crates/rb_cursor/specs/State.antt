@@ -5,8 +5,8 @@ use Rattle.rb_lexer.specs.declared.token.Token.{Token}
 use Rattle.rb_grammar.specs.Look.{Test, class_of}
 use Rattle.rb_grammar.specs.Scope.{Scope}
 use Rattle.rb_grammar.specs.Phrase.{Phrase, Value}
-use Rattle.rb_grammar.specs.Rule.{Rule, next_meets}
-use Rattle.rb_grammar.specs.Reading.{Outcome, read, refused, too_nested, from_refused, answer, run}
+use Rattle.rb_grammar.specs.Rule.{next_meets}
+use Rattle.rb_grammar.specs.Reading.{Outcome, read, refused, too_nested, from_refused, answer}
 use Rattle.rb_grammar.specs.Program.{max_height}
 use Rattle.rb_cursor.specs.declared.fault.ParseFault.{ParseFault}
 use Rattle.rb_cursor.specs.declared.fault.ParseFault.TheVariants as fault
@@ -25,10 +25,6 @@ next_place (t ∷ ts) = t.at.from
 -- what the reader of the grammar comes to at a phrase, with so many levels left for what opens
 abbrev pub answer_at : ℕ → (n : Phrase) → State → Outcome (Value n)
 answer_at levels n s = answer max_height levels n s.scope s.looked s.rest
-
--- what it comes to at a rule, or at what is left of one
-abbrev pub at_rule : {A : Type 0} → ℕ → Rule A → State → Outcome A
-at_rule levels r s = run max_height (answer max_height) levels r s.scope s.looked s.rest
 
 -- the reader has read what the parser answers, and stands where the parser stands
 pub record Reached {A B : Type 0} (Is : B → A → Type 0) (s : State) (o : Outcome A) (b : B) : Type 0 where

@@ -1,11 +1,16 @@
 -- Words of the text, as the grammar has them.
 use Rattle.std.specs.Prelude.{◌≡◌, List, map}
 use Rattle.rb_lexer.specs.declared.token.Token.{Token}
+use Rattle.rb_lexer.specs.declared.token.TokenKind.{TokenKind}
 use Rattle.rb_grammar.specs.Look.{Test}
 use Rattle.rb_grammar.specs.Tree as tree
-use Rattle.rb_grammar.specs.Grammar.{word_of}
+use Rattle.rb_grammar.specs.Grammar.{text_of, word_of}
 use Rattle.rb_cursor.specs.State.{State, Took}
 use Rattle.rb_cursor.specs.declared.word.Word.{Word}
+
+-- the text that a token says
+abbrev pub text_now : TokenKind → tree.Text
+text_now kind = text_of kind
 
 -- a word of the grammar
 abbrev pub word_by : Word → tree.Word

@@ -1,18 +1,22 @@
 // Where a parser stands among the tokens.
 
-ghost use Rattle.std.specs.Prelude.{◌≡◌, ◌≤◌, length, ◌||◌, ◌&&◌, [], Ok, Err, false, OnOk, OnErr, IfOk, MatchResult, MatchOption, OnSome, ◌<◌, true};
+ghost use Rattle.std.specs.Prelude.{◌≡◌, ◌≤◌, length, ◌||◌, ◌&&◌, [], Ok, Err, false, OnOk, OnErr, IfOk, MatchResult, MatchOption, OnSome, ◌<◌, true, neg_ℤ};
 ghost use Rattle.rb_grammar.specs.Look as look;
 ghost use Rattle.rb_grammar.specs.Scope as scopes;
 ghost use Rattle.rb_grammar.specs.Rule.{next_meets, next_touches, arguments_follow, begins_arguments};
 ghost use Rattle.rb_grammar.specs.Reading.{from_refused, is_looked_behind};
 ghost use Rattle.rb_grammar.specs.Heads.{next_class, next_spaced};
+ghost use Rattle.rb_grammar.specs.Grammar.{integer_of};
+ghost use Rattle.std.specs.List.{AllByRecursion};
+ghost use Rattle.rb_lexer.specs.Spans.{IsNatural};
+ghost use Rattle.rb_lexer.specs.declared.token.Token as tokens;
 ghost use Rattle.rb_cursor.specs.Class.{class_by};
 ghost use Rattle.rb_cursor.specs.State.{State, Took, Missed, any_token, next_place};
 
 use crate::class::{Class, class_of};
 use crate::fault::ParseFault;
 use crate::scope::Scopes;
-use rb_lexer::Token;
+use rb_lexer::{Token, TokenKind};
 use rb_tree::Span;
 use std::alloc::Global;
 use std::marker::Model;
@@ -33,12 +37,15 @@ impl<'t> Model for Cursor<'t> {
     ghost use Rattle.rb_grammar.specs.Heads.{next_class};
     ghost use Rattle.rb_cursor.specs.Class.{class_by};
     ghost use Rattle.rb_cursor.specs.State.{State};
+    ghost use Rattle.std.specs.List.{AllByRecursion};
+    ghost use Rattle.rb_lexer.specs.Spans.{IsNatural};
 
     ghost Value = { State };
 
     ghost view = { λ c. record { scope = c.scopes; looked = c.looked; rest = c.rest.now } };
 
-    ghost invariant = { λ c. class_by c.class ≡ next_class c.rest.now };
+    // the class is that of the next token, and no integer is negative
+    ghost invariant = { λ c. (class_by c.class ≡ next_class c.rest.now) × AllByRecursion IsNatural c.rest.now };
 }
 
 /// The class of the next token. No token counts as the end.
@@ -52,8 +59,9 @@ fn next_class(tokens: &[Token]) -> Class
 }
 
 impl<'t> Cursor<'t> {
-    /// Before the first token, at the top level.
+    /// Before the first token, at the top level. No integer among the tokens is negative.
     pub fn new(alloc: Global, tokens: &'t [Token]) -> Result<Cursor<'t>, ParseFault>
+        requires natural { AllByRecursion IsNatural tokens.now }
         ensures ok { IfOk result (λ c. c ≡ record { scope = scopes.top_level; looked = false; rest = tokens.now }) }
         ensures memory { OnErr result (result ≡ Err ParseFault.Memory) }
     {
@@ -154,6 +162,16 @@ impl<'t> Cursor<'t> {
         Ok(token)
     }
 
+    /// Refuses where no token follows.
+    pub fn expect_more(&self) -> Result<(), ParseFault>
+        ensures { MatchResult result (λ u. next_meets any_token self.now.rest ≡ true) (Missed any_token self.now) }
+    {
+        match self.rest {
+            [_, ..] => Ok(()),
+            [] => Err(self.refusal()),
+        }
+    }
+
     /// Whether the next token stands directly behind a place.
     pub fn touches(&self, place: Span) -> bool
         ensures { result ≡ next_touches place self.now.rest }
@@ -162,6 +180,23 @@ impl<'t> Cursor<'t> {
             [token, ..] => place.to == token.at.from,
             [] => false,
         }
+    }
+
+    /// Takes an integer that stands directly behind a minus, and tells it with that minus.
+    pub fn accept_negative(&mut self, minus: Span) -> Option<i64>
+        ensures taken { MatchOption result (((next_touches minus self.old.rest && next_meets (look.is look.int) self.old.rest) ≡ false) × (self.new ≡ self.old)) (λ n. (next_touches minus self.old.rest ≡ true) × ((t : tokens.Token) × Took (look.is look.int) self.old self.new t × (n ≡ neg_ℤ (integer_of t.kind)))) }
+    {
+        let [token, ..] = self.rest else {
+            return None;
+        };
+        if minus.to != token.at.from {
+            return None;
+        }
+        let TokenKind::Int(value) = token.kind else {
+            return None;
+        };
+        self.take().ok()?;
+        Some(-value)
     }
 
     /// Whether the arguments of a command follow. It looks behind a spaced minus.

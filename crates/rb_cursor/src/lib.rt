@@ -10,7 +10,7 @@ mod scope;
 mod tests;
 mod word;
 
-pub use class::{ATTR_READER, ATTR_WRITER, Class, is_marked};
+pub use class::{ATTR_READER, ATTR_WRITER, Class, class_of, is_marked};
 pub use cursor::Cursor;
 pub use fault::ParseFault;
 pub use word::{Word, text_of};

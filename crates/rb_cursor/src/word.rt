@@ -4,9 +4,8 @@ ghost use Rattle.std.specs.Prelude.{◌≡◌, ◌≤◌, ℕ, length, MatchResu
 ghost use Rattle.rb_grammar.specs.Look as look;
 ghost use Rattle.rb_grammar.specs.Phrase as p;
 ghost use Rattle.rb_grammar.specs.Grammar.{names, identifiers};
-ghost use Rattle.rb_grammar.specs.Grammar as grammar;
 ghost use Rattle.rb_grammar.specs.Rule.{next_meets};
-ghost use Rattle.rb_cursor.specs.Word.{TookWord, IsWord, AreWords};
+ghost use Rattle.rb_cursor.specs.Word.{text_now, TookWord, IsWord, AreWords};
 ghost use Rattle.rb_cursor.specs.Class.{class_by};
 ghost use Rattle.rb_cursor.specs.State.{Missed, Came, answer_at};
 
@@ -29,7 +28,7 @@ const NO_TEXT: &[u8] = b"";
 
 /// The text of a token, which is empty where it has none.
 pub fn text_of(kind: &TokenKind) -> &[u8]
-    ensures { result.now ≡ grammar.text_of kind.now }
+    ensures { result.now ≡ text_now kind.now }
 {
     match kind {
         TokenKind::Ident(text)

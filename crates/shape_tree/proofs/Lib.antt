@@ -5,3 +5,4 @@ pub mod Lookup
 pub mod Made
 pub mod Grown
 pub mod Read
+pub mod Indexed

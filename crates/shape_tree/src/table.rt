@@ -1,8 +1,10 @@
 // Tables of names by place.
 
-ghost use Rattle.std.specs.Prelude.{◌≡◌, ◌≤◌, ◌++◌, [], ◌∷◌, length, take, IfOk, OnErr, is_ok, if◌then◌else◌};
+ghost use Rattle.std.specs.Prelude.{◌≡◌, ◌≤◌, ◌++◌, [], ◌∷◌, length, take, IfOk, is_ok, if◌then◌else◌};
 ghost use Rattle.shape_tree.specs.Slots.{found_below, slot_of_edge};
+ghost use Rattle.shape_tree.specs.declared.index.TheConstants.{SHORT};
 
+use crate::index::{Index, SHORT, index_of, tell};
 use shape_core::{Edge, Kind, NameId, Place};
 use std::alloc::{AllocError, Global};
 use std::marker::Model;
@@ -40,15 +42,19 @@ pub fn slot_of(edge: Edge) -> Option<Slot>
 #[derive(Drop)]
 pub struct Table {
     slots: Vec<Slot>,
+    index: Option<Box<Index>>,
 }
 
 impl Model for Table {
     ghost use Rattle.std.specs.Prelude.{List};
     ghost use Rattle.shape_tree.specs.declared.table.Slot.{Slot};
+    ghost use Rattle.shape_tree.specs.Indexes.{HasIndex};
 
     ghost Value = { List Slot };
 
     ghost view = { λ t. t.slots.items };
+
+    ghost invariant = { λ t. HasIndex t.slots.items t.index };
 }
 
 impl Table {
@@ -58,6 +64,7 @@ impl Table {
     {
         Table {
             slots: Vec::new(alloc),
+            index: None,
         }
     }
 
@@ -66,9 +73,9 @@ impl Table {
         requires { places ≤ length self.now }
         ensures { IfOk result (λ t. t ≡ take places self.now) }
     {
-        Ok(Table {
-            slots: Vec::from_slice(alloc, &self.slots[..places])?,
-        })
+        let slots = Vec::from_slice(alloc, &self.slots[..places])?;
+        let index = index_of(alloc, &slots)?;
+        Ok(Table { slots, index })
     }
 
     /// How many places it has.
@@ -79,9 +86,12 @@ impl Table {
     }
 
     /// Adds the next place.
-    pub fn push(&mut self, slot: Slot) -> Result<(), AllocError>
+    pub fn push(&mut self, alloc: Global, slot: Slot) -> Result<(), AllocError>
         ensures { self.new ≡ (if is_ok result then self.old ++ slot ∷ [] else self.old) }
     {
+        // Room comes first, so that nothing fails once the index has the place.
+        self.slots.reserve(1)?;
+        tell(alloc, &mut self.index, &self.slots, slot)?;
         self.slots.push(slot)?;
         Ok(())
     }
@@ -91,12 +101,24 @@ impl Table {
         requires { places ≤ length self.now }
         ensures { result ≡ found_below self.now name places }
     {
-        for place in (0..places).rev() {
-            let slot = &self.slots[place];
-            if slot.name == name {
-                return Some((Place(place as u64), slot.kind));
-            }
+        match &self.index {
+            Some(index) if places > SHORT => index.find(&self.slots, places, name),
+            _ => newest(&self.slots, places, name),
         }
-        None
     }
+}
+
+/// The newest of the first places that was given to the name, by a look through them.
+fn newest(slots: &[Slot], places: usize, name: NameId) -> Option<(Place, Kind)>
+    requires within { places ≤ length slots.now }
+    requires short { places ≤ SHORT }
+    ensures { result ≡ found_below slots.now name places }
+{
+    for place in (0..places).rev() {
+        let slot = &slots[place];
+        if slot.name == name {
+            return Some((Place(place as u64), slot.kind));
+        }
+    }
+    None
 }

@@ -77,7 +77,7 @@ impl Tables {
             return Ok(layout);
         };
         let mut table = self.tables[layout.table].front(self.alloc, layout.places - 1)?;
-        table.push(own)?;
+        table.push(self.alloc, own)?;
         let at = self.tables.len();
         self.tables.push(table)?;
         Ok(Layout {
@@ -102,7 +102,7 @@ impl Tables {
                 own: Some(slot),
             });
         }
-        self.tables[layout.table].push(slot)?;
+        self.tables[layout.table].push(self.alloc, slot)?;
         Ok(Layout {
             table: layout.table,
             places: self.tables[layout.table].len(),

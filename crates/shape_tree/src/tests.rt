@@ -108,6 +108,54 @@ fn a_widened_name_moves_to_a_new_place(rt: HostRuntime) -> Result<(), Fail> {
     Ok(())
 }
 
+/// A chain of a thousand names, along which every third name that is added widens an older one.
+fn long_chain(alloc: Global) -> Result<Vec<Edge>, AllocError> {
+    let mut edges = Vec::new(alloc);
+    for name in 0..1_000 {
+        edges.push(add(name))?;
+        if name % 3 == 2 {
+            edges.push(widen(name / 3))?;
+        }
+    }
+    Ok(edges)
+}
+
+/// What an edge that gives a place leaves of where names stand.
+fn note(names: &mut [Option<(Place, Kind)>], edge: Edge, place: Place) {
+    let (name, kind) = match edge {
+        Edge::Add(name, kind) => (name, kind),
+        Edge::Widen(name) => (name, Kind::AnyLoc),
+        Edge::Share => return,
+    };
+    if let Some(stands) = names.get_mut(name.0 as usize) {
+        *stands = Some((place, kind));
+    }
+}
+
+/// Whether the names from 0 on stand in a shape as they do in a list.
+fn all_stand(tree: &Tree, shape: ShapeId, names: &[Option<(Place, Kind)>]) -> bool {
+    shape.0 < tree.len() as u64
+        && (0..)
+            .zip(names)
+            .all(|(name, stands)| tree.find(shape, NameId(name)) == *stands)
+}
+
+#[test]
+fn each_shape_along_a_long_table_sees_its_own_places(rt: HostRuntime) -> Result<(), Fail> {
+    let edges = long_chain(rt.alloc())?;
+    let mut tree = Tree::new(rt.alloc())?;
+    grow(&mut tree, 1, &edges)?;
+    let mut names = vec![in rt.alloc(); None; 1_000]?;
+    for (place, edge) in (0..).zip(&edges) {
+        if place % 10 == 0 {
+            assert!(rt; all_stand(&tree, ShapeId(place), &names));
+        }
+        note(&mut names, *edge, Place(place));
+    }
+    assert!(rt; all_stand(&tree, ShapeId(edges.len() as u64), &names));
+    Ok(())
+}
+
 #[test]
 fn what_may_not_follow_is_told(rt: HostRuntime) -> Result<(), Fail> {
     let mut tree = Tree::new(rt.alloc())?;

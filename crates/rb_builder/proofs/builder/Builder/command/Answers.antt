@@ -1,4 +1,4 @@
-use Rattle.std.proofs.Common.{Some, subst, ap, ◌∙◌}
+use Rattle.std.proofs.Common.{subst, ap, ◌∙◌}
 use Rattle.rb_builder.specs.Builder.{walk_of}
 use Rattle.rb_builder.specs.Operand.{IsHead}
 use Rattle.rb_builder.specs.declared.operand.Head.TheVariants as h

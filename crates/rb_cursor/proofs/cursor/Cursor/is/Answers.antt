@@ -8,5 +8,5 @@ use Rattle.rb_cursor.proofs.cursor.Cursor.is.Goals as goal
 
 pub returns-in-len1-up : goal.returns-in-len1-up
 returns-in-len1-up c =
-    is-next c.args.class c.self.inside.class c.self.inside.rest.now c.in-len1-up.len_at_least c.self.invariant
+    is-next c.args.class c.self.inside.class c.self.inside.rest.now c.in-len1-up.len_at_least c.self.invariant.0
     ∙ ap (λ s. next_meets (look.is (class_by c.args.class)) (State.rest s)) c.self.view_is

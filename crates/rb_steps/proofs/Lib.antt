@@ -1,0 +1,3 @@
+pub mod Skipping
+pub mod Choosing
+pub mod Parameters

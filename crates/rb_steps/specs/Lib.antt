@@ -1,0 +1,5 @@
+pub mod Tier
+pub mod Begins
+pub mod Skips
+pub mod GoesTo
+pub mod Within
