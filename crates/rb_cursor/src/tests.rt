@@ -90,3 +90,21 @@ fn a_scope_has_room_for_ten_thousand_locals(rt: HostRuntime) -> Result<(), Fail>
     assert!(rt; !cursor.is_local(&10_000_u32.to_be_bytes()));
     Ok(())
 }
+
+#[test]
+fn an_integer_directly_behind_a_minus_is_negative(rt: HostRuntime) -> Result<(), Fail> {
+    for (source, found) in [
+        (b"-1".as_slice(), Some(-1)),
+        (b"-9223372036854775807".as_slice(), Some(-9_223_372_036_854_775_807)),
+        (b"- 1".as_slice(), None),
+        (b"-a".as_slice(), None),
+    ] {
+        let tokens = lex(rt.alloc(), source)?;
+        let mut cursor = Cursor::new(rt.alloc(), tokens.as_slice())?;
+        let minus = cursor.take()?.at;
+        let number = cursor.accept_negative(minus);
+        assert!(rt; number == found);
+        assert!(rt; cursor.is(Class::End) == number.is_some());
+    }
+    Ok(())
+}
