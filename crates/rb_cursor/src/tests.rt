@@ -95,7 +95,10 @@ fn a_scope_has_room_for_ten_thousand_locals(rt: HostRuntime) -> Result<(), Fail>
 fn an_integer_directly_behind_a_minus_is_negative(rt: HostRuntime) -> Result<(), Fail> {
     for (source, found) in [
         (b"-1".as_slice(), Some(-1)),
-        (b"-9223372036854775807".as_slice(), Some(-9_223_372_036_854_775_807)),
+        (
+            b"-9223372036854775807".as_slice(),
+            Some(-9_223_372_036_854_775_807),
+        ),
         (b"- 1".as_slice(), None),
         (b"-a".as_slice(), None),
     ] {
