@@ -1,0 +1,10 @@
+pub mod Walk
+pub mod Said
+pub mod Grown
+pub mod Operand
+pub mod Constant
+pub mod Builder
+pub mod Numbers
+pub mod Literal
+pub mod Script
+pub mod Block
