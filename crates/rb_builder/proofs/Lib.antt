@@ -13,3 +13,4 @@ pub mod Scripts
 pub mod Blocks
 pub mod Targeted
 pub mod Attributes
+pub mod Numbering

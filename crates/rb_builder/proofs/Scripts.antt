@@ -28,6 +28,11 @@ pub made_of_three : {A B C D : Type 0} (w : Walk) (x : A) (y : B) (z : C) (f : N
 made_of_three gathering x y z f g h k i j l = tt
 made_of_three (numbering n) x y z f g h k i j l = rw (i, j, l) refl
 
+pub made_of_four : {A B C D E : Type 0} (w : Walk) (x : A) (y : B) (z : C) (u : D) (f : Numbering → A) (g : Numbering → B) (h : Numbering → C) (i : Numbering → D) (k : A → B → C → D → E)
+    → Made w x f → Made w y g → Made w z h → Made w u i → Made w (k x y z u) (λ n. k (f n) (g n) (h n) (i n))
+made_of_four gathering x y z u f g h i k p q r s = tt
+made_of_four (numbering n) x y z u f g h i k p q r s = rw (p, q, r, s) refl
+
 -- the same as what is made
 pub made_same : {A : Type 0} (w : Walk) (x y : A) (f : Numbering → A) → y ≡ x → Made w x f → Made w y f
 made_same w x y f e h = rw e h

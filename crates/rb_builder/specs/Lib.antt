@@ -10,3 +10,4 @@ pub mod Stored
 pub mod Script
 pub mod Block
 pub mod Attribute
+pub mod Numbered

@@ -11,13 +11,13 @@ ghost use Rattle.rb_builder.specs.Stored.{stored};
 ghost use Rattle.rb_builder.specs.Builder.{walk_of};
 ghost use Rattle.rb_builder.specs.Operand.{IsOperand, IsHead, IsTarget};
 
-use crate::builder::{Builder, branch, unnumbered};
+use crate::builder::Builder;
 use crate::grown::{Grown, Row};
 use crate::grown_target::GrownTarget;
 use crate::operand::{Head, Operand, Target};
 use crate::word::Given;
 use rb_cursor::{ParseFault, Word};
-use rb_tree::{AssignOp, Boxed, Node, Span};
+use rb_tree::{AssignOp, Node, Span};
 
 /// The name of the method that `receiver[index] = value` calls.
 const STORE_NAME: &[u8] = b"[]=";
@@ -88,17 +88,8 @@ impl<'n> Builder<'n> {
         } = value;
         let mut said = self.giving(Given::Plain(word.text))?;
         said.join(behind)?;
-        match self.numbers {
-            None => branch(at, height, said, unnumbered(at)),
-            Some(numbers) => {
-                let node = Node::SetLocal(
-                    numbers.name(word.text),
-                    Boxed::new(self.alloc, node)?,
-                    at,
-                );
-                branch(at, height, said, node)
-            }
-        }
+        let name = self.name(word.text);
+        self.branch(at, height, said, Node::SetLocal(name, node, at))
     }
 
     /// `@field = value`
@@ -118,17 +109,8 @@ impl<'n> Builder<'n> {
         } = value;
         let mut said = self.giving(Given::Plain(word.text))?;
         said.join(behind)?;
-        match self.numbers {
-            None => branch(at, height, said, unnumbered(at)),
-            Some(numbers) => {
-                let node = Node::SetField(
-                    numbers.name(word.text),
-                    Boxed::new(self.alloc, node)?,
-                    at,
-                );
-                branch(at, height, said, node)
-            }
-        }
+        let name = self.name(word.text);
+        self.branch(at, height, said, Node::SetField(name, node, at))
     }
 
     /// `$global = value`
@@ -148,17 +130,8 @@ impl<'n> Builder<'n> {
         } = value;
         let mut said = self.giving(Given::Plain(word.text))?;
         said.join(behind)?;
-        match self.numbers {
-            None => branch(at, height, said, unnumbered(at)),
-            Some(numbers) => {
-                let node = Node::SetGlobal(
-                    numbers.name(word.text),
-                    Boxed::new(self.alloc, node)?,
-                    at,
-                );
-                branch(at, height, said, node)
-            }
-        }
+        let name = self.name(word.text);
+        self.branch(at, height, said, Node::SetGlobal(name, node, at))
     }
 
     /// `receiver[index] = value`
@@ -215,18 +188,14 @@ impl<'n> Builder<'n> {
         let highest = height.max(other);
         self.gather(&mut said, name)?;
         said.join(behind)?;
-        match self.numbers {
-            None => branch(at, highest, said, unnumbered(at)),
-            Some(numbers) => {
-                let node = Node::Store {
-                    receiver: Boxed::new(self.alloc, receiver)?,
-                    name: numbers.given(name)?,
-                    args: nodes,
-                    at,
-                };
-                branch(at, highest, said, node)
-            }
-        }
+        let number = self.number(name)?;
+        let node = Node::Store {
+            receiver,
+            name: number,
+            args: nodes,
+            at,
+        };
+        self.branch(at, highest, said, node)
     }
 
     /// `target += value`, and so on.
@@ -252,17 +221,12 @@ impl<'n> Builder<'n> {
         } = value;
         let highest = height.max(other);
         said.join(behind)?;
-        match self.numbers {
-            None => branch(at, highest, said, unnumbered(at)),
-            Some(_) => {
-                let node = Node::OpAssign {
-                    target,
-                    op,
-                    value: Boxed::new(self.alloc, node)?,
-                    at,
-                };
-                branch(at, highest, said, node)
-            }
-        }
+        let node = Node::OpAssign {
+            target,
+            op,
+            value: node,
+            at,
+        };
+        self.branch(at, highest, said, node)
     }
 }

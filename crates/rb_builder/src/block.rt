@@ -10,7 +10,7 @@ ghost use Rattle.rb_builder.specs.Grown.{IsTree, IsRow, Builds, Made};
 ghost use Rattle.rb_builder.specs.Block.{AreParams, IsBlock, SaysCall};
 ghost use Rattle.rb_builder.specs.Builder.{walk_of};
 
-use crate::builder::{Builder, branch, unnumbered};
+use crate::builder::Builder;
 use crate::grown::{Grown, Row};
 use crate::said::Said;
 use crate::word::Given;
@@ -121,14 +121,9 @@ impl<'n> Builder<'n> {
         let rest = other.max(inside);
         let highest = height.max(rest);
         let said = self.saying_call(said, word, behind, last)?;
-        match self.numbers {
-            None => branch(word.at, highest, said, unnumbered(word.at)),
-            Some(numbers) => {
-                let name = numbers.name(word.text);
-                let node = self.node_with_block(receiver, name, nodes, block, word.at)?;
-                branch(word.at, highest, said, node)
-            }
-        }
+        let name = self.name(word.text);
+        let node = self.node_with_block(receiver, name, nodes, block, word.at)?;
+        self.branch(word.at, highest, said, node)
     }
 
     /// What a receiver says, the name of its call, and what the arguments and the block say.
@@ -151,7 +146,7 @@ impl<'n> Builder<'n> {
     /// The node of a call with a block.
     fn node_with_block(
         &self,
-        receiver: Node,
+        receiver: Boxed<Node>,
         name: NameId,
         args: Items<Node>,
         block: Block,
@@ -160,7 +155,6 @@ impl<'n> Builder<'n> {
         ensures ok { IfOk result (λ made. made ≡ node.Call (Some receiver) name args (Some block) at) }
         ensures memory { OnErr result (result ≡ Err Memory) }
     {
-        let receiver = Boxed::new(self.alloc, receiver)?;
         let block = Boxed::new(self.alloc, block)?;
         Ok(Node::Call {
             receiver: Some(receiver),
@@ -193,17 +187,13 @@ impl<'n> Builder<'n> {
         } = block;
         self.push_thread(&mut said, place, block)?;
         said.join(behind)?;
-        match self.numbers {
-            None => branch(at, height, said, unnumbered(at)),
-            Some(numbers) => {
-                let node = Node::ThreadNew {
-                    args: nodes,
-                    body: numbers.body(place),
-                    at,
-                };
-                branch(at, height, said, node)
-            }
-        }
+        let body = self.body(place);
+        let node = Node::ThreadNew {
+            args: nodes,
+            body,
+            at,
+        };
+        self.branch(at, height, said, node)
     }
 
     /// Adds a thread: the place of its block on the first walk, its body on the second.

@@ -14,42 +14,17 @@ use crate::numbers::Numbers;
 use crate::said::Said;
 use crate::word::Given;
 use rb_cursor::ParseFault;
-use rb_tree::{Items, NameId, Node, Span};
+use rb_tree::{Boxed, Items, NameId, Node, Span};
 use std::alloc::Global;
 
 /// How high a node may be.
 const MAX_HEIGHT: u32 = 64;
 
-/// Makes trees, with numbers where it has them. Without numbers it gathers names and threads, and nodes are of no use.
+/// Makes trees, with numbers where it has them. Without numbers it gathers names and threads, and its nodes are of no use.
 #[derive(Clone, Copy)]
 pub struct Builder<'n> {
     pub(crate) alloc: Global,
     pub(crate) numbers: Option<&'n Numbers>,
-}
-
-/// A node that takes no memory, in place of one that has no numbers.
-pub(crate) fn unnumbered(at: Span) -> Node {
-    Node::Nil(at)
-}
-
-/// A tree whose highest child is so high.
-pub(crate) fn branch<'t>(
-    at: Span,
-    highest: u32,
-    said: Said<'t>,
-    node: Node,
-) -> Result<Grown<'t>, ParseFault>
-    ensures { (w : Walk) (a : tree.Tree) → IsBranch w at highest said.entry node a → Builds w a result }
-{
-    if highest >= MAX_HEIGHT {
-        return Err(ParseFault::TooNested(at.from));
-    }
-    Ok(Grown {
-        at,
-        height: highest + 1,
-        node,
-        said,
-    })
 }
 
 impl<'n> Builder<'n> {
@@ -71,6 +46,28 @@ impl<'n> Builder<'n> {
             alloc,
             numbers: Some(numbers),
         }
+    }
+
+    /// A tree whose highest child is so high.
+    pub(crate) fn branch<'t>(
+        &self,
+        at: Span,
+        highest: u32,
+        said: Said<'t>,
+        node: Node,
+    ) -> Result<Grown<'t>, ParseFault>
+        ensures { (w : Walk) (a : tree.Tree) → IsBranch w at highest said.entry node a → Builds w a result }
+    {
+        if highest >= MAX_HEIGHT {
+            return Err(ParseFault::TooNested(at.from));
+        }
+        let node = Boxed::new(self.alloc, node)?;
+        Ok(Grown {
+            at,
+            height: highest + 1,
+            node,
+            said,
+        })
     }
 
     /// Adds a name that a token gives, on the first walk.
@@ -103,6 +100,26 @@ impl<'n> Builder<'n> {
         match self.numbers {
             None => Ok(NameId(0)),
             Some(numbers) => numbers.given(given),
+        }
+    }
+
+    /// The number of a name, where there are numbers.
+    pub(crate) fn name(&self, text: &[u8]) -> NameId
+        ensures { Made (walk_of self.now) result (λ n. n.name text.now) }
+    {
+        match self.numbers {
+            None => NameId(0),
+            Some(numbers) => numbers.name(text),
+        }
+    }
+
+    /// The number of the body of the thread whose block stands at a place, where there are numbers.
+    pub(crate) fn body(&self, at: Span) -> u32
+        ensures { Made (walk_of self.now) result (λ n. n.body at) }
+    {
+        match self.numbers {
+            None => 0,
+            Some(numbers) => numbers.body(at),
         }
     }
 
@@ -139,7 +156,7 @@ impl<'n> Builder<'n> {
             ..
         } = grown;
         row.height = row.height.max(height);
-        self.keep(&mut row.nodes, node)?;
+        self.keep(&mut row.nodes, node.into_inner())?;
         row.said.join(said)?;
         Ok(())
     }

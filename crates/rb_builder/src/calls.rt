@@ -6,11 +6,11 @@ ghost use Rattle.rb_cursor.specs.Word.{word_by};
 ghost use Rattle.rb_builder.specs.Grown.{IsTree, IsRow, Builds};
 ghost use Rattle.rb_builder.specs.Builder.{walk_of};
 
-use crate::builder::{Builder, branch, unnumbered};
+use crate::builder::Builder;
 use crate::grown::{Grown, Row};
 use crate::word::Given;
 use rb_cursor::{ParseFault, Word};
-use rb_tree::{Boxed, Items, Node, Span};
+use rb_tree::{Items, Node, Span};
 
 /// The name of the method that a minus before an operand calls.
 const MINUS_NAME: &[u8] = b"-@";
@@ -29,19 +29,15 @@ impl<'n> Builder<'n> {
         } = args;
         let mut said = self.giving(Given::Plain(word.text))?;
         said.join(behind)?;
-        match self.numbers {
-            None => branch(word.at, height, said, unnumbered(word.at)),
-            Some(numbers) => {
-                let node = Node::Call {
-                    receiver: None,
-                    name: numbers.name(word.text),
-                    args: nodes,
-                    block: None,
-                    at: word.at,
-                };
-                branch(word.at, height, said, node)
-            }
-        }
+        let name = self.name(word.text);
+        let node = Node::Call {
+            receiver: None,
+            name,
+            args: nodes,
+            block: None,
+            at: word.at,
+        };
+        self.branch(word.at, height, said, node)
     }
 
     /// A call of a receiver.
@@ -67,19 +63,15 @@ impl<'n> Builder<'n> {
         let highest = height.max(other);
         self.gather(&mut said, Given::Plain(word.text))?;
         said.join(behind)?;
-        match self.numbers {
-            None => branch(word.at, highest, said, unnumbered(word.at)),
-            Some(numbers) => {
-                let node = Node::Call {
-                    receiver: Some(Boxed::new(self.alloc, receiver)?),
-                    name: numbers.name(word.text),
-                    args: nodes,
-                    block: None,
-                    at: word.at,
-                };
-                branch(word.at, highest, said, node)
-            }
-        }
+        let name = self.name(word.text);
+        let node = Node::Call {
+            receiver: Some(receiver),
+            name,
+            args: nodes,
+            block: None,
+            at: word.at,
+        };
+        self.branch(word.at, highest, said, node)
     }
 
     /// An operator between two operands, as a call of its name.
@@ -105,13 +97,8 @@ impl<'n> Builder<'n> {
             said,
             ..
         } = grown;
-        match self.numbers {
-            None => branch(at, height, said, unnumbered(at)),
-            Some(_) => {
-                let node = Node::Not(Boxed::new(self.alloc, node)?, at);
-                branch(at, height, said, node)
-            }
-        }
+        let node = Node::Not(node, at);
+        self.branch(at, height, said, node)
     }
 
     /// A minus before an operand, as a call of its name.
@@ -126,19 +113,15 @@ impl<'n> Builder<'n> {
         } = grown;
         let mut said = self.giving(Given::Plain(MINUS_NAME))?;
         said.join(behind)?;
-        match self.numbers {
-            None => branch(at, height, said, unnumbered(at)),
-            Some(numbers) => {
-                let node = Node::Call {
-                    receiver: Some(Boxed::new(self.alloc, node)?),
-                    name: numbers.name(MINUS_NAME),
-                    args: Items::new(self.alloc),
-                    block: None,
-                    at,
-                };
-                branch(at, height, said, node)
-            }
-        }
+        let name = self.name(MINUS_NAME);
+        let node = Node::Call {
+            receiver: Some(node),
+            name,
+            args: Items::new(self.alloc),
+            block: None,
+            at,
+        };
+        self.branch(at, height, said, node)
     }
 
     /// `left && right`
@@ -164,14 +147,7 @@ impl<'n> Builder<'n> {
         } = right;
         let highest = height.max(other);
         said.join(behind)?;
-        match self.numbers {
-            None => branch(at, highest, said, unnumbered(at)),
-            Some(_) => {
-                let left = Boxed::new(self.alloc, left)?;
-                let right = Boxed::new(self.alloc, right)?;
-                branch(at, highest, said, Node::And(left, right, at))
-            }
-        }
+        self.branch(at, highest, said, Node::And(left, right, at))
     }
 
     /// `left || right`
@@ -197,14 +173,7 @@ impl<'n> Builder<'n> {
         } = right;
         let highest = height.max(other);
         said.join(behind)?;
-        match self.numbers {
-            None => branch(at, highest, said, unnumbered(at)),
-            Some(_) => {
-                let left = Boxed::new(self.alloc, left)?;
-                let right = Boxed::new(self.alloc, right)?;
-                branch(at, highest, said, Node::Or(left, right, at))
-            }
-        }
+        self.branch(at, highest, said, Node::Or(left, right, at))
     }
 
     /// `receiver[index]`, at its bracket.
@@ -239,16 +208,12 @@ impl<'n> Builder<'n> {
         } = args;
         let mut said = self.giving(Given::Plain(class.text))?;
         said.join(behind)?;
-        match self.numbers {
-            None => branch(at, height, said, unnumbered(at)),
-            Some(numbers) => {
-                let node = Node::New {
-                    class: numbers.name(class.text),
-                    args: nodes,
-                    at,
-                };
-                branch(at, height, said, node)
-            }
-        }
+        let class = self.name(class.text);
+        let node = Node::New {
+            class,
+            args: nodes,
+            at,
+        };
+        self.branch(at, height, said, node)
     }
 }

@@ -5,11 +5,11 @@ ghost use Rattle.rb_grammar.specs.Tree as tree;
 ghost use Rattle.rb_builder.specs.Grown.{IsTree, IsRow, Builds};
 ghost use Rattle.rb_builder.specs.Builder.{walk_of};
 
-use crate::builder::{Builder, branch, unnumbered};
+use crate::builder::Builder;
 use crate::grown::{Grown, Row};
 use crate::said::Said;
 use rb_cursor::ParseFault;
-use rb_tree::{Boxed, Items, Node, Span};
+use rb_tree::{Items, Node, Span};
 
 impl<'n> Builder<'n> {
     /// A choice between two bodies, with its condition before them.
@@ -42,13 +42,7 @@ impl<'n> Builder<'n> {
         let highest = height.max(inside);
         said.join(first_said)?;
         said.join(second_said)?;
-        match self.numbers {
-            None => branch(at, highest, said, unnumbered(at)),
-            Some(_) => {
-                let condition = Boxed::new(self.alloc, condition)?;
-                branch(at, highest, said, Node::If(condition, first, second, at))
-            }
-        }
+        self.branch(at, highest, said, Node::If(condition, first, second, at))
     }
 
     /// A loop, with its condition before the body.
@@ -73,13 +67,7 @@ impl<'n> Builder<'n> {
         } = body;
         let highest = height.max(other);
         said.join(behind)?;
-        match self.numbers {
-            None => branch(at, highest, said, unnumbered(at)),
-            Some(_) => {
-                let condition = Boxed::new(self.alloc, condition)?;
-                branch(at, highest, said, Node::While(condition, nodes, at))
-            }
-        }
+        self.branch(at, highest, said, Node::While(condition, nodes, at))
     }
 
     /// `body if condition`
@@ -104,14 +92,8 @@ impl<'n> Builder<'n> {
         } = self.only(body)?;
         let highest = height.max(other);
         said.join(behind)?;
-        match self.numbers {
-            None => branch(at, highest, said, unnumbered(at)),
-            Some(_) => {
-                let condition = Boxed::new(self.alloc, condition)?;
-                let node = Node::If(condition, nodes, Items::new(self.alloc), at);
-                branch(at, highest, said, node)
-            }
-        }
+        let node = Node::If(condition, nodes, Items::new(self.alloc), at);
+        self.branch(at, highest, said, node)
     }
 
     /// `body while condition`
@@ -136,20 +118,14 @@ impl<'n> Builder<'n> {
         } = self.only(body)?;
         let highest = height.max(other);
         said.join(behind)?;
-        match self.numbers {
-            None => branch(at, highest, said, unnumbered(at)),
-            Some(_) => {
-                let condition = Boxed::new(self.alloc, condition)?;
-                branch(at, highest, said, Node::While(condition, nodes, at))
-            }
-        }
+        self.branch(at, highest, said, Node::While(condition, nodes, at))
     }
 
     /// `return`
     pub fn return_nothing<'t>(&self, at: Span) -> Result<Grown<'t>, ParseFault>
         ensures { Builds (walk_of self.now) (tree.return_nothing at) result }
     {
-        branch(at, 0, Said::new(self.alloc), Node::Return(None, at))
+        self.branch(at, 0, Said::new(self.alloc), Node::Return(None, at))
     }
 
     /// `return value`
@@ -162,12 +138,6 @@ impl<'n> Builder<'n> {
             said,
             ..
         } = value;
-        match self.numbers {
-            None => branch(at, height, said, unnumbered(at)),
-            Some(_) => {
-                let value = Boxed::new(self.alloc, node)?;
-                branch(at, height, said, Node::Return(Some(value), at))
-            }
-        }
+        self.branch(at, height, said, Node::Return(Some(node), at))
     }
 }

@@ -3,14 +3,14 @@
 ghost use Rattle.std.specs.Prelude.{◌≤◌};
 
 use crate::said::Said;
-use rb_tree::{Items, Node, Span};
+use rb_tree::{Boxed, Items, Node, Span};
 
 /// A node with its place, its height and what its text says.
 #[derive(Drop)]
 pub struct Grown<'t> {
     pub at: Span,
     pub height: u32,
-    pub node: Node,
+    pub node: Boxed<Node>,
     pub said: Said<'t>,
     pub ghost low: { height ≤ 64 },
 }

@@ -16,7 +16,6 @@ use crate::operand::Target;
 use crate::said::Said;
 use crate::word::Given;
 use rb_cursor::{ParseFault, Word};
-use rb_tree::Boxed;
 
 /// The target of an assignment with an operator, with the height of the highest node in it and what its text says.
 #[derive(Drop)]
@@ -90,8 +89,6 @@ impl<'n> Builder<'n> {
         } = index;
         let highest = height.max(other);
         said.join(behind)?;
-        let receiver = Boxed::new(self.alloc, receiver)?;
-        let index = Boxed::new(self.alloc, index)?;
         Ok(GrownTarget {
             height: highest,
             target: rb_tree::Target::Index(receiver, index),
@@ -116,7 +113,6 @@ impl<'n> Builder<'n> {
         } = receiver;
         self.gather(&mut said, Given::Plain(word.text))?;
         let name = self.number(Given::Plain(word.text))?;
-        let receiver = Boxed::new(self.alloc, receiver)?;
         Ok(GrownTarget {
             height,
             target: rb_tree::Target::Attribute(receiver, name),

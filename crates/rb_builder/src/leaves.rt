@@ -7,7 +7,7 @@ ghost use Rattle.rb_builder.specs.Grown.{Builds};
 ghost use Rattle.rb_builder.specs.Builder.{walk_of};
 ghost use Rattle.rb_builder.specs.Constant.{constant_node};
 
-use crate::builder::{Builder, branch, unnumbered};
+use crate::builder::Builder;
 use crate::grown::Grown;
 use crate::said::Said;
 use crate::word::Given;
@@ -45,15 +45,8 @@ impl<'n> Builder<'n> {
         ensures { Builds (walk_of self.now) (tree.local (word_by word.entry)) result }
     {
         let said = self.giving(Given::Plain(word.text))?;
-        match self.numbers {
-            None => branch(word.at, 0, said, unnumbered(word.at)),
-            Some(numbers) => branch(
-                word.at,
-                0,
-                said,
-                Node::Local(numbers.name(word.text), word.at),
-            ),
-        }
+        let name = self.name(word.text);
+        self.branch(word.at, 0, said, Node::Local(name, word.at))
     }
 
     /// An instance variable that is read.
@@ -61,15 +54,8 @@ impl<'n> Builder<'n> {
         ensures { Builds (walk_of self.now) (tree.field (word_by word.entry)) result }
     {
         let said = self.giving(Given::Plain(word.text))?;
-        match self.numbers {
-            None => branch(word.at, 0, said, unnumbered(word.at)),
-            Some(numbers) => branch(
-                word.at,
-                0,
-                said,
-                Node::Field(numbers.name(word.text), word.at),
-            ),
-        }
+        let name = self.name(word.text);
+        self.branch(word.at, 0, said, Node::Field(name, word.at))
     }
 
     /// A global variable that is read.
@@ -77,15 +63,8 @@ impl<'n> Builder<'n> {
         ensures { Builds (walk_of self.now) (tree.global (word_by word.entry)) result }
     {
         let said = self.giving(Given::Plain(word.text))?;
-        match self.numbers {
-            None => branch(word.at, 0, said, unnumbered(word.at)),
-            Some(numbers) => branch(
-                word.at,
-                0,
-                said,
-                Node::Global(numbers.name(word.text), word.at),
-            ),
-        }
+        let name = self.name(word.text);
+        self.branch(word.at, 0, said, Node::Global(name, word.at))
     }
 
     /// A symbol.
@@ -93,28 +72,21 @@ impl<'n> Builder<'n> {
         ensures { Builds (walk_of self.now) (tree.symbol (word_by word.entry)) result }
     {
         let said = self.giving(Given::Plain(word.text))?;
-        match self.numbers {
-            None => branch(word.at, 0, said, unnumbered(word.at)),
-            Some(numbers) => branch(
-                word.at,
-                0,
-                said,
-                Node::Sym(numbers.name(word.text), word.at),
-            ),
-        }
+        let name = self.name(word.text);
+        self.branch(word.at, 0, said, Node::Sym(name, word.at))
     }
 
     /// An integer.
     pub fn integer<'t>(&self, value: i64, at: Span) -> Result<Grown<'t>, ParseFault>
         ensures { Builds (walk_of self.now) (tree.integer value at) result }
     {
-        branch(at, 0, Said::new(self.alloc), Node::Int(value, at))
+        self.branch(at, 0, Said::new(self.alloc), Node::Int(value, at))
     }
 
     /// `nil`, `true`, `false`, `self`, `break` and `next`.
     pub fn constant<'t>(&self, constant: Constant, at: Span) -> Result<Grown<'t>, ParseFault>
         ensures { Builds (walk_of self.now) (tree.constant (constant_node constant) at) result }
     {
-        branch(at, 0, Said::new(self.alloc), constant_node(constant, at))
+        self.branch(at, 0, Said::new(self.alloc), constant_node(constant, at))
     }
 }

@@ -17,6 +17,8 @@ mod numbers;
 mod operand;
 mod said;
 mod script;
+#[cfg(test)]
+mod tests;
 mod word;
 
 pub use block::{GrownBlock, GrownParams};

@@ -7,7 +7,7 @@ ghost use Rattle.rb_builder.specs.Grown.{IsTree, IsRow, Builds};
 ghost use Rattle.rb_builder.specs.Literal.{ArePieces, ArePairs};
 ghost use Rattle.rb_builder.specs.Builder.{walk_of};
 
-use crate::builder::{Builder, branch, unnumbered};
+use crate::builder::Builder;
 use crate::grown::{Grown, Row};
 use crate::said::Said;
 use rb_cursor::ParseFault;
@@ -65,7 +65,7 @@ impl<'n> Builder<'n> {
             ..
         } = grown;
         row.height = row.height.max(height);
-        self.keep(&mut row.pieces, Piece::Code(node))?;
+        self.keep(&mut row.pieces, Piece::Code(node.into_inner()))?;
         row.said.join(said)?;
         Ok(())
     }
@@ -79,10 +79,7 @@ impl<'n> Builder<'n> {
             pieces,
             said,
         } = pieces;
-        match self.numbers {
-            None => branch(at, height, said, unnumbered(at)),
-            Some(_) => branch(at, height, said, Node::Str(pieces, at)),
-        }
+        self.branch(at, height, said, Node::Str(pieces, at))
     }
 
     /// `[a, b]`
@@ -94,10 +91,7 @@ impl<'n> Builder<'n> {
             nodes,
             said,
         } = items;
-        match self.numbers {
-            None => branch(at, height, said, unnumbered(at)),
-            Some(_) => branch(at, height, said, Node::Array(nodes, at)),
-        }
+        self.branch(at, height, said, Node::Array(nodes, at))
     }
 
     /// No pairs.
@@ -135,7 +129,7 @@ impl<'n> Builder<'n> {
         } = value;
         let pair = height.max(other);
         row.height = row.height.max(pair);
-        self.keep(&mut row.pairs, (key, value))?;
+        self.keep(&mut row.pairs, (key.into_inner(), value.into_inner()))?;
         row.said.join(said)?;
         row.said.join(behind)?;
         Ok(())
@@ -150,9 +144,6 @@ impl<'n> Builder<'n> {
             pairs,
             said,
         } = pairs;
-        match self.numbers {
-            None => branch(at, height, said, unnumbered(at)),
-            Some(_) => branch(at, height, said, Node::Hash(pairs, at)),
-        }
+        self.branch(at, height, said, Node::Hash(pairs, at))
     }
 }

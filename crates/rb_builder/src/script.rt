@@ -182,7 +182,7 @@ impl<'n> Builder<'n> {
         ensures memory { OnErr result (result ≡ Err Memory) }
     {
         let Grown { node, said, .. } = grown;
-        self.keep(&mut items.main, node)?;
+        self.keep(&mut items.main, node.into_inner())?;
         items.said.join(said)?;
         Ok(())
     }

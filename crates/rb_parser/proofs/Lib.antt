@@ -1,6 +1,3 @@
-pub mod Inversion
-pub mod Locals
-pub mod Naming
-pub mod Progress
-pub mod Shapes
-pub mod Splitting
+pub mod Walking
+pub mod Numbering
+pub mod Answering

@@ -1,3 +1,2 @@
-pub mod Words
-pub mod Grammar
-pub mod Refusal
+pub mod Limits
+pub mod Walks

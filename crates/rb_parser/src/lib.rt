@@ -1,12 +1,8 @@
-//! From the tokens of a script to its syntax tree.
+//! From the tokens of a script to its program, on two walks: the first gathers its names and its threads, the second makes
+//! its nodes with their numbers.
 #![tactic(auto)]
 
-mod fault;
-mod line;
 mod parser;
-#[cfg(test)]
-mod tests;
-mod words;
 
-pub use fault::ParseFault;
 pub use parser::parse;
+pub use rb_cursor::ParseFault;

@@ -1,117 +1,79 @@
 // From tokens to a program.
 
-ghost use Rattle.std.specs.Prelude.{◌≡◌, ◌++◌, ◌∷◌, [], ◌≤◌, ◌<◌, ◌⊎◌, ℕ, true, false, None, IfOk, IfSome, OnOk, Ok, Err, length};
-ghost use Rattle.std.specs.List.{All};
-ghost use Rattle.std.specs.Option.{option_to_list};
-ghost use Rattle.rb_tree.specs.declared.node.Program.{Program};
-ghost use Rattle.rb_parser.specs.Words as given;
-ghost use Rattle.rb_parser.specs.Grammar as spec;
-ghost use Rattle.rb_parser.specs.Grammar.{IsProgram, Lines};
-ghost use Rattle.rb_parser.specs.Refusal.{RefusedOnly, NoLines};
-ghost use Rattle.rb_parser.specs.Refusal as ending;
+ghost use Rattle.std.specs.Prelude.{◌≡◌, ◌⊎◌, ℕ, Ok, Err, IfOk};
+ghost use Rattle.std.specs.List.{AllByRecursion};
+ghost use Rattle.rb_tree.specs.declared.node.Program.{Program as Tree};
+ghost use Rattle.rb_lexer.specs.Spans.{EndsOnce, IsNatural};
+ghost use Rattle.rb_grammar.specs.Program.{IsProgram, max_height, max_levels};
+ghost use Rattle.rb_grammar.specs.Script.{BeginsNone};
+ghost use Rattle.rb_builder.specs.Builder.{walk_of};
+ghost use Rattle.rb_parser.specs.Limits.{PassesLimits};
+ghost use Rattle.rb_parser.specs.Walks.{Walks, Parses};
 
-use crate::fault::ParseFault;
-use crate::line::statement;
-use crate::words::name_given;
-use rb_lexer::{Token, TokenKind};
-use rb_tree::{Items, Names, Node, Program};
-use std::alloc::{AllocError, Global};
+use rb_builder::{Builder, GrownItems, Numbers};
+use rb_cursor::{Cursor, ParseFault};
+use rb_lexer::Token;
+use rb_phrases::Parser;
+use rb_tree::Program;
+use std::alloc::Global;
 
-/// Adds the name that a token gives, where it gives one.
-fn add_given(names: &mut Names, token: &Token) -> Result<(), AllocError>
-    requires { length names.old < 4294967295 }
-    ensures { OnOk result (names.new ≡ spec.with_given names.old (given.name_given token.now.kind)) }
+/// How much may be open at once.
+const MAX_LEVELS: u32 = 64;
+
+/// Walks over the tokens of a script, up to their end.
+fn walk<'t>(
+    alloc: Global,
+    tokens: &'t [Token],
+    make: Builder<'_>,
+) -> Result<GrownItems<'t>, ParseFault>
+    requires natural { AllByRecursion IsNatural tokens.now }
+    requires ends { EndsOnce tokens.now }
+    ensures { Walks (walk_of make.entry) tokens.now result }
 {
-    if let Some(text) = name_given(&token.kind) {
-        names.add(text)?;
-    }
-    Ok(())
+    let mut cursor = Cursor::new(alloc, tokens)?;
+    Parser::new(alloc, make, MAX_LEVELS).script(&mut cursor)
 }
 
-/// The names that tokens give, in the order in which they first stand in the text.
-fn names_of(alloc: Global, tokens: &[Token]) -> Result<Names, AllocError>
-    requires { length tokens.now ≤ 2097153 }
-    ensures { IfOk result (λ names. names ≡ spec.names_of tokens.now) }
+/// The program of two walks.
+fn two_walks(alloc: Global, tokens: &[Token]) -> Result<Program, ParseFault>
+    requires natural { AllByRecursion IsNatural tokens.now }
+    requires ends { EndsOnce tokens.now }
+    ensures { Parses tokens.now result }
 {
-    let mut names = Names::new(alloc);
-    'tokens: for token in tokens {
-        add_given(&mut names, token)?;
-    }
-    Ok(names)
-}
-
-/// Whether a token of this kind ends a line.
-fn ends_line(kind: &TokenKind) -> bool
-    ensures { result ≡ ending.ends_line kind.now }
-{
-    matches!(kind, TokenKind::Newline | TokenKind::End)
-}
-
-/// The tokens of the first line, the token that ends it, and those behind that.
-fn first_line(tokens: &[Token]) -> Option<(&[Token], &Token, &[Token])>
-    ensures parts { IfSome result (λ parts. tokens.now ≡ parts.0.now ++ parts.1.now ∷ parts.2.now) }
-    ensures line { IfSome result (λ parts. All (λ t. ending.ends_line t.kind ≡ false) parts.0.now) }
-    ensures end { IfSome result (λ parts. ending.ends_line parts.1.now.kind ≡ true) }
-    ensures endless { result ≡ None → All (λ t. ending.ends_line t.kind ≡ false) tokens.now }
-{
-    let at = tokens.iter().position(|token| ends_line(&token.kind))?;
-    Some((&tokens[..at], &tokens[at], &tokens[at + 1..]))
-}
-
-/// Adds the node of a line, where it has one.
-fn add_node(main: &mut Items<Node>, found: Option<Node>) -> Result<(), AllocError>
-    ensures { OnOk result (main.new ≡ main.old ++ option_to_list found) }
-{
-    if let Some(node) = found {
-        main.push(node)?;
-    }
-    Ok(())
-}
-
-/// The nodes of all lines. A name becomes a local once the line that assigns it is read.
-fn lines(alloc: Global, names: &Names, tokens: &[Token]) -> Result<Items<Node>, ParseFault>
-    requires { length tokens.now ≤ 2097153 }
-    ensures sound { IfOk result (Lines names.now [] tokens.now) }
-    ensures short { IfOk result (λ main. length main ≤ length tokens.now) }
-    ensures refused { RefusedOnly result (NoLines names.now [] tokens.now) }
-{
-    let mut locals = Names::new(alloc);
-    let mut main = Items::new(alloc);
-    let mut rest = tokens;
-    'lines: while let Some((line, end, behind)) = first_line(rest) {
-        let node = statement(alloc, names, &mut locals, line)?;
-        add_node(&mut main, node)?;
-        if let TokenKind::End = &end.kind {
-            if !behind.is_empty() {
-                return Err(ParseFault::Syntax(0));
-            }
-            return Ok(main);
-        }
-        rest = behind;
-    }
-    Err(ParseFault::Syntax(0))
-}
-
-/// The program that tokens spell.
-///
-/// # Errors
-/// `Syntax` only where no program is spelled so. `Memory` where memory is refused.
-pub fn parse(alloc: Global, tokens: &[Token]) -> Result<Program, ParseFault>
-    requires { length tokens.now ≤ 2097153 }
-    // What is answered is spelled so, and whatever is spelled so is answered, or want of memory.
-    ensures sound { IfOk result (IsProgram tokens.now) }
-    ensures complete { (program : Program) → IsProgram tokens.now program → (result ≡ Ok program) ⊎ (result ≡ Err ParseFault.Memory) }
-    ensures short { IfOk result (λ program. length program.main ≤ length tokens.now) }
-
-    ensures refused { (at : ℕ) → result ≡ Err (ParseFault.Syntax at) → (at ≡ 0) × ((program : Program) → IsProgram tokens.now program → ⊥) }
-{
-    let names = names_of(alloc, tokens)?;
-    let main = lines(alloc, &names, tokens)?;
+    let GrownItems { said, .. } = walk(alloc, tokens, Builder::gathering(alloc))?;
+    let numbers = Numbers::of(alloc, &said)?;
+    let GrownItems {
+        classes,
+        functions,
+        main,
+        said,
+    } = walk(alloc, tokens, Builder::numbering(alloc, &numbers))?;
     Ok(Program {
-        names,
-        classes: Items::new(alloc),
-        functions: Items::new(alloc),
-        bodies: Items::new(alloc),
+        names: numbers.into_names(),
+        classes,
+        functions,
+        bodies: said.bodies,
         main,
     })
+}
+
+/// The program that tokens spell. Of these, which `lex` answers, the last is the end, which stands nowhere else, and no
+/// integer is negative.
+///
+/// # Errors
+/// `Syntax` at the first token with which no script can go on, and `TooNested` where one does and a limit is passed: a node
+/// is no more than 64 high, and no more than 64 things are open at once. Where tokens have both faults, the one that comes
+/// first in reading is told. `Memory` where memory is refused.
+pub fn parse(alloc: Global, tokens: &[Token]) -> Result<Program, ParseFault>
+    requires natural { AllByRecursion IsNatural tokens.now }
+    requires ends { EndsOnce tokens.now }
+    // What is answered is spelled so; and whatever is spelled within the limits is answered, or want of memory.
+    ensures sound { IfOk result (IsProgram max_height max_levels tokens.now) }
+    ensures complete { (program : Tree) → IsProgram max_height max_levels tokens.now program → (result ≡ Ok program) ⊎ (result ≡ Err ParseFault.Memory) }
+    // No script of any height and nesting begins with the tokens up to and including the one that is refused.
+    ensures refused { (at : ℕ) → result ≡ Err (ParseFault.Syntax at) → BeginsNone tokens.now at }
+    // A limit is passed at the place that is told, and no script within the limits is spelled.
+    ensures nested { (at : ℕ) → result ≡ Err (ParseFault.TooNested at) → PassesLimits tokens.now at }
+{
+    two_walks(alloc, tokens)
 }

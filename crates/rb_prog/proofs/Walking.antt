@@ -39,7 +39,7 @@ pub record Found (names : List (List ℕ)) (lines : List Node) (all : Option (Li
   pub means : followed d (meaning_of names (drop (i + 1) lines)) locals steps ≡ Some rest
   pub whole : all ≡ Some (entries ++ rest)
 
-next_line : (lines : List Node) (i : ℕ) (line : Node) → i < length lines → line ≡ get_or lines i line → drop i lines ≡ line ∷ drop (i + 1) lines
+pub next_line : (lines : List Node) (i : ℕ) (line : Node) → i < length lines → line ≡ get_or lines i line → drop i lines ≡ line ∷ drop (i + 1) lines
 next_line lines i line h e = drop-cons lines i line h ∙ (ap (λ x. x ∷ drop (suc i) lines) (sym e) ∙ ap (λ j. line ∷ drop j lines) (sym (add-one i)))
 
 meaning-next : (names : List (List ℕ)) (lines : List Node) (i : ℕ) (line : Node) (locals : Locals) (steps : ℕ) → i < length lines → line ≡ get_or lines i line
@@ -107,12 +107,12 @@ pub assigned_within : (names : List (List ℕ)) (kept : List (Option ℤ)) (loca
 assigned_within names kept locals line name n e h = let k = deed_names names locals (out-Node line) name n (sym h) in omega (arith, k, e)
 
 -- an assignment
-slice_get-set_same : {A : Type 0} (xs : List A) (i : ℕ) (a : A) → i < length xs → slice_get (slice_set xs i a) i ≡ Some a
+pub slice_get-set_same : {A : Type 0} (xs : List A) (i : ℕ) (a : A) → i < length xs → slice_get (slice_set xs i a) i ≡ Some a
 slice_get-set_same [] i a h = absurd (omega arith)
 slice_get-set_same (x ∷ xs) zero a h = refl
 slice_get-set_same (x ∷ xs) (suc i) a h = slice_get-set_same xs i a (omega arith)
 
-slice_get-set_other : {A : Type 0} (xs : List A) (i j : ℕ) (a : A) → (i ≡ j → ⊥) → slice_get (slice_set xs i a) j ≡ slice_get xs j
+pub slice_get-set_other : {A : Type 0} (xs : List A) (i j : ℕ) (a : A) → (i ≡ j → ⊥) → slice_get (slice_set xs i a) j ≡ slice_get xs j
 slice_get-set_other [] i j a h = refl
 slice_get-set_other (x ∷ xs) zero zero a h = absurd (h refl)
 slice_get-set_other (x ∷ xs) zero (suc j) a h = refl

@@ -4,6 +4,8 @@ pub mod Stream
 pub mod Transfer
 pub mod History
 pub mod Meaning
+pub mod Lines
+pub mod Marks
 pub mod Keeps
 pub mod Walk
 pub mod Run

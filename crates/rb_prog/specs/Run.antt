@@ -1,15 +1,16 @@
 -- What the program answers to its words.
-use Rattle.std.specs.Prelude.{◌≡◌, ℕ, Bool, false, not, ◌&&◌, ◌==◌, List, [], ◌∷◌, Option, Some, None, Ok, if◌then◌else◌, codes}
+use Rattle.std.specs.Prelude.{◌≡◌, ℕ, Bool, true, false, not, ◌&&◌, ◌==◌, List, [], ◌∷◌, Option, Some, None, Ok, if◌then◌else◌, codes}
 use Rattle.std.specs.Str.{bytes_eq}
 use Rattle.rb_tree.specs.declared.node.Program.{Program}
 use Rattle.rb_lexer.specs.declared.token.Token.{Token}
 use Rattle.rb_lexer.specs.Tokens.{Lexes}
-use Rattle.rb_parser.specs.Grammar.{IsProgram}
+use Rattle.rb_grammar.specs.Program.{IsProgram, max_height, max_levels}
 use Rattle.rb_prog.specs.Edge.{Held, Adds}
 use Rattle.rb_prog.specs.Transfer.{ReadOf, NotHeld}
 use Rattle.rb_prog.specs.declared.model.Entry.{Entry}
 use Rattle.rb_prog.specs.declared.model.End.{End}
 use Rattle.rb_prog.specs.declared.model.End.TheVariants as ending
+use Rattle.rb_prog.specs.Lines.{are_lines}
 use Rattle.rb_prog.specs.Meaning.{meaning}
 use Rattle.rb_prog.specs.History.{IsRun, Written, end_of}
 
@@ -23,11 +24,12 @@ abbrev pub path_of : List (List ℕ) → Option (List ℕ)
 path_of (command ∷ path ∷ []) = if bytes_eq command (codes "run") && not (is_option path) then Some path else None
 path_of words = None
 
--- a source that has tokens, which spell the program
+-- a source that has tokens, which spell the program, and the program is of integer lines
 pub record Accepts (source : List ℕ) (program : Program) : Type 0 where
   pub tokens : List Token
   pub lexed : Lexes source (Ok tokens)
-  pub spelled : IsProgram tokens program
+  pub spelled : IsProgram max_height max_levels tokens program
+  pub lines : are_lines program ≡ true
 
 -- no program is accepted of a source
 abbrev pub IsRefused : List ℕ → Type 0

@@ -1,6 +1,8 @@
 //! The program: its words, its script, the run and what the run shows.
 #![tactic(auto)]
 
+mod assigned;
+mod check;
 pub mod edge;
 mod history;
 mod lines;

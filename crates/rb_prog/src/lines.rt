@@ -23,7 +23,7 @@ pub enum Deed {
 }
 
 /// The text of a name of the script.
-fn text_of(names: &Names, name: NameId) -> Option<&[u8]>
+pub(crate) fn text_of(names: &Names, name: NameId) -> Option<&[u8]>
     ensures { option_map (λ (b : Bor (List ℕ)). b.now) result ≡ slice_get names.now name.0 }
 {
     if (name.0 as usize) < names.len() {

@@ -44,7 +44,7 @@ fn ran(
 }
 
 /// A script, its output and its status.
-const SCRIPTS: [(&str, &str, u8); 33] = [
+const SCRIPTS: [(&str, &str, u8); 42] = [
     ("a = 6\nputs a * 7", "42\n", 0),
     ("a = 6\nputs a * 7\n", "42\n", 0),
     ("", "", 0),
@@ -67,9 +67,18 @@ const SCRIPTS: [(&str, &str, u8); 33] = [
     ("b = b", "", 3),
     ("puts 9223372036854775808", "", 3),
     ("puts 1 + 2 + 3", "", 3),
-    ("puts -1", "", 3),
+    ("puts -1", "-1\n", 0),
     ("end = 1", "", 3),
-    ("puts = 1", "", 3),
+    ("puts = 1", "", 0),
+    ("puts(1)", "1\n", 0),
+    ("puts((1 +\n2))", "3\n", 0),
+    ("puts 1 if 2", "", 3),
+    ("puts 1, 2", "", 3),
+    ("def f\nend", "", 3),
+    ("class A\nend", "", 3),
+    ("a = Thread.new { 1 }", "", 3),
+    ("a += 1", "", 3),
+    ("puts(1", "", 3),
     ("puts 07", "", 3),
     ("puts 1;puts 2", "1\n2\n", 0),
     ("puts 1\r\n", "1\n", 0),

@@ -1,15 +1,17 @@
 // The top call.
 
-ghost use Rattle.std.specs.Prelude.{◌≡◌, ◌⊎◌, ◌≤◌, ◌↔◌, ℕ, List, [], Option, Some, None, IfOk, Err, map, length, string_bytes};
+ghost use Rattle.std.specs.Prelude.{◌≡◌, ◌⊎◌, ◌≤◌, ◌↔◌, ℕ, List, [], true, false, Option, Some, None, IfOk, OnOk, Err, map, length, string_bytes};
 ghost use Rattle.std.specs.Option.{option_map};
 ghost use Rattle.std.specs.Borrow.{Bor};
 ghost use Rattle.std.specs.Process.{exit_status};
 ghost use Rattle.rb_tree.specs.declared.node.Program.{Program as Tree};
 ghost use Rattle.rb_lexer.specs.declared.fault.LexFault.TheVariants as Unread;
+ghost use Rattle.rb_prog.specs.Lines.{are_lines};
 ghost use Rattle.rb_prog.specs.Edge.{Bytes, Adds, Rose};
 ghost use Rattle.rb_prog.specs.Run as spec;
 ghost use Rattle.rb_prog.specs.Run.{Accepts, IsRefused, RunsSource, Runs};
 
+use crate::check::are_lines;
 use crate::edge::{Files, Gate, Sink};
 use crate::history::RunFront;
 use crate::model::End;
@@ -21,6 +23,9 @@ use rb_tree::Program;
 use std::alloc::Global;
 use std::process::ExitCode;
 use std::sync::Arc;
+
+/// The statements of a program that are walked over at most.
+const MAX_STATEMENTS: usize = 2_097_153;
 
 /// What a run gives back: its status, the sink with all that was written, and the history of the run.
 /// There is no history where nothing was run: with the statuses 2, 3 and 4, and with 8 where no run could begin.
@@ -93,6 +98,24 @@ fn refusal_of(fault: LexFault) -> Refusal
     }
 }
 
+/// A program, where it is one of those that run. More statements than a source of at most 1 MiB can have are taken for want
+/// of memory.
+fn runnable(alloc: Global, program: Program) -> Result<Program, Refusal>
+    ensures same { IfOk result (λ found. found ≡ program) }
+    ensures lines { OnOk result (are_lines program ≡ true) }
+    ensures short { OnOk result (length program.main ≤ 2097153) }
+    ensures refused { result ≡ Err Refusal.Source → are_lines program ≡ false }
+{
+    if program.main.len() > MAX_STATEMENTS {
+        return Err(Refusal::Memory);
+    }
+    match are_lines(alloc, &program) {
+        Ok(true) => Ok(program),
+        Ok(false) => Err(Refusal::Source),
+        Err(_) => Err(Refusal::Memory),
+    }
+}
+
 /// The program of a source.
 fn accept(alloc: Global, source: &[u8]) -> Result<Program, Refusal>
     ensures accepted { IfOk result (Accepts source.now) }
@@ -104,9 +127,10 @@ fn accept(alloc: Global, source: &[u8]) -> Result<Program, Refusal>
         Err(fault) => return Err(refusal_of(fault)),
     };
     match parse(alloc, tokens.as_slice()) {
-        Ok(program) => Ok(program),
+        Ok(program) => runnable(alloc, program),
         Err(ParseFault::Memory) => Err(Refusal::Memory),
         Err(ParseFault::Syntax(_)) => Err(Refusal::Source),
+        Err(ParseFault::TooNested(_)) => Err(Refusal::Source),
     }
 }
 

@@ -2,8 +2,8 @@
 use Rattle.std.specs.Prelude.{ℕ, ◌+◌, ◌==◌, not, List, take}
 use Rattle.std.specs.List.{count_by, suffix_len}
 use Rattle.rb_tree.specs.declared.span.Span.{Span}
+use Rattle.rb_tree.specs.declared.node.Node.TheOpen.{Node-F}
 use Rattle.rb_tree.specs.declared.node.Node.TheOpen as node
-use Rattle.rb_tree.specs.Layer.{NodeLayer}
 
 -- the line of a byte, from 1: each line feed before it begins one more
 abbrev pub line_of : List ℕ → ℕ → ℕ
@@ -13,8 +13,8 @@ line_of source at = 1 + count_by (λ b. b == 10) (take at source)
 abbrev pub column_of : List ℕ → ℕ → ℕ
 column_of source at = 1 + suffix_len (λ b. not (b == 10)) (take at source)
 
--- the place of a node
-abbrev pub place : NodeLayer → Span
+-- the place of a node, whatever its parts are taken for
+abbrev pub place : {N P T B : Type 0} → Node-F N P T B → Span
 place (node.Nil at) = at
 place (node.False at) = at
 place (node.True at) = at

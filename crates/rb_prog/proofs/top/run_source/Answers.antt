@@ -12,9 +12,7 @@ pub returns-in-Err-Memory-clause-runs : goal.returns-in-Err-Memory-clause-runs
 returns-in-Err-Memory-clause-runs g c = rw c.unrun-in-Err-Memory.ensures (out_of_memory (adds_none (g.K.Sink.told c.args.out)))
 
 pub run_main-requires-clause-means : goal.run_main-requires-clause-means
-run_main-requires-clause-means g c =
-    let a = c.in-Ok.ensures.accepted in
-    program_means a.tokens c.in-Ok.program a.spelled
+run_main-requires-clause-means g c = program_means c.in-Ok.program c.in-Ok.ensures.accepted.lines
 
 pub returns-in_default-clause-runs : goal.returns-in_default-clause-runs
 returns-in_default-clause-runs g c =

@@ -4,7 +4,7 @@ use Rattle.rb_cursor.specs.Word.{word_by}
 use Rattle.rb_builder.specs.Builder.{walk_of}
 use Rattle.rb_builder.proofs.Saying.{said_same}
 use Rattle.rb_builder.proofs.Making.{one_high}
-use Rattle.rb_builder.proofs.Scripts.{made_of, made_same}
+use Rattle.rb_builder.proofs.Scripts.{made_of}
 use Rattle.rb_builder.proofs.builder.Builder.attribute_target.Goals as goal
 
 pub returns-clause-ok : goal.returns-clause-ok
@@ -13,6 +13,6 @@ returns-clause-ok c = λ r t.
     let word = word_by c.args.word in
     record {
       height = t.height ∙ one_high r.height;
-      target = made_of w _ _ r.node (λ n. n.name word.text) (λ x y. node.Attribute x y) (made_same w _ _ r.node c.in_ok-receiver.ensures t.node) c.in_ok-name.ensures.ok;
+      target = made_of w _ _ r.node (λ n. n.name word.text) (λ x y. node.Attribute x y) t.node c.in_ok-name.ensures.ok;
       said = said_same w c.gather.new.said refl (sym (append-nil r.threads)) (c.in_ok-gather.ensures.ok r.names r.threads word refl t.said);
     }

@@ -9,7 +9,7 @@ use Rattle.rb_builder.proofs.builder.Builder.constant.Goals as goal
 pub returns : goal.returns
 returns c =
     let w = walk_of c.args.self.now in
-    c.branch-at.ensures w (tree.constant (constant_node c.args.constant) c.args.at) (record {
+    c.branch-self.ensures w (tree.constant (constant_node c.args.constant) c.args.at) (record {
       place = refl;
       height = refl;
       made = the_same w _ (tree.constant (constant_node c.args.constant) c.args.at).node (λ n. c.constant_node.ensures);

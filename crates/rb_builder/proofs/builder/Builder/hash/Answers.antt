@@ -1,23 +1,17 @@
 use Rattle.std.proofs.Common.{suc, refl, ap}
+use Rattle.std.specs.Prelude.{map}
 use Rattle.rb_grammar.specs.Tree as tree
+use Rattle.rb_tree.specs.declared.node.Node.TheVariants as node
 use Rattle.rb_builder.specs.Builder.{walk_of}
-use Rattle.rb_builder.proofs.Making.{gathered, numbered, numbered_is}
+use Rattle.rb_builder.proofs.Scripts.{made_with}
 use Rattle.rb_builder.proofs.builder.Builder.hash.Goals as goal
 
-pub returns-in-None : goal.returns-in-None
-returns-in-None c = λ trees r.
-    c.branch-at.ensures (walk_of c.args.self.now) (tree.hash c.args.at trees) (record {
+pub returns : goal.returns
+returns c = λ trees r.
+    let w = walk_of c.args.self.now in
+    c.branch-self.ensures w (tree.hash c.args.at trees) (record {
       place = refl;
       height = ap suc r.height;
-      made = gathered c.args.self.now _ _ c.in-None.is;
-      says = r.said;
-    })
-
-pub returns-in-Some : goal.returns-in-Some
-returns-in-Some c = λ trees r.
-    c.branch-at-in-Some.ensures (walk_of c.args.self.now) (tree.hash c.args.at trees) (record {
-      place = refl;
-      height = ap suc r.height;
-      made = numbered c.args.self.now c.in-Some.field-0 _ _ c.in-Some.is (rw (numbered_is c.args.self.now c.in-Some.field-0 _ _ c.in-Some.is r.pairs) refl);
+      made = made_with w _ (λ n. map (λ p. (p.0.node n, p.1.node n)) trees) (λ x. node.Hash x c.args.at) r.pairs;
       says = r.said;
     })

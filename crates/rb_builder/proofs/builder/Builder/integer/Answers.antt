@@ -10,7 +10,7 @@ pub returns : goal.returns
 returns c =
     let w = walk_of c.args.self.now in
     let value : to_z w64 (of_z w64 c.args.value) ≡ c.args.value = search rules in
-    c.branch-at.ensures w (tree.integer c.args.value c.args.at) (record {
+    c.branch-self.ensures w (tree.integer c.args.value c.args.at) (record {
       place = refl;
       height = refl;
       made = the_same w _ (tree.integer c.args.value c.args.at).node (λ n. ap (λ x. node.Int x c.args.at) value);

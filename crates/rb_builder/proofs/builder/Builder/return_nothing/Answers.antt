@@ -8,7 +8,7 @@ use Rattle.rb_builder.proofs.builder.Builder.return_nothing.Goals as goal
 pub returns : goal.returns
 returns c =
     let w = walk_of c.args.self.now in
-    c.branch-at.ensures w (tree.return_nothing c.args.at) (record {
+    c.branch-self.ensures w (tree.return_nothing c.args.at) (record {
       place = refl;
       height = refl;
       made = the_same w _ (tree.return_nothing c.args.at).node (λ n. refl);

@@ -1,26 +1,18 @@
-use Rattle.std.proofs.Common.{suc, refl, sym, ap, ◌∙◌, append-nil}
+use Rattle.std.proofs.Common.{suc, refl, sym, ap, ◌∙◌, append-nil, Some}
 use Rattle.rb_grammar.specs.Tree as tree
+use Rattle.rb_tree.specs.declared.node.Node.TheVariants as node
 use Rattle.rb_builder.specs.Builder.{walk_of}
 use Rattle.rb_builder.proofs.Saying.{said_same}
-use Rattle.rb_builder.proofs.Making.{gathered, numbered, numbered_is, one_high}
+use Rattle.rb_builder.proofs.Making.{one_high}
+use Rattle.rb_builder.proofs.Scripts.{made_with}
 use Rattle.rb_builder.proofs.builder.Builder.return_value.Goals as goal
 
-pub returns-in-None : goal.returns-in-None
-returns-in-None c = λ a t.
+pub returns : goal.returns
+returns c = λ a t.
     let w = walk_of c.args.self.now in
-    c.branch-at.ensures w (tree.return_value c.args.at a) (record {
+    c.branch-self.ensures w (tree.return_value c.args.at a) (record {
       place = refl;
       height = ap suc (t.height ∙ one_high a.height);
-      made = gathered c.args.self.now _ _ c.in-None.is;
-      says = said_same w _ refl (sym (append-nil a.threads)) t.said;
-    })
-
-pub returns-in_ok-value-in-Some : goal.returns-in_ok-value-in-Some
-returns-in_ok-value-in-Some c = λ a t.
-    let w = walk_of c.args.self.now in
-    c.branch-at-in-Some.ensures w (tree.return_value c.args.at a) (record {
-      place = refl;
-      height = ap suc (t.height ∙ one_high a.height);
-      made = numbered c.args.self.now c.in-Some.field-0 _ _ c.in-Some.is (rw (c.in_ok-value-in-Some.ensures, numbered_is c.args.self.now c.in-Some.field-0 _ _ c.in-Some.is t.node) refl);
+      made = made_with w _ a.node (λ x. node.Return (Some x) c.args.at) t.node;
       says = said_same w _ refl (sym (append-nil a.threads)) t.said;
     })

@@ -1,26 +1,18 @@
 use Rattle.std.proofs.Common.{refl}
 use Rattle.rb_grammar.specs.Tree as tree
+use Rattle.rb_tree.specs.declared.node.Node.TheVariants as node
 use Rattle.rb_cursor.specs.Word.{word_by}
 use Rattle.rb_builder.specs.Builder.{walk_of}
-use Rattle.rb_builder.proofs.Making.{gathered, numbered}
+use Rattle.rb_builder.proofs.Scripts.{made_with}
 use Rattle.rb_builder.proofs.builder.Builder.symbol.Goals as goal
 
-pub returns-in-None : goal.returns-in-None
-returns-in-None c =
+pub returns : goal.returns
+returns c =
+    let w = walk_of c.args.self.now in
     let word = word_by c.args.word in
-    c.branch-word.ensures (walk_of c.args.self.now) (tree.symbol word) (record {
+    c.branch-self.ensures w (tree.symbol word) (record {
       place = refl;
       height = refl;
-      made = gathered c.args.self.now _ _ c.in-None.is;
-      says = c.in_ok-said.ensures.ok word refl;
-    })
-
-pub returns-in-Some : goal.returns-in-Some
-returns-in-Some c =
-    let word = word_by c.args.word in
-    c.branch-word-in-Some.ensures (walk_of c.args.self.now) (tree.symbol word) (record {
-      place = refl;
-      height = refl;
-      made = numbered c.args.self.now c.in-Some.numbers _ _ c.in-Some.is (rw (c.name.ensures) refl);
+      made = made_with w _ (λ n. n.name word.text) (λ x. node.Sym x word.at) c.name-name.ensures;
       says = c.in_ok-said.ensures.ok word refl;
     })

@@ -1,0 +1,8 @@
+use Rattle.rb_builder.proofs.Making.{gathered, numbered}
+use Rattle.rb_builder.proofs.builder.Builder.name.Goals as goal
+
+pub returns-in-None : goal.returns-in-None
+returns-in-None c = gathered c.args.self.now _ (λ n. n.name c.args.text.now) c.in-None.is
+
+pub returns-in-Some : goal.returns-in-Some
+returns-in-Some c = numbered c.args.self.now c.in-Some.numbers _ (λ n. n.name c.args.text.now) c.in-Some.is c.name.ensures

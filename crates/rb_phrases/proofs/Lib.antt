@@ -1,0 +1,10 @@
+pub mod Forms
+pub mod Loops
+pub mod Expressions
+pub mod Primaries
+pub mod Calls
+pub mod Bodies
+pub mod Choices
+pub mod Scripts
+pub mod Others
+pub mod Outside
