@@ -1,12 +1,12 @@
 -- What the functions of literals, choices, loops and statements share in their proofs.
-use Rattle.std.proofs.Common.{◌≡◌, ℕ, suc, Bool, true, false, true≢false, not, ◌&&◌, ◌||◌, nat_le, List, [], ◌∷◌, Result, Ok, Err, refl, sym, ap, ◌∙◌, subst}
+use Rattle.std.proofs.Common.{◌≡◌, ℕ, Bool, true, false, true≢false, not, ◌&&◌, ◌||◌, nat_le, List, [], ◌∷◌, Result, Ok, Err, refl, sym, ap, ◌∙◌, subst}
 use Rattle.rb_tree.specs.declared.span.Span.{Span}
 use Rattle.rb_lexer.specs.declared.token.Token.{Token}
 use Rattle.rb_grammar.specs.Look.{Test, one_of, other_than, while_word, until_word, elsif_word, end}
 use Rattle.rb_grammar.specs.Tree.{Tree, loop_behind, choice_behind}
 use Rattle.rb_grammar.specs.Phrase.{Phrase, Value}
-use Rattle.rb_grammar.specs.Rule.{Rule, done, built, phrase, nested, look, next_meets}
-use Rattle.rb_grammar.specs.Grammar.{rule, made, finished, as_value, decided, modify, modifiers, is_one, allowed}
+use Rattle.rb_grammar.specs.Rule.{Rule, done, phrase, look, next_meets}
+use Rattle.rb_grammar.specs.Grammar.{rule, as_value, decided, modify, modifiers, is_one, allowed}
 use Rattle.rb_grammar.specs.Phrase as p
 use Rattle.rb_grammar.specs.Heads.{begins, begins_statement, begins_expression, next_class}
 use Rattle.rb_grammar.specs.Reading.{Outcome, Reader, read, too_nested, and_then, when}
@@ -15,43 +15,17 @@ use Rattle.rb_cursor.specs.declared.fault.ParseFault.{ParseFault}
 use Rattle.rb_cursor.specs.declared.fault.ParseFault.TheVariants as fault
 use Rattle.rb_cursor.specs.State.{State, answer_at, Reached, Failed, Came, memory}
 use Rattle.rb_cursor.specs.Here.{at_rule}
-use Rattle.rb_cursor.proofs.Steps.{Follows, Leads, follows_from, stops, at_phrase, built_low, built_high, fails_with, through, by_rule, arrives, carry, phrase_read, nested_read, look_meets}
+use Rattle.rb_cursor.proofs.Steps.{Follows, Leads, follows_from, stops, fails_with, through, by_rule, arrives, carry, look_meets}
 use Rattle.rb_builder.specs.Walk.{Walk}
-use Rattle.rb_builder.specs.Builder.{walk_of}
 use Rattle.rb_builder.specs.Grown.{IsTree, Builds}
 use Rattle.rb_builder.specs.Operand.{IsPart, plain, value}
-use Rattle.rb_builder.specs.declared.builder.Builder.{Builder}
 use Rattle.rb_builder.specs.declared.operand.Operand.TheVariants as operand
 use Rattle.rb_builder.specs.declared.operand.Part.{Part}
 use Rattle.rb_builder.specs.declared.operand.Part.TheVariants as variant
 use Rattle.rb_builder.specs.declared.grown.Grown.{Grown}
-use Rattle.rb_phrases.specs.Parts.{Makes}
 use Rattle.rb_phrases.specs.Modified.{modified_once}
 use Rattle.rb_phrases.specs.Arms.{ArmTree}
 use Rattle.rb_phrases.proofs.Forms.{Splits, rest_of, decided_splits}
-
--- ---- at a rule
-
-pub at_the_rule : {A B : Type 0} (levels : ℕ) (r : Rule A) {Is : B → A → Type 0} {s new : State} {result : Result B ParseFault}
-    → Follows Is levels r s new result → Came Is new (at_rule levels r s) result
-at_the_rule levels r h = h.came
-
-pub fails_at_the_rule : {A : Type 0} (levels : ℕ) (r : Rule A) {s : State} {e : ParseFault}
-    → Follows {B = Unit {0}} (λ b a. Unit {0}) levels r s s (Err e) → Failed (at_rule levels r s) e
-fails_at_the_rule levels r h = h.came
-
--- what is read at a rule, and at a phrase
-pub reaches_at : {A B : Type 0} (levels : ℕ) (r : Rule A) {Is : B → A → Type 0} {s new : State} {b : B} → Follows Is levels r s new (Ok b) → Reached Is new (at_rule levels r s) b
-reaches_at levels r h = h.came
-
-pub reaches : {B : Type 0} (levels : ℕ) (n : Phrase) {Is : B → Value n → Type 0} {s new : State} {b : B}
-    → Follows Is levels (rule n) s new (Ok b) → Reached Is new (answer_at levels n s) b
-reaches levels n {b = b} h = at_phrase levels n {result = Ok b} h
-
--- the parser inside what opens has the same maker of trees
-pub of_make : {A B : Type 0} (Is : Walk → B → A → Type 0) {make other : Builder} {s : State} {o : Outcome A} {b : B}
-    → other ≡ make → Reached (Is (walk_of other)) s o b → Reached (Is (walk_of make)) s o b
-of_make Is {b = b} same part = record { value = part.value; reads = part.reads; same = subst (λ m. Is (walk_of m) b part.value) same part.same }
 
 -- ---- rules that end in a phrase
 
@@ -73,19 +47,7 @@ at_place levels r s = record { comes = refl }
 pub into_phrase : (levels : ℕ) (n : Phrase) {s : State} {o : Outcome (Value n)} → Leads levels (rule n) s o → Leads levels (phrase n done) s o
 into_phrase levels n {s = s} h = record { comes = (arrives levels n s).comes ∙ by_rule levels n s ∙ h.comes }
 
-inside : {A : Type 0} (levels left : ℕ) → levels ≡ suc left → (at : Span) (n : Phrase) (k : Value n → Rule A) (s s1 : State) (v : Value n)
-    → answer_at left n s ≡ read v s1.scope s1.looked s1.rest → at_rule levels (nested at n k) s ≡ at_rule levels (k v) s1
-inside levels left more at n k s s1 v h = subst (λ l. at_rule l (nested at n k) s ≡ at_rule l (k v) s1) (sym more) (nested_read left at n k s s1 v h)
-
 module _ {A : Type 0} {levels : ℕ} {o : Outcome A} where
-  pub over_phrase : {B : Type 0} {n : Phrase} {Q : B → Value n → Type 0} {k : Value n → Rule A} {s s1 : State} {b : B}
-      → (part : Reached Q s1 (answer_at levels n s) b) → Leads levels (k part.value) s1 o → Leads levels (phrase n k) s o
-  over_phrase {n = n} {k = k} {s = s} {s1 = s1} part h = record { comes = phrase_read levels n k s s1 part.value part.reads ∙ h.comes }
-
-  pub over_opened : {B : Type 0} {left : ℕ} {at : Span} {n : Phrase} {Q : B → Value n → Type 0} {k : Value n → Rule A} {s s1 : State} {b : B}
-      → levels ≡ suc left → (part : Reached Q s1 (answer_at left n s) b) → Leads levels (k part.value) s1 o → Leads levels (nested at n k) s o
-  over_opened {left = left} {at = at} {n = n} {k = k} {s = s} {s1 = s1} more part h = record { comes = inside levels left more at n k s s1 part.value part.reads ∙ h.comes }
-
   pub over_decided : {B : Type 0} {Q : B → Tree → Type 0} (t : Token) (a : Tree) (k : Tree → Rule A) {s s1 : State} {b : B}
       → (part : Reached Q s1 (at_rule levels (decided t a done) s) b) → Leads levels (k part.value) s1 o → Leads levels (decided t a k) s o
   over_decided t a k {s = s} part h = record { comes = decided_splits levels t a k s ∙ ap (λ x. and_then x (rest_of levels k)) part.reads ∙ h.comes }
@@ -98,24 +60,9 @@ low_fails w a (fault.Syntax at) low h = absurd h
 low_fails w a (fault.TooNested at) low h = absurd (true≢false (sym low ∙ h.1))
 low_fails w a fault.Memory low h = memory
 
--- a node that is too high fails at its place
-high_fails : {A : Type 0} (levels : ℕ) (w : Walk) (a : Tree) (r : Rule A) (s : State) (e : ParseFault) → Builds w a (Err e) → Failed (at_rule levels (built a r) s) e
-high_fails levels w a r s (fault.Syntax at) h = absurd h
-high_fails levels w a r s (fault.TooNested at) h = subst (λ x. Failed (at_rule levels (built a r) s) (fault.TooNested x)) (sym h.0) (built_high levels a r s h.1)
-high_fails levels w a r s fault.Memory h = memory
-
 -- a tree as an operand that is no target
 pub is_value : {w : Walk} {part : Part} {g : Grown} {a : Tree} → part ≡ variant.Plain (operand.Value g) → IsTree w g a → IsPart w part (as_value a)
 is_value {w = w} {a = a} same tree = subst (λ x. IsPart w x (as_value a)) (sym same) (plain (value tree))
-
-finished_so : (levels : ℕ) (w : Walk) (a : Tree) (s : State) (result : Result Grown ParseFault) → Builds w a result → Follows (IsTree w) levels (finished a) s s result
-finished_so levels w a s (Ok g) h = follows_from (built_low levels a (done a) s h.1) (stops h.0)
-finished_so levels w a s (Err e) h = record { came = high_fails levels w a (done a) s e h }
-
-made_so : (levels : ℕ) (w : Walk) (a : Tree) (s : State) (result : Result Part ParseFault) → Makes w a result → Follows (IsPart w) levels (made a) s s result
-made_so levels w a s (Ok found) h =
-    follows_from (built_low levels a (done (as_value a)) s h.2.1) (stops (is_value h.1 h.2.0))
-made_so levels w a s (Err e) h = record { came = high_fails levels w a (done (as_value a)) s e h }
 
 low_so : (levels : ℕ) (w : Walk) (a : Tree) (s : State) (result : Result Grown ParseFault) → nat_le a.height max_height ≡ true → Builds w a result → Follows (IsTree w) levels (done a) s s result
 low_so levels w a s (Ok g) low h = stops h.0
@@ -124,15 +71,6 @@ low_so levels w a s (Err e) low h = record { came = low_fails w a e low h }
 -- a node that is not too high ends a rule
 pub low_ends : {levels : ℕ} (w : Walk) (a : Tree) {s : State} {result : Result Grown ParseFault} → nat_le a.height max_height ≡ true → Builds w a result → Follows (IsTree w) levels (done a) s s result
 low_ends {levels = levels} w a {s = s} {result = result} low h = low_so levels w a s result low h
-
-module _ {levels : ℕ} {w : Walk} {a : Tree} {s : State} where
-  -- a node that ends a rule
-  pub finishes : {result : Result Grown ParseFault} → Builds w a result → Follows (IsTree w) levels (finished a) s s result
-  finishes {result = result} h = finished_so levels w a s result h
-
-  -- the same as an operand
-  pub makes : {result : Result Part ParseFault} → Makes w a result → Follows (IsPart w) levels (made a) s s result
-  makes {result = result} h = made_so levels w a s result h
 
 -- ---- conditions
 

@@ -22,10 +22,10 @@ use Rattle.rb_grammar.specs.Reading.{from_refused, Outcome, read, refused, too_n
 use Rattle.rb_cursor.specs.declared.fault.ParseFault.{ParseFault}
 use Rattle.rb_cursor.specs.declared.fault.ParseFault.TheVariants as fault
 use Rattle.rb_cursor.specs.declared.word.Word as code
-use Rattle.rb_cursor.specs.State.{State, answer_at, Reached, Failed, next_place, syntax, memory, Came, Took, Missed}
+use Rattle.rb_cursor.specs.State.{State, answer_at, Reached, Failed, next_place, syntax, memory, Took, Missed}
 use Rattle.rb_cursor.specs.Here.{at_rule}
 use Rattle.rb_cursor.specs.Word.{word_by, TookWord}
-use Rattle.rb_cursor.proofs.Steps.{over_word, by_rule, to_first_token, to_second_token, Follows, Leads, follows_from, fails_with, through, phrase_read, nested_read, arrives, built_low, built_high, takes, takes_word, stops, at_phrase}
+use Rattle.rb_cursor.proofs.Steps.{over_word, by_rule, to_first_token, to_second_token, Follows, Leads, follows_from, fails_with, through, phrase_read, nested_read, arrives, built_low, built_high, takes, takes_word, stops}
 use Rattle.rb_builder.specs.Walk.{Walk}
 use Rattle.rb_builder.specs.Builder.{walk_of}
 use Rattle.rb_builder.specs.declared.builder.Builder.{Builder}
@@ -35,22 +35,10 @@ use Rattle.rb_steps.proofs.Parameters.{wanted_memory}
 use Rattle.rb_builder.specs.Operand.{IsPart, plain, headed, value, is_head}
 use Rattle.rb_builder.specs.declared.grown.Row.{Row}
 use Rattle.rb_builder.specs.declared.operand.Part.{Part}
-use Rattle.rb_builder.specs.declared.operand.Part.TheVariants as part
 use Rattle.rb_builder.specs.declared.block.GrownBlock.{GrownBlock}
 use Rattle.rb_phrases.specs.Parts.{Makes}
 use Rattle.rb_phrases.specs.Goes.{Goes, BlockRule, WithBlock, HasBlock, HasNoBlock}
 use Rattle.rb_phrases.proofs.Forms.{operand_splits, took_less, rest_of, nested_splits, no_longer, opens}
-
--- ---- at a rule
-
-pub at_the_rule : {A B : Type 0} (levels : ℕ) (r : Rule A) {Is : B → A → Type 0} {s new : State} {result : Result B ParseFault}
-    → Follows Is levels r s new result → Came Is new (at_rule levels r s) result
-at_the_rule levels r h = h.came
-
--- the same for a fault, with which nothing is answered
-pub fails_at_the_rule : {A : Type 0} (levels : ℕ) (r : Rule A) {s : State} {e : ParseFault}
-    → Follows {B = Unit {0}} (λ b a. Unit {0}) levels r s s (Err e) → Failed (at_rule levels r s) e
-fails_at_the_rule levels r h = h.came
 
 -- a phrase inside what opens is the last of the rule
 pub inside_ok : {B : Type 0} (levels left : ℕ) (at : Span) (n : Phrase) {Is : B → Value n → Type 0} (s : State) {new : State} {b : B}
@@ -58,11 +46,6 @@ pub inside_ok : {B : Type 0} (levels left : ℕ) (at : Span) (n : Phrase) {Is : 
 inside_ok levels left at n {Is = Is} s {new = new} {b = b} more h =
     let last : Follows Is levels (nested at n done) s new (Ok b) = opens more h (stops h.same) in
     last.came
-
--- what is read at a phrase, by its rule
-pub ok_at : {B : Type 0} (levels : ℕ) (n : Phrase) {Is : B → Value n → Type 0} {s new : State} {b : B}
-    → Follows Is levels (rule n) s new (Ok b) → Reached Is new (answer_at levels n s) b
-ok_at levels n {Is = Is} {s = s} {new = new} {b = b} h = at_phrase levels n h
 
 ends_here : {A : Type 0} (o : Outcome A) → and_then o read ≡ o
 ends_here (read a s seen ts) = refl
@@ -108,17 +91,6 @@ module _ {A B : Type 0} {Is : B → A → Type 0} {levels : ℕ} {new : State} w
 -- what stands behind the class of an object
 abbrev pub new_of : Bool → Word → Rule p.Part
 new_of d w = token (is c.dot) (λ o. token (is c.new) (constructed d w))
-
--- ---- nodes
-
-pub made_came : (w : Walk) (levels : ℕ) (a : Tree) (s : State) (result : Result Part ParseFault) → Makes w a result → Follows (IsPart w) levels (made a) s s result
-made_came w levels a s (Ok found) m =
-    follows_from (built_low levels a (done (as_value a)) s m.2.1)
-    (stops (subst (λ x. IsPart w x (as_value a)) (sym m.1) (plain (value m.2.0))))
-made_came w levels a s (Err (fault.TooNested at)) m =
-    record { came = subst (λ x. Failed (at_rule levels (made a) s) (fault.TooNested x)) (sym m.0) (built_high levels a (done (as_value a)) s m.1) }
-made_came w levels a s (Err (fault.Syntax at)) m = absurd m
-made_came w levels a s (Err fault.Memory) m = record { came = memory }
 
 -- ---- how calls go on
 

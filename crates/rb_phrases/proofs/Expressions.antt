@@ -1,5 +1,5 @@
 -- How the rules of expressions follow from their parts.
-use Rattle.std.proofs.Common.{◌≡◌, ℕ, suc, Bool, true, false, not, ◌&&◌, ◌<◌, ◌≤◌, nat_le, List, [], ◌∷◌, length, Option, Some, None, Result, Ok, Err, refl, sym, ap, ◌∙◌, subst, ℤ}
+use Rattle.std.proofs.Common.{◌≡◌, ℕ, Bool, true, false, not, ◌&&◌, List, [], ◌∷◌, Option, Some, None, Result, Ok, Err, refl, sym, ap, ◌∙◌, subst, ℤ}
 use Rattle.std.specs.Prelude.{neg_ℤ}
 use Rattle.rb_tree.specs.declared.span.Span.{Span}
 use Rattle.rb_lexer.specs.declared.token.Token.{Token}
@@ -11,17 +11,14 @@ use Rattle.rb_grammar.specs.Phrase.{Phrase, Value}
 use Rattle.rb_grammar.specs.Rule.{Rule, done, token, phrase, nested, built, scope, next_meets, next_touches}
 use Rattle.rb_grammar.specs.Rule as look_at
 use Rattle.rb_grammar.specs.Scope.{with_target}
-use Rattle.rb_grammar.specs.Grammar.{rule, any, tree_of, target_of, operand, joined, finished, made, as_value, commanded, command_of, unless_head, assigning, assign, assignment_marks, chained, operators, tighter, negative, opposite, integer_of}
+use Rattle.rb_grammar.specs.Grammar.{rule, any, tree_of, target_of, operand, joined, finished, as_value, commanded, command_of, unless_head, assigning, assign, assignment_marks, chained, operators, tighter, negative, opposite, integer_of}
 use Rattle.rb_grammar.specs.Heads.{begins}
-use Rattle.rb_grammar.specs.Reading.{Outcome, read, and_then}
-use Rattle.rb_grammar.specs.Program.{max_height}
+use Rattle.rb_grammar.specs.Reading.{Outcome, and_then}
 use Rattle.rb_cursor.specs.declared.fault.ParseFault.{ParseFault}
 use Rattle.rb_cursor.specs.declared.fault.ParseFault.TheVariants as fault
-use Rattle.rb_cursor.specs.State.{State, answer_at, Reached, Failed, nested_too_deep, memory, Came, Took, Missed, any_token}
+use Rattle.rb_cursor.specs.State.{State, answer_at, Reached, Failed, memory, Came, Took, Missed, any_token}
 use Rattle.rb_cursor.specs.Here.{at_rule}
-use Rattle.rb_cursor.proofs.Steps.{carry, follows_from, Follows, Leads, stops, takes, holds, first_token, second_token, where_it_stood, at_phrase, built_low, built_high, scope_changed, phrase_read, phrase_last, by_rule, touching_yes, touching_no, second_begins, look_meets, look_fails, fails, leads_to, arrives, to_first_token}
-use Rattle.rb_builder.specs.Builder.{walk_of}
-use Rattle.rb_builder.specs.declared.builder.Builder.{Builder}
+use Rattle.rb_cursor.proofs.Steps.{carry, follows_from, Follows, Leads, stops, first_token, second_token, where_it_stood, at_phrase, scope_changed, phrase_last, by_rule, touching_yes, touching_no, second_begins, look_meets, look_fails, fails, leads_to, arrives, to_first_token}
 use Rattle.rb_builder.specs.Walk.{Walk}
 use Rattle.rb_builder.specs.Grown.{IsTree, Builds}
 use Rattle.rb_builder.specs.declared.grown.Grown.{Grown}
@@ -32,35 +29,11 @@ use Rattle.rb_builder.specs.declared.operand.Head as code_head
 use Rattle.rb_builder.specs.declared.operand.Part as code_part
 use Rattle.rb_builder.specs.declared.operand.Part.TheVariants as part
 use Rattle.rb_steps.specs.Tier.{is_unary, joins_once}
-use Rattle.rb_phrases.specs.Parts.{Makes, Unassigned}
+use Rattle.rb_phrases.specs.Parts.{Unassigned}
+use Rattle.rb_phrases.proofs.Ends.{over_phrase, finishes}
 use Rattle.rb_phrases.proofs.Forms.{rest_of, behind, breaks, operand_splits, joined_splits}
 
--- what a parser inside has read, with the same maker
-pub made_by : {B V : Type 0} (Is : Walk → B → V → Type 0) {s : State} {o : Outcome V} {b : B} {m n : Builder} → m ≡ n → Reached (Is (walk_of m)) s o b → Reached (Is (walk_of n)) s o b
-made_by Is {s = s} {o = o} {b = b} same part = subst (λ x. Reached (Is (walk_of x)) s o b) same part
-
--- ---- what is built last
-
-module _ {w : Walk} {levels : ℕ} {s : State} where
-  pub finishes : {a : Tree} {result : Result Grown ParseFault} → Builds w a result → Follows (IsTree w) levels (finished a) s s result
-  finishes {a = a} {result = Ok g} h = follows_from (built_low levels a (done a) s h.1) (stops h.0)
-  finishes {a = a} {result = Err (fault.TooNested at)} h = record { came = subst (λ x. Failed (at_rule levels (finished a) s) (fault.TooNested x)) (sym h.0) (built_high levels a (done a) s h.1) }
-  finishes {a = a} {result = Err (fault.Syntax at)} h = absurd h
-  finishes {a = a} {result = Err fault.Memory} h = record { came = memory }
-
-  pub makes : {a : Tree} {result : Result code_part.Part ParseFault} → Makes w a result → Follows (IsPart w) levels (made a) s s result
-  makes {a = a} {result = Ok found} h =
-      follows_from (built_low levels a (done (as_value a)) s h.2.1) (stops (subst (λ x. IsPart w x (as_value a)) (sym h.1) (plain (value h.2.0))))
-  makes {a = a} {result = Err (fault.TooNested at)} h = record { came = subst (λ x. Failed (at_rule levels (made a) s) (fault.TooNested x)) (sym h.0) (built_high levels a (done (as_value a)) s h.1) }
-  makes {a = a} {result = Err (fault.Syntax at)} h = absurd h
-  makes {a = a} {result = Err fault.Memory} h = record { came = memory }
-
 -- ---- phrases that are the last of a rule
-
-module _ {A : Type 0} {levels : ℕ} where
-  pub over_phrase : {C : Type 0} {n : Phrase} {Q : C → Value n → Type 0} {k : Value n → Rule A} {s s1 : State} {c : C} {o : Outcome A}
-      → (found : Reached Q s1 (answer_at levels n s) c) → Leads levels (k found.value) s1 o → Leads levels (phrase n k) s o
-  over_phrase {n = n} {k = k} {s = s} {s1 = s1} found h = record { comes = phrase_read levels n k s s1 found.value found.reads ∙ h.comes }
 
 pub ends_in : {B : Type 0} (levels : ℕ) (n : Phrase) {Is : B → Value n → Type 0} {s new : State} {result : Result B ParseFault}
     → Came Is new (answer_at levels n s) result → Follows Is levels (phrase n done) s new result
@@ -70,10 +43,6 @@ module _ {B : Type 0} (levels : ℕ) (n : Phrase) {Is : B → Value n → Type 0
   -- by its own rule
   pub within_last : {result : Result B ParseFault} → Follows Is levels (rule n) s new result → Follows Is levels (phrase n done) s new result
   within_last {result = result} h = record { came = carry Is new result (phrase_last levels n s ∙ by_rule levels n s) h.came }
-
-  -- an answer of a phrase
-  pub reached_at : {b : B} → Follows Is levels (rule n) s new (Ok b) → Reached Is new (answer_at levels n s) b
-  reached_at {b = b} h = carry Is new (Ok b) (by_rule levels n s) h.came
 
 -- ---- commands
 

@@ -1,5 +1,5 @@
 -- How what the reader of the grammar comes to at a rule follows from what it comes to at a part that is a rule by itself.
-use Rattle.std.proofs.Common.{◌≡◌, ℕ, suc, zero, Bool, true, false, ◌≤◌, ◌<◌, List, [], ◌∷◌, length, nat_le, Result, Ok, Err, refl, sym, ap, ◌∙◌, subst, arith}
+use Rattle.std.proofs.Common.{◌≡◌, ℕ, suc, zero, Bool, true, false, ◌≤◌, ◌<◌, List, [], ◌∷◌, length, nat_le, Result, Err, refl, sym, ap, ◌∙◌, subst, arith}
 use Rattle.rb_tree.specs.declared.span.Span.{Span}
 use Rattle.rb_lexer.specs.declared.token.Token.{Token}
 use Rattle.rb_grammar.specs.Look.{Test, class_of}
@@ -7,9 +7,9 @@ use Rattle.rb_grammar.specs.Look as look
 use Rattle.rb_grammar.specs.Tree.{Tree, binary, negated, or_else, and_also}
 use Rattle.rb_grammar.specs.Phrase as p
 use Rattle.rb_grammar.specs.Phrase.{Phrase, Value}
-use Rattle.rb_grammar.specs.Rule.{Rule, done, phrase, nested, built}
+use Rattle.rb_grammar.specs.Rule.{Rule, done, nested}
 use Rattle.rb_grammar.specs.Grammar.{tree_of, operand, joined, decided, operator_name, is_one}
-use Rattle.rb_grammar.specs.Reading.{Outcome, Reader, read, refused, too_nested, spent, and_then, when, nest, answer, run}
+use Rattle.rb_grammar.specs.Reading.{Outcome, Reader, read, refused, too_nested, spent, and_then, when, answer, run}
 use Rattle.rb_grammar.specs.Program.{max_height}
 use Rattle.rb_grammar.specs.Heads.{may_be_empty}
 use Rattle.rb_grammar.proofs.Turns.{Answers}
@@ -19,9 +19,6 @@ use Rattle.rb_cursor.specs.declared.fault.ParseFault.TheVariants as fault
 use Rattle.rb_cursor.specs.State.{State, answer_at, Reached, Failed, Took}
 use Rattle.rb_cursor.specs.Here.{at_rule}
 use Rattle.rb_cursor.proofs.Steps.{Follows, follows_from, fails_with, through, nested_read, nested_fails, no_level}
-use Rattle.rb_builder.specs.Walk.{Walk}
-use Rattle.rb_builder.specs.Grown.{IsTree, Builds}
-use Rattle.rb_builder.specs.declared.grown.Grown.{Grown}
 
 -- the rest of a rule, behind a value
 abbrev pub rest_of : {A V : Type 0} → ℕ → (V → Rule A) → V → Reader A

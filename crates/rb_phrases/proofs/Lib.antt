@@ -1,4 +1,5 @@
 pub mod Forms
+pub mod Ends
 pub mod Loops
 pub mod Expressions
 pub mod Primaries

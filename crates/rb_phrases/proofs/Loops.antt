@@ -1,7 +1,7 @@
 -- What a loop over phrases keeps.
 use Rattle.std.proofs.Common.{◌≡◌, ◌≤◌, ℕ, Bool, true, length, List, [], ◌∷◌, ◌++◌}
 use Rattle.rb_lexer.specs.declared.token.Token.{Token}
-use Rattle.rb_grammar.specs.Look.{is, line, close_bracket, close_brace}
+use Rattle.rb_grammar.specs.Look.{close_bracket, close_brace}
 use Rattle.rb_grammar.specs.Tree.{Tree}
 use Rattle.rb_grammar.specs.Phrase as p
 use Rattle.rb_grammar.specs.Rule.{Rule, done, phrase}

@@ -14,7 +14,7 @@ use Rattle.rb_cursor.specs.declared.fault.ParseFault.{ParseFault}
 use Rattle.rb_cursor.specs.declared.fault.ParseFault.TheVariants as fault
 use Rattle.rb_cursor.specs.State.{State, answer_at, Took, Missed, any_token, next_place, Reached, Failed, syntax, memory, Came}
 use Rattle.rb_cursor.specs.Here.{at_rule}
-use Rattle.rb_cursor.proofs.Steps.{built_low, built_high, through, carry, ahead_yes, ahead_no, once_looked, known_yes, known_no, by_rule, arrives, Follows}
+use Rattle.rb_cursor.proofs.Steps.{built_low, through, carry, ahead_yes, ahead_no, once_looked, known_yes, known_no, by_rule, arrives, Follows}
 use Rattle.std.specs.Result.{IsErrAnd}
 use Rattle.rb_lexer.specs.declared.token.TokenKind.{TokenKind}
 use Rattle.rb_grammar.specs.Look as look
@@ -23,7 +23,7 @@ use Rattle.rb_grammar.specs.Reading.{Outcome, from_refused, read}
 use Rattle.rb_cursor.specs.declared.class.Class.{Class}
 use Rattle.rb_cursor.specs.declared.class.Class.TheVariants as class
 use Rattle.rb_cursor.specs.Class.{class_by}
-use Rattle.rb_phrases.proofs.Others.{no_unless, no_until, no_while}
+use Rattle.rb_phrases.proofs.Others.{is_other}
 use Rattle.rb_builder.specs.declared.operand.Operand as code_operand
 use Rattle.rb_builder.specs.declared.operand.Head as code_head
 use Rattle.rb_builder.specs.Walk.{Walk}
@@ -35,6 +35,7 @@ use Rattle.rb_builder.specs.declared.operand.Part.{Part}
 use Rattle.rb_builder.specs.declared.operand.Part.TheVariants as part
 use Rattle.rb_builder.specs.declared.operand.Operand.TheVariants as operand
 use Rattle.rb_phrases.specs.Parts.{Makes, Unassigned}
+use Rattle.rb_phrases.proofs.Ends.{unbuilt, finishes_so, makes_so}
 use Rattle.rb_phrases.specs.Goes.{Goes, GoesOn}
 use Rattle.rb_builder.specs.declared.operand.Head.TheVariants as head
 use Rattle.rb_builder.specs.declared.operand.Target as code_target
@@ -46,23 +47,6 @@ use Rattle.rb_steps.specs.declared.operator.Tier.TheVariants as a_tier
 use Rattle.rb_steps.specs.Tier.{tier_by}
 use Rattle.rb_phrases.specs.Arms.{ArmTree, AreArms, IsArm, choice_of, closed_by}
 use Rattle.rb_phrases.specs.declared.arms.Arm as code
-
--- a tree that cannot be built fails its rule
-pub unbuilt : {A : Type 0} (w : Walk) (a : Tree) (levels : ℕ) (r : Rule A) (s : State) (e : ParseFault) → Builds w a (Err e) → Failed (at_rule levels (built a r) s) e
-unbuilt w a levels r s (fault.TooNested at) h = rw h.0 (built_high levels a r s h.1)
-unbuilt w a levels r s (fault.Syntax at) h = absurd h
-unbuilt w a levels r s fault.Memory h = memory
-
--- a tree that is the whole of its rule
-pub finishes_so : (w : Walk) (a : Tree) (levels : ℕ) (s : State) (result : Result Grown ParseFault) → Builds w a result → Came (IsTree w) s (at_rule levels (finished a) s) result
-finishes_so w a levels s (Ok g) h = record { value = a; reads = built_low levels a (done a) s h.1; same = h.0 }
-finishes_so w a levels s (Err e) h = unbuilt w a levels (done a) s e h
-
--- an operand that is the whole of its rule
-pub makes_so : (w : Walk) (a : Tree) (levels : ℕ) (s : State) (result : Result Part ParseFault) → Makes w a result → Came (IsPart w) s (at_rule levels (made a) s) result
-makes_so w a levels s (Ok found) h =
-    record { value = as_value a; reads = built_low levels a (done (as_value a)) s h.2.1; same = rw h.1 (plain (value h.2.0)) }
-makes_so w a levels s (Err e) h = unbuilt w a levels (done (as_value a)) s e h
 
 pub still_unbuilt : (w : Walk) (a : Tree) (result : Result Part ParseFault) (e : ParseFault) → IsErrAnd result (λ f. f ≡ e) → Builds w a (Err e) → Makes w a result
 still_unbuilt w a (Ok found) e h b = absurd h
@@ -102,7 +86,7 @@ pub is_until : (t : Token) (found : Class) → class_by found ≡ class_of t.kin
 is_until t found h e = rw (is_of t.kind found class.UntilWord h e) refl
 
 pub is_neither : (t : Token) (found : Class) → class_by found ≡ class_of t.kind → (found ≡ class.UnlessWord → ⊥) → (found ≡ class.UntilWord → ⊥) → is_one (look.unless_word ∷ look.until_word ∷ []) t ≡ false
-is_neither t found h e f = rw (sym h, no_unless found t.spaced e, no_until found t.spaced f) refl
+is_neither t found h e f = rw (sym h, is_other class.UnlessWord found t.spaced e, is_other class.UntilWord found t.spaced f) refl
 
 pub is_while : (t : Token) (found : Class) → class_by found ≡ class_of t.kind → found ≡ class.WhileWord → is_one (look.while_word ∷ look.until_word ∷ []) t ≡ true
 is_while t found h e = rw (is_of t.kind found class.WhileWord h e) refl
@@ -111,7 +95,7 @@ pub is_until_behind : (t : Token) (found : Class) → class_by found ≡ class_o
 is_until_behind t found h e = rw (is_of t.kind found class.UntilWord h e) refl
 
 pub is_no_loop : (t : Token) (found : Class) → class_by found ≡ class_of t.kind → (found ≡ class.WhileWord → ⊥) → (found ≡ class.UntilWord → ⊥) → is_one (look.while_word ∷ look.until_word ∷ []) t ≡ false
-is_no_loop t found h e f = rw (sym h, no_while found t.spaced e, no_until found t.spaced f) refl
+is_no_loop t found h e f = rw (sym h, is_other class.WhileWord found t.spaced e, is_other class.UntilWord found t.spaced f) refl
 
 pub is_the : (wanted : Class) (t : Token) (found : Class) → class_by found ≡ class_of t.kind → found ≡ wanted → look.is (class_by wanted) (class_by wanted) t.spaced ≡ true → is_one (class_by wanted ∷ []) t ≡ true
 is_the wanted t found h e same = rw (is_of t.kind found wanted h e, same) refl
@@ -291,12 +275,6 @@ member_marked w word d a levels s new c m (Err fault) e f n i k h =
     (unbuilt w made levels (phrase (p.postfix_rest d (as_value made)) done) (once_looked s) fault h)
 
 -- ---- at a rule
-
-pub at_the_rule : {A B : Type 0} (levels : ℕ) (r : Rule A) {Is : B → A → Type 0} {s new : State} {result : Result B ParseFault} → Follows Is levels r s new result → Came Is new (at_rule levels r s) result
-at_the_rule levels r h = h.came
-
-pub fails_at_the_rule : {A : Type 0} (levels : ℕ) (r : Rule A) {s : State} {e : ParseFault} → Follows {B = Unit {0}} (λ b a. Unit {0}) levels r s s (Err e) → Failed (at_rule levels r s) e
-fails_at_the_rule levels r h = h.came
 
 pub leaf_follows : (w : Walk) (a : Tree) (levels : ℕ) (s : State) (result : Result Part ParseFault) → nat_le a.height max_height ≡ true → Makes w a result → Follows (IsPart w) levels (done (as_value a)) s s result
 leaf_follows w a levels s result low h = record { came = is_leaf w a levels s result low h }

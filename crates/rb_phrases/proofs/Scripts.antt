@@ -1,30 +1,23 @@
 -- How the rules of scripts, classes and methods follow from their parts.
-use Rattle.std.proofs.Common.{◌≡◌, ℕ, suc, Bool, true, false, not, ◌||◌, List, [], ◌∷◌, ◌≤◌, length, Result, Ok, Err, refl, sym, ap, ◌∙◌, subst}
-use Rattle.std.specs.Prelude.{IfOk, OnOk, OnErr}
+use Rattle.std.proofs.Common.{◌≡◌, ℕ, Bool, true, false, not, ◌||◌, List, Result, Ok, Err, refl, sym, ◌∙◌, subst}
+use Rattle.std.specs.Prelude.{IfOk, OnErr}
 use Rattle.std.specs.Result.{IsErrAnd}
-use Rattle.rb_tree.specs.declared.span.Span.{Span}
 use Rattle.rb_lexer.specs.declared.token.Token.{Token}
-use Rattle.rb_grammar.specs.Look.{Test, Class, is, one_of}
-use Rattle.rb_grammar.specs.Look as look
-use Rattle.rb_grammar.specs.Tree.{Word, Tree, Members, MethodTree, ClassTree}
+use Rattle.rb_grammar.specs.Look.{Test, one_of}
+use Rattle.rb_grammar.specs.Tree.{Word, Tree}
 use Rattle.rb_grammar.specs.Phrase as p
 use Rattle.rb_grammar.specs.Phrase.{Phrase, Value}
-use Rattle.rb_grammar.specs.Rule.{Rule, done, token, phrase, nested, scope, next_meets}
+use Rattle.rb_grammar.specs.Rule.{Rule, done, token, phrase, scope}
 use Rattle.rb_grammar.specs.Scope.{Scope}
-use Rattle.rb_grammar.specs.Grammar.{rule}
-use Rattle.rb_grammar.specs.Heads.{begins, begins_statement, next_class, next_spaced}
-use Rattle.rb_grammar.specs.Reading.{Outcome, from_refused}
+use Rattle.rb_grammar.specs.Heads.{begins, begins_statement, next_class}
+use Rattle.rb_grammar.specs.Reading.{Outcome}
 use Rattle.rb_cursor.specs.declared.fault.ParseFault.{ParseFault}
 use Rattle.rb_cursor.specs.declared.fault.ParseFault.TheVariants as fault
-use Rattle.rb_cursor.specs.State.{State, answer_at, Reached, Failed, syntax, memory, Came, Took, Missed, next_place}
+use Rattle.rb_cursor.specs.State.{State, answer_at, Failed, Took}
 use Rattle.rb_cursor.specs.Here.{at_rule}
-use Rattle.rb_cursor.proofs.Steps.{Follows, Leads, follows_from, stops, misses, token_missed, scope_changed, where_it_stood, through, token_taken, phrase_last, carry, by_rule, phrase_read}
-use Rattle.rb_builder.specs.Builder.{walk_of}
-use Rattle.rb_builder.specs.declared.builder.Builder.{Builder}
-use Rattle.rb_builder.specs.Walk.{Walk}
+use Rattle.rb_cursor.proofs.Steps.{Follows, follows_from, stops, scope_changed, where_it_stood, token_taken, phrase_last}
 use Rattle.rb_steps.specs.Within.{named}
 use Rattle.rb_phrases.specs.Goes.{GoesOn, Adds, AddsNone}
-use Rattle.rb_phrases.proofs.Forms.{opened}
 use Rattle.rb_steps.proofs.Parameters.{wanted_memory}
 
 -- what is answered last, or memory is wanted
@@ -32,15 +25,6 @@ pub stops_or_wants : {A B : Type 0} {Is : B → A → Type 0} {levels : ℕ} {s 
     → IfOk result Q → OnErr result (result ≡ Err fault.Memory) → ((b : B) → Q b → Is b a) → Follows Is levels (done a) s s result
 stops_or_wants Q (Ok b) ok wants more = stops (more b ok)
 stops_or_wants Q (Err e) ok wants more = record { came = wanted_memory wants }
-
--- at a rule
-pub fails_rule : {A : Type 0} (levels : ℕ) (r : Rule A) {s : State} {e : ParseFault} → Follows {B = Unit {0}} (λ b a. Unit {0}) levels r s s (Err e) → Failed (at_rule levels r s) e
-fails_rule levels r h = h.came
-
--- inside what opens
-pub opens_on : {A C : Type 0} {levels left : ℕ} {at : Span} {n : Phrase} {Q : C → Value n → Type 0} {k : Value n → Rule A} {s s1 : State} {c : C} {o : Outcome A}
-    → levels ≡ suc left → (found : Reached Q s1 (answer_at left n s) c) → Leads levels (k found.value) s1 o → Leads levels (nested at n k) s o
-opens_on {levels = levels} {left = left} {at = at} {n = n} {k = k} {s = s} {s1 = s1} more found h = record { comes = opened levels left more at n k s s1 found.value found.reads ∙ h.comes }
 
 -- a scope that ends
 pub leaves : {A B : Type 0} {Is : B → A → Type 0} {levels : ℕ} (f : Scope → Scope) {r : Rule A} {s t new : State} {result : Result B ParseFault}
@@ -66,14 +50,6 @@ pub not_true : (b : Bool) → not b ≡ true → b ≡ false
 not_true true h = let no : false ≡ true = h in absurd (cc)
 not_true false h = refl
 
--- what a parser inside has read, with the same maker
-pub made_by : {B V : Type 0} (Is : Walk → B → V → Type 0) {s : State} {o : Outcome V} {b : B} {m n : Builder} → m ≡ n → Reached (Is (walk_of m)) s o b → Reached (Is (walk_of n)) s o b
-made_by Is {s = s} {o = o} {b = b} same part = subst (λ x. Reached (Is (walk_of x)) s o b) same part
-
--- at a rule that is not a phrase's own
-pub at_the_rule : {A B : Type 0} (levels : ℕ) (r : Rule A) {Is : B → A → Type 0} {s new : State} {result : Result B ParseFault} → Follows Is levels r s new result → Came Is new (at_rule levels r s) result
-at_the_rule levels r h = h.came
-
 -- a name stands at its place, with its `=` and without
 pub named_at : (is_setter : Bool) (w : Word) → (named is_setter w).at ≡ w.at
 named_at true w = refl
@@ -97,13 +73,3 @@ not_false false h = let no : true ≡ false = h in absurd (cc)
 
 pub over_line : (levels : ℕ) (test : Test) (n : Phrase) {s s1 : State} {t : Token} → Took test s s1 t → at_rule levels (token test (λ l. phrase n done)) s ≡ answer_at levels n s1
 over_line levels test n {s = s} {s1 = s1} {t = t} took = token_taken levels test (λ l. phrase n done) s s1 t took ∙ phrase_last levels n s1
-
-pub reached_rule : {A B : Type 0} (levels : ℕ) (r : Rule A) {Is : B → A → Type 0} {s new : State} {b : B} → Follows Is levels r s new (Ok b) → Reached Is new (at_rule levels r s) b
-reached_rule levels r h = h.came
-
-pub reached_in : {B : Type 0} (levels : ℕ) (n : Phrase) {Is : B → Value n → Type 0} {s new : State} {b : B} → Follows Is levels (rule n) s new (Ok b) → Reached Is new (answer_at levels n s) b
-reached_in levels n {Is = Is} {s = s} {new = new} {b = b} h = carry Is new (Ok b) (by_rule levels n s) h.came
-
-pub over_reached : {A C : Type 0} {levels : ℕ} {n : Phrase} {Q : C → Value n → Type 0} {k : Value n → Rule A} {s s1 : State} {c : C} {o : Outcome A}
-    → (found : Reached Q s1 (answer_at levels n s) c) → Leads levels (k found.value) s1 o → Leads levels (phrase n k) s o
-over_reached {levels = levels} {n = n} {k = k} {s = s} {s1 = s1} found h = record { comes = phrase_read levels n k s s1 found.value found.reads ∙ h.comes }

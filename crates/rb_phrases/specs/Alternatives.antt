@@ -1,6 +1,5 @@
 -- The alternatives of a primary, by the class of the token that they begin with.
-use Rattle.std.specs.Prelude.{Bool, List, [], ◌∷◌}
-use Rattle.rb_lexer.specs.declared.token.Token.{Token}
+use Rattle.std.specs.Prelude.{Bool, [], ◌∷◌}
 use Rattle.rb_grammar.specs.Look.{is, one_of}
 use Rattle.rb_grammar.specs.Look as c
 use Rattle.rb_tree.specs.declared.node.Node.TheVariants as node
@@ -8,7 +7,7 @@ use Rattle.rb_grammar.specs.Tree as tree
 use Rattle.rb_grammar.specs.Phrase.{Part}
 use Rattle.rb_grammar.specs.Phrase as p
 use Rattle.rb_grammar.specs.Rule.{Rule, done, refuse, token, phrase, nested}
-use Rattle.rb_grammar.specs.Grammar.{any, as_value, made, word_of, text_of, integer_of, identifiers, named, constructed}
+use Rattle.rb_grammar.specs.Grammar.{any, as_value, made, word_of, integer_of, identifiers, named, constructed}
 use Rattle.rb_steps.specs.declared.beginning.Beginning.{Beginning}
 use Rattle.rb_steps.specs.declared.beginning.Beginning.TheVariants as begin
 

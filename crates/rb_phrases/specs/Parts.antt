@@ -1,16 +1,13 @@
 -- What the parts of an expression come to.
-use Rattle.std.specs.Prelude.{◌≡◌, true, false, nat_le, List, [], Option, Some, None, Result, Ok, Err}
-use Rattle.rb_lexer.specs.declared.token.Token.{Token}
+use Rattle.std.specs.Prelude.{◌≡◌, false, Option, Some, None, Result, Ok, Err}
 use Rattle.rb_grammar.specs.Tree.{Tree, TargetTree}
 use Rattle.rb_grammar.specs.Phrase as p
 use Rattle.rb_grammar.specs.Look.{one_of}
 use Rattle.rb_grammar.specs.Rule.{next_meets}
 use Rattle.rb_grammar.specs.Scope.{with_target}
 use Rattle.rb_grammar.specs.Grammar.{target_of, assignment_marks}
-use Rattle.rb_grammar.specs.Program.{max_height}
 use Rattle.rb_cursor.specs.State.{State, Took}
 use Rattle.rb_cursor.specs.declared.fault.ParseFault.{ParseFault}
-use Rattle.rb_cursor.specs.declared.fault.ParseFault.TheVariants as fault
 use Rattle.rb_builder.specs.Walk.{Walk}
 use Rattle.rb_builder.specs.Grown.{IsTree, Builds}
 use Rattle.rb_builder.specs.Operand.{IsPart, IsTarget}

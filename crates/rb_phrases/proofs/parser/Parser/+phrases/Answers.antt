@@ -4,30 +4,32 @@ use Rattle.rb_builder.specs.Grown.{IsTree, IsRow, Builds}
 use Rattle.rb_builder.specs.Literal.{ArePieces, ArePairs}
 use Rattle.rb_builder.specs.Operand.{IsPart, plain, value, indexed}
 use Rattle.rb_cursor.proofs.Steps.{at_phrase, fails_at, handed_on, takes, misses, holds, fails, stops, first_token, second_token}
-use Rattle.rb_cursor.proofs.Steps.{where_it_stood, through, reached_further, leads_to, arrives, to_first_token, Leads, by_rule}
+use Rattle.rb_cursor.proofs.Steps.{where_it_stood, through, reached_further, leads_to, arrives, to_first_token, by_rule}
 use Rattle.rb_cursor.proofs.Steps.{carry, to_second_token, from_where_it_stood, fails_with, first, second, to_first}
 use Rattle.rb_cursor.specs.Here.{at_rule}
-use Rattle.rb_cursor.specs.State.{Came, Reached, answer_at, memory}
+use Rattle.rb_cursor.specs.State.{answer_at, memory}
 use Rattle.rb_cursor.specs.Word.{word_by}
 use Rattle.rb_grammar.specs.Grammar.{rule, operators, tighter, joined, chained, operand, as_value, text_of, finished, modify, looped}
 use Rattle.rb_grammar.specs.Grammar.{allowed}
 use Rattle.rb_grammar.specs.Look.{one_of, elsif_word}
 use Rattle.rb_grammar.specs.Reading.{and_then}
-use Rattle.rb_grammar.specs.Rule.{done, token, phrase, nested, next_meets, refuse}
-use Rattle.rb_phrases.proofs.Bodies.{reaches, reaches_at, of_make, low_fails, low_ends, is_value, then_decided, decided_fails, ends_by}
-use Rattle.rb_phrases.proofs.Bodies.{ends_with, leads, at_place, into_phrase, over_opened, over_decided, over_modified, modify_fails}
+use Rattle.rb_grammar.specs.Scope.{with_target}
+use Rattle.rb_grammar.specs.Rule.{done, phrase, nested, next_meets, refuse}
+use Rattle.rb_phrases.proofs.Bodies.{low_fails, low_ends, is_value, then_decided, decided_fails, ends_by}
+use Rattle.rb_phrases.proofs.Bodies.{ends_with, leads, at_place, into_phrase, over_decided, over_modified, modify_fails}
 use Rattle.rb_phrases.proofs.Bodies.{statement_begins, value_begins, value_seen, sees, no_elsif_at_end, arm_behind}
-use Rattle.rb_phrases.proofs.Calls.{at_the_rule, fails_at_the_rule, inside_ok, ok_at, nested_no_longer, then_inside, inside_fails}
+use Rattle.rb_phrases.proofs.Calls.{inside_ok, nested_no_longer, then_inside, inside_fails}
 use Rattle.rb_phrases.proofs.Calls.{takes_as, picks, picks_other, changes, args_read, args_missing, read_comes, missing_comes, one_stood}
 use Rattle.rb_phrases.proofs.Calls.{none_stood, no_ok, on_ok, ok_then, to_arguments, without_arguments, stands_no_longer, over_nested}
 use Rattle.rb_phrases.proofs.Calls.{past_block, beyond_head, over_head, the_head, behind_part, over_operand, over_as, primary_is}
 use Rattle.rb_phrases.proofs.Calls.{refuses, ThreadArgs, refuses_here, block_made, closer_took, not_at_end, leads_at, leads_here}
-use Rattle.rb_phrases.proofs.Calls.{leads_back, over_inside, pick_no, with_block_named, closer_missed, made_came, new_of, handed_to}
+use Rattle.rb_phrases.proofs.Calls.{leads_back, over_inside, pick_no, with_block_named, closer_missed, new_of, handed_to}
 use Rattle.rb_phrases.proofs.Calls.{handed_block, goes_from, node_goes_on, over_part, for_make}
 use Rattle.rb_phrases.proofs.Choices.{first_arm, first_arm_fails, next_arm, next_arm_fails, arms_and, arm_no_longer, fewer}
-use Rattle.rb_phrases.proofs.Expressions.{made_by, within_last, reached_at, finishes, makes, over_phrase, ends_in, commanded_head, commanded_plain}
-use Rattle.rb_phrases.proofs.Expressions.{rest_stops, rest_goes, unassigned_stops, assignment_goes, chain_unary, at_chain, no_operator_ends}
-use Rattle.rb_phrases.proofs.Expressions.{chained_stops, chained_goes, glued_number, no_glued_number, number_part, glued_number_fails}
+use Rattle.rb_phrases.proofs.Expressions.{within_last, ends_in, commanded_head, commanded_plain}
+use Rattle.rb_phrases.proofs.Ends.{at_the_rule, fails_at_the_rule, reached_rule, reached_at, made_by, over_phrase, over_opened, finishes, makes}
+use Rattle.rb_phrases.proofs.Expressions.{rest_stops, rest_goes, unassigned_stops, assignment_goes, chain_unary, no_operator_ends}
+use Rattle.rb_phrases.proofs.Expressions.{chained_stops, glued_number, no_glued_number, number_part, glued_number_fails}
 use Rattle.rb_phrases.proofs.Expressions.{other_follows, looks, looks_missed, in_tier, fails_in_tier, chain_fails, chain_leads, rest_leads}
 use Rattle.rb_phrases.proofs.Expressions.{operand_leads, joined_leads, then_joined, joined_fails, chained_on}
 use Rattle.rb_phrases.proofs.Forms.{then_operand, operand_fails, opens, fails_inside, stays_shut, took_less, no_longer, rest_of}
@@ -40,15 +42,13 @@ use Rattle.rb_steps.proofs.Parameters.{wanted_memory}
 use Rattle.rb_steps.specs.Begins.{beginning_of}
 use Rattle.rb_steps.specs.Tier.{tier_by}
 use Rattle.rb_steps.specs.Within.{within_block}
-use Rattle.std.proofs.Common.{rules, ◌≡◌, ℕ, ◌+◌, ◌*◌, ◌<◌, ◌≤◌, length, arith, ltb-true, to_z, of_z, w64, Ok, refl, sym, ap}
+use Rattle.std.proofs.Common.{rules, ◌≡◌, ◌≤◌, length, arith, ltb-true, to_z, of_z, w64, Ok, refl, sym, ap}
 use Rattle.std.proofs.Common.{◌∙◌, subst, [], ◌∷◌, ◌++◌, false, true, None, Some, List}
 use Rattle.std.specs.Prelude.{map}
-use Rattle.rb_builder.specs.declared.operand.Part.TheVariants as part
 use Rattle.rb_grammar.specs.Grammar as grammar
 use Rattle.rb_grammar.specs.Look as look
 use Rattle.rb_grammar.specs.Phrase as p
 use Rattle.rb_grammar.specs.Tree as tree
-use Rattle.rb_phrases.proofs.Bodies as bodies
 use Rattle.rb_phrases.proofs.parser.Parser.+phrases.Goals as goal
 use Rattle.rb_phrases.specs.Alternatives as alternatives
 use Rattle.rb_steps.specs.declared.beginning.Beginning.TheVariants as begin
@@ -255,7 +255,7 @@ pub assignment-expression-requires : goal.assignment-expression-requires
 assignment-expression-requires t c =
     let found = c.in_ok-part.ensures in
     let after = subst (λ b. WentBehind (walk_of c.args.self.make) found.value c.ternary.new.cursor c.assignment_behind.new.cursor b) c.in-Mark.is (c.in_ok-part-2.ensures.ok (walk_of c.args.self.make) found.value found.same) in
-    omega (arith, no_longer c.args.self.levels (p.ternary c.args.takes_do) c.args.cursor.now c.ternary.new.cursor found, took_less after.4, ap (λ s. length s.rest) after.5)
+    omega (arith, no_longer c.args.self.levels (p.ternary c.args.takes_do) c.args.cursor.now c.ternary.new.cursor found, took_less after.4, ap (λ s. length s.rest) {y = record after.3 { scope = with_target after.0 after.3.scope }} after.5)
 
 pub assignment-returns-in_err-value : goal.assignment-returns-in_err-value
 unfolding rule
@@ -548,7 +548,7 @@ pub arguments-returns-in-Some : goal.arguments-returns-in-Some
 unfolding rule
 arguments-returns-in-Some t c =
     inside_ok c.args.self.levels c.in_ok-inner.inner.levels c.args.at p.arguments c.args.cursor.now c.in_ok-inner.ensures.0
-    (ok_at c.in_ok-inner.inner.levels p.arguments (first_token refl c.in-Some.ensures.taken (stops c.row-row.ensures)))
+    (reached_at c.in_ok-inner.inner.levels p.arguments (first_token refl c.in-Some.ensures.taken (stops c.row-row.ensures)))
 
 pub arguments-argument-requires : goal.arguments-argument-requires
 arguments-argument-requires t c = omega (arith, c.accept.ensures.shorter)
@@ -630,7 +630,7 @@ unfolding rule
 arguments-returns t c =
     let levels = c.in_ok-inner.inner.levels in
     inside_ok c.args.self.levels levels c.args.at p.arguments c.args.cursor.now c.in_ok-inner.ensures.0
-    (reached_further c.more.invariant.comes (ok_at levels (p.arguments_rest c.more.invariant.value)
+    (reached_further c.more.invariant.comes (reached_at levels (p.arguments_rest c.more.invariant.value)
     (second_token refl c.in_default-accept.ensures.taken.0 (where_it_stood c.in_default-accept.ensures.taken.1
     (takes c.in_ok-expect.ensures.took (stops c.more.invariant.same))))))
 
@@ -663,7 +663,7 @@ unfolding rule
 index-returns t c =
     let part = c.in_ok-index.ensures in
     inside_ok c.args.self.levels c.in_ok-inner.inner.levels c.args.at p.index_rest c.args.cursor.now c.in_ok-inner.ensures.0
-    (ok_at c.in_ok-inner.inner.levels p.index_rest (holds part (takes c.in_ok-expect.ensures.took (stops (for_make IsTree _ part.value c.in_ok-inner.ensures.1 part.same)))))
+    (reached_at c.in_ok-inner.inner.levels p.index_rest (holds part (takes c.in_ok-expect.ensures.took (stops (for_make IsTree _ part.value c.in_ok-inner.ensures.1 part.same)))))
 
 -- ---- a name
 
@@ -693,7 +693,7 @@ named-returns t c =
     let word = word_by c.in_ok-word.word in
     at_the_rule c.args.self.levels name
     (takes_as grammar.named c.in_ok-word.ensures.word (first_token refl c.in-Some.ensures.taken
-    (then_inside args (made_came _ _ (tree.call None word args.value) _ _ (c.as_value.ensures _ (tree.call None word args.value) (c.call.ensures args.value args.same))))))
+    (then_inside args (makes (c.as_value.ensures _ (tree.call None word args.value) (c.call.ensures args.value args.same))))))
 
 -- ---- `Class.new`
 
@@ -749,7 +749,7 @@ constructed-returns t c =
     at_the_rule c.args.self.levels (new c.args.takes_do)
     (takes_as (new_of c.args.takes_do) c.in_ok-class.ensures.word (takes c.in_ok-expect.ensures.took (takes c.in_ok-new.ensures.took
     (picks_other (sym c.is_thread.ensures ∙ c.if-is_thread.false) (first_token refl c.in-Some.ensures.taken
-    (then_inside args (made_came _ _ object _ _ (c.as_value.ensures _ object (c.object.ensures args.value args.same)))))))))
+    (then_inside args (makes (c.as_value.ensures _ object (c.object.ensures args.value args.same)))))))))
 
 -- ---- threads
 
@@ -799,10 +799,10 @@ thread-returns t c =
     elim c.match-accept_glued.branch [
       | thread-in-Some+in_ok-args-in-Some w ↦
           carry _ _ _ (read_comes c.args.self.levels c.args.takes_do c.args.new.now w.in-Some.ensures.taken w.in_ok-args-in-Some.ensures w.cursor-is ∙ block.comes (λ b. grammar.made (tree.thread_new c.args.new.now.at (w.in_ok-args-in-Some.ensures.value) b)) refuse)
-          (made_came _ c.args.self.levels (tree.thread_new c.args.new.now.at (w.in_ok-args-in-Some.ensures.value) block.value) _ _ (c.as_value.ensures _ (tree.thread_new c.args.new.now.at (w.in_ok-args-in-Some.ensures.value) block.value) (c.thread.ensures (w.in_ok-args-in-Some.ensures.value) block.value (rw w.args-is w.in_ok-args-in-Some.ensures.same) block.same))).came
+          (makes {levels = c.args.self.levels} (c.as_value.ensures _ (tree.thread_new c.args.new.now.at (w.in_ok-args-in-Some.ensures.value) block.value) (c.thread.ensures (w.in_ok-args-in-Some.ensures.value) block.value (rw w.args-is w.in_ok-args-in-Some.ensures.same) block.same))).came
       | thread-in-None w ↦
           carry _ _ _ (missing_comes c.args.self.levels c.args.takes_do c.args.new.now w.in-None.ensures.taken w.cursor-is ∙ block.comes (λ b. grammar.made (tree.thread_new c.args.new.now.at ([]) b)) refuse)
-          (made_came _ c.args.self.levels (tree.thread_new c.args.new.now.at ([]) block.value) _ _ (c.as_value.ensures _ (tree.thread_new c.args.new.now.at ([]) block.value) (c.thread.ensures ([]) block.value (rw w.args-is w.row-args.ensures) block.same))).came
+          (makes {levels = c.args.self.levels} (c.as_value.ensures _ (tree.thread_new c.args.new.now.at ([]) block.value) (c.thread.ensures ([]) block.value (rw w.args-is w.row-args.ensures) block.same))).came
     ]
 
 -- ---- blocks
@@ -926,7 +926,7 @@ called_so-block_of-requires t c = omega (arith)
 pub called_so-returns-in_err-block-clause-goes : goal.called_so-returns-in_err-block-clause-goes
 called_so-returns-in_err-block-clause-goes t c = λ a same.
     let word = word_by c.args.word in
-    handed_to _ _ _ _ c.from_residual.result c.from_residual.ensures.1
+    handed_to _ _ _ {o = at_rule c.args.self.levels (grammar.with_block_of c.args.word.text.now c.args.takes_do (λ b. grammar.going_on c.args.takes_do (tree.call_with_block a word [] b)) (grammar.plain_member c.args.takes_do a word)) c.args.cursor.now} _ c.from_residual.result c.from_residual.ensures.1
     (c.in_err-block.ensures (λ b. grammar.going_on c.args.takes_do (tree.call_with_block a word [] b)) (grammar.plain_member c.args.takes_do a word))
 
 pub called_so-returns-in_err-block-clause-shorter : goal.called_so-returns-in_err-block-clause-shorter
@@ -1183,7 +1183,7 @@ postfix_rest-returns-in_default-accept_glued t c = λ q same.
     let levels = c.args.self.levels in
     let gone = c.behind.invariant.gone q same in
     let not_head = sym c.is_head.ensures ∙ c.behind-test.true in
-    reached_further gone.comes (ok_at levels (p.postfix_rest c.args.takes_do gone.value) (beyond_head gone.value (behind_part c.args.takes_do gone.value) gone.same not_head
+    reached_further gone.comes (reached_at levels (p.postfix_rest c.args.takes_do gone.value) (beyond_head gone.value (behind_part c.args.takes_do gone.value) gone.same not_head
     (second_token refl c.in_default.ensures.taken.0 (where_it_stood c.in_default.ensures.taken.1
     (second_token refl c.in_default-accept_glued.ensures.taken.0 (where_it_stood c.in_default-accept_glued.ensures.taken.1 (stops gone.same)))))))
 
@@ -1192,7 +1192,7 @@ unfolding rule
 postfix_rest-returns t c = λ q same.
     let levels = c.args.self.levels in
     let gone = c.behind.invariant.gone q same in
-    reached_further gone.comes (ok_at levels (p.postfix_rest c.args.takes_do gone.value)
+    reached_further gone.comes (reached_at levels (p.postfix_rest c.args.takes_do gone.value)
     (the_head gone.value (behind_part c.args.takes_do gone.value) gone.same (sym c.is_head.ensures ∙ c.behind-test.false) (stops gone.same)))
 
 -- ---- an operand, by its first token
@@ -1273,8 +1273,8 @@ group-returns-in_err-expect t c =
 pub group-returns : goal.group-returns
 unfolding rule
 group-returns t c =
-    let part = of_make IsTree c.in_ok-inner.ensures.1 c.in_ok-grown.ensures in
-    let whole = reaches c.in_ok-inner.inner.levels p.group_rest {Is = IsTree (walk_of c.args.self.make)} (holds part (takes c.in_ok-expect.ensures.took (stops part.same))) in
+    let part = made_by IsTree c.in_ok-inner.ensures.1 c.in_ok-grown.ensures in
+    let whole = reached_at c.in_ok-inner.inner.levels p.group_rest {Is = IsTree (walk_of c.args.self.make)} (holds part (takes c.in_ok-expect.ensures.took (stops part.same))) in
     at_the_rule c.args.self.levels alternatives.group (takes c.in_ok-open.ensures.took (opens c.in_ok-inner.ensures.0 whole (stops (is_value c.value.ensures whole.same))))
 
 -- ---- text
@@ -1295,7 +1295,7 @@ pub text-returns : goal.text-returns
 text-returns t c =
     let part = c.in_ok-pieces.ensures in
     at_the_rule c.args.self.levels alternatives.text
-    (takes c.in_ok-open.ensures.took (holds part (bodies.makes (c.as_value.ensures (walk_of c.args.self.make) (tree.string c.in_ok-open.open.now.at part.value) (c.string.ensures part.value part.same)))))
+    (takes c.in_ok-open.ensures.took (holds part (makes (c.as_value.ensures (walk_of c.args.self.make) (tree.string c.in_ok-open.open.now.at part.value) (c.string.ensures part.value part.same)))))
 
 -- ---- array
 
@@ -1318,9 +1318,9 @@ array-returns-in_err-items t c =
 
 pub array-returns : goal.array-returns
 array-returns t c =
-    let part = of_make IsRow c.in_ok-inner.ensures.1 c.in_ok-items.ensures in
+    let part = made_by IsRow c.in_ok-inner.ensures.1 c.in_ok-items.ensures in
     at_the_rule c.args.self.levels alternatives.array
-    (takes c.in_ok-open.ensures.took (opens c.in_ok-inner.ensures.0 part (bodies.makes (c.as_value.ensures (walk_of c.args.self.make) (tree.array c.in_ok-open.open.now.at part.value) (c.array.ensures part.value part.same)))))
+    (takes c.in_ok-open.ensures.took (opens c.in_ok-inner.ensures.0 part (makes (c.as_value.ensures (walk_of c.args.self.make) (tree.array c.in_ok-open.open.now.at part.value) (c.array.ensures part.value part.same)))))
 
 -- ---- hash
 
@@ -1343,9 +1343,9 @@ hash-returns-in_err-pairs t c =
 
 pub hash-returns : goal.hash-returns
 hash-returns t c =
-    let part = of_make ArePairs c.in_ok-inner.ensures.1 c.in_ok-pairs.ensures in
+    let part = made_by ArePairs c.in_ok-inner.ensures.1 c.in_ok-pairs.ensures in
     at_the_rule c.args.self.levels alternatives.hash
-    (takes c.in_ok-open.ensures.took (opens c.in_ok-inner.ensures.0 part (bodies.makes (c.as_value.ensures (walk_of c.args.self.make) (tree.hash c.in_ok-open.open.now.at part.value) (c.hash.ensures part.value part.same)))))
+    (takes c.in_ok-open.ensures.took (opens c.in_ok-inner.ensures.0 part (makes (c.as_value.ensures (walk_of c.args.self.make) (tree.hash c.in_ok-open.open.now.at part.value) (c.hash.ensures part.value part.same)))))
 
 -- ---- pair
 
@@ -1375,7 +1375,7 @@ unfolding rule
 pair-returns-in-Some t c =
     let part = c.in_ok-value.ensures in
     let key = subst (λ v. IsTree (walk_of c.args.self.make) c.in_ok-key.key (tree.symbol v)) c.word_of.ensures c.in_ok-key.ensures.0 in
-    reaches c.args.self.levels p.pair (first_token refl c.in-Some.ensures.taken (holds part (stops (record { first = key; second = part.same }))))
+    reached_at c.args.self.levels p.pair (first_token refl c.in-Some.ensures.taken (holds part (stops (record { first = key; second = part.same }))))
 
 pub pair-returns-in_err-key-2 : goal.pair-returns-in_err-key-2
 unfolding rule
@@ -1402,7 +1402,7 @@ unfolding rule
 pair-returns t c =
     let key = c.in_ok-key-2.ensures in
     let part = c.in_ok-value-2.ensures in
-    reaches c.args.self.levels p.pair
+    reached_at c.args.self.levels p.pair
     (second_token refl c.in_default.ensures.taken.0 (where_it_stood c.in_default.ensures.taken.1 (holds key (takes c.in_ok-expect.ensures.took (holds part (stops (record { first = key.same; second = part.same })))))))
 
 -- ---- pairs
@@ -1440,7 +1440,7 @@ unfolding rule
 pairs-returns-in-None-accept t c =
     let part = c.in_ok-key.ensures in
     reached_further c.pairs.invariant.comes
-    (reaches_at c.args.self.levels (more_pairs c.pairs.invariant.value)
+    (reached_rule c.args.self.levels (more_pairs c.pairs.invariant.value)
     (second_token refl c.in-None.ensures.taken.0 (where_it_stood c.in-None.ensures.taken.1 (holds part (ends_by (p.pairs_rest (c.pairs.invariant.value ++ part.value ∷ []))
     (second_token refl c.in-None-accept.ensures.taken.0 (where_it_stood c.in-None-accept.ensures.taken.1 (takes c.in_ok-expect.ensures.took
     (stops (c.in_ok-push_pair.ensures.ok c.pairs.invariant.value part.value.0 part.value.1 c.pairs.invariant.same part.same.first part.same.second))))))))))
@@ -1459,7 +1459,7 @@ pairs-pairs-preserved t c =
       comes =
           c.pairs.invariant.comes
           ∙ leads c.args.self.levels (more_pairs c.pairs.invariant.value) c.pairs.cursor (at_rule c.args.self.levels (more_pairs found) c.accept-in-None.new.self)
-          (to_second_token refl c.in-None.ensures.taken.0 (from_where_it_stood c.in-None.ensures.taken.1 (bodies.over_phrase part (into_phrase c.args.self.levels (p.pairs_rest found)
+          (to_second_token refl c.in-None.ensures.taken.0 (from_where_it_stood c.in-None.ensures.taken.1 (over_phrase part (into_phrase c.args.self.levels (p.pairs_rest found)
           (to_first_token refl c.in_default-accept.ensures.taken (at_place c.args.self.levels (more_pairs found) c.accept-in-None.new.self))))));
       same = c.in_ok-push_pair.ensures.ok c.pairs.invariant.value part.value.0 part.value.1 c.pairs.invariant.same part.same.first part.same.second;
       shorter = omega (arith, c.pairs.invariant.shorter, c.accept.ensures.shorter, no_longer c.args.self.levels p.pair c.accept.new.self c.pair.new.cursor part, c.accept-in-None.ensures.shorter);
@@ -1468,7 +1468,7 @@ pairs-pairs-preserved t c =
 pub pairs-returns : goal.pairs-returns
 pairs-returns t c =
     reached_further c.pairs.invariant.comes
-    (reaches_at c.args.self.levels (more_pairs c.pairs.invariant.value) (first_token refl c.in_default.ensures.taken (stops c.pairs.invariant.same)))
+    (reached_rule c.args.self.levels (more_pairs c.pairs.invariant.value) (first_token refl c.in_default.ensures.taken (stops c.pairs.invariant.same)))
 
 -- ---- array_items
 
@@ -1505,7 +1505,7 @@ unfolding rule
 array_items-returns-in-None-accept t c =
     let part = c.in_ok-item.ensures in
     reached_further c.items.invariant.comes
-    (reaches_at c.args.self.levels (more_items c.items.invariant.value)
+    (reached_rule c.args.self.levels (more_items c.items.invariant.value)
     (second_token refl c.in-None.ensures.taken.0 (where_it_stood c.in-None.ensures.taken.1 (holds part (ends_by (p.array_items_rest (c.items.invariant.value ++ part.value ∷ []))
     (second_token refl c.in-None-accept.ensures.taken.0 (where_it_stood c.in-None-accept.ensures.taken.1 (takes c.in_ok-expect.ensures.took
     (stops (c.in_ok-push.ensures.ok c.items.invariant.value part.value c.items.invariant.same part.same))))))))))
@@ -1524,7 +1524,7 @@ array_items-items-preserved t c =
       comes =
           c.items.invariant.comes
           ∙ leads c.args.self.levels (more_items c.items.invariant.value) c.items.cursor (at_rule c.args.self.levels (more_items found) c.accept-in-None.new.self)
-          (to_second_token refl c.in-None.ensures.taken.0 (from_where_it_stood c.in-None.ensures.taken.1 (bodies.over_phrase part (into_phrase c.args.self.levels (p.array_items_rest found)
+          (to_second_token refl c.in-None.ensures.taken.0 (from_where_it_stood c.in-None.ensures.taken.1 (over_phrase part (into_phrase c.args.self.levels (p.array_items_rest found)
           (to_first_token refl c.in_default-accept.ensures.taken (at_place c.args.self.levels (more_items found) c.accept-in-None.new.self))))));
       same = c.in_ok-push.ensures.ok c.items.invariant.value part.value c.items.invariant.same part.same;
       shorter = omega (arith, c.items.invariant.shorter, c.accept.ensures.shorter, no_longer c.args.self.levels (p.argument true) c.accept.new.self c.argument.new.cursor part, c.accept-in-None.ensures.shorter);
@@ -1533,7 +1533,7 @@ array_items-items-preserved t c =
 pub array_items-returns : goal.array_items-returns
 array_items-returns t c =
     reached_further c.items.invariant.comes
-    (reaches_at c.args.self.levels (more_items c.items.invariant.value) (first_token refl c.in_default.ensures.taken (stops c.items.invariant.same)))
+    (reached_rule c.args.self.levels (more_items c.items.invariant.value) (first_token refl c.in_default.ensures.taken (stops c.items.invariant.same)))
 
 -- ---- pieces
 
@@ -1574,7 +1574,7 @@ pub pieces-returns-in_default-accept : goal.pieces-returns-in_default-accept
 unfolding rule
 pieces-returns-in_default-accept t c =
     reached_further c.pieces.invariant.comes
-    (reaches c.args.self.levels (p.text_rest c.pieces.invariant.value)
+    (reached_at c.args.self.levels (p.text_rest c.pieces.invariant.value)
     (second_token refl c.in_default.ensures.taken.0 (where_it_stood c.in_default.ensures.taken.1
     (second_token refl c.in_default-accept.ensures.taken.0 (where_it_stood c.in_default-accept.ensures.taken.1 (takes c.in_ok-expect.ensures.took (stops c.pieces.invariant.same)))))))
 
@@ -1618,8 +1618,8 @@ pieces-pieces-smaller t c =
 pub pieces-pieces-preserved : goal.pieces-pieces-preserved
 unfolding rule
 pieces-pieces-preserved t c =
-    let part = of_make IsTree c.in_ok-inner.ensures.1 c.in_ok-code.ensures in
-    let whole = reaches c.in_ok-inner.inner.levels p.code_rest {Is = IsTree (walk_of c.args.self.make)} (holds part (takes c.in_ok-expect-2.ensures.took (stops part.same))) in
+    let part = made_by IsTree c.in_ok-inner.ensures.1 c.in_ok-code.ensures in
+    let whole = reached_at c.in_ok-inner.inner.levels p.code_rest {Is = IsTree (walk_of c.args.self.make)} (holds part (takes c.in_ok-expect-2.ensures.took (stops part.same))) in
     let found : List tree.PieceTree = c.pieces.invariant.value ++ tree.code whole.value ∷ [] in
     record {
       value = found;
@@ -1661,7 +1661,7 @@ body-returns-then-not-skip_lines t c =
     let part = c.in_ok-statement.ensures in
     let skipped = c.if-not-skip_lines.ensures.skipped in
     reached_further gone.comes
-    (reaches c.args.self.levels (p.body gone.value)
+    (reached_at c.args.self.levels (p.body gone.value)
     (second_token refl c.more.invariant.1 (first (statement_begins (λ a. phrase (p.body_rest (gone.value ++ a ∷ [])) done) c.more.cursor.rest true (sym c.more-test.ensures)) (holds part (ends_by (p.body_rest (gone.value ++ part.value ∷ []))
     (where_it_stood (skipped.none refl) (second_token refl skipped.behind (stops (c.in_ok-push.ensures.ok gone.value part.value gone.same part.same)))))))))
 
@@ -1682,7 +1682,7 @@ body-more-preserved t c =
             gone.comes
             ∙ leads_to c.args.self.levels (p.body gone.value) c.more.cursor (answer_at c.args.self.levels (p.body_rest found) c.statement.new.cursor)
             (to_second_token refl c.more.invariant.1 (to_first (statement_begins (λ a. phrase (p.body_rest (gone.value ++ a ∷ [])) done) c.more.cursor.rest true (sym c.more-test.ensures))
-            (bodies.over_phrase part (arrives c.args.self.levels (p.body_rest found) c.statement.new.cursor))))
+            (over_phrase part (arrives c.args.self.levels (p.body_rest found) c.statement.new.cursor))))
             ∙ skipped.body_rest c.args.self.levels found refl;
         same = c.in_ok-push.ensures.ok gone.value part.value gone.same part.same;
         shorter = omega (arith, gone.shorter, no_longer c.args.self.levels p.statement c.more.cursor c.statement.new.cursor part, c.if-not-skip_lines.ensures.shorter);
@@ -1695,7 +1695,7 @@ unfolding rule
 body-returns t c =
     let gone = c.more.invariant.0 in
     reached_further gone.comes
-    (reaches c.args.self.levels (p.body gone.value)
+    (reached_at c.args.self.levels (p.body gone.value)
     (second_token refl c.more.invariant.1 (second (statement_begins (λ a. phrase (p.body_rest (gone.value ++ a ∷ [])) done) c.more.cursor.rest false (sym c.more-test.ensures)) (stops gone.same))))
 
 -- ---- simple
@@ -1727,7 +1727,7 @@ simple-returns-in-Some t c =
     at_phrase c.args.self.levels p.simple
     (first_token refl c.in-Some.ensures.taken
     (first (value_begins (λ a. finished (tree.return_value c.in-Some.word.now.at a)) c.accept.new.self.rest true (sym c.if-not-is_value.ensures))
-    (sees (value_seen c.accept.new.self.rest (sym c.if-not-is_value.ensures)) (holds part (bodies.finishes (c.return_value.ensures part.value part.same))))))
+    (sees (value_seen c.accept.new.self.rest (sym c.if-not-is_value.ensures)) (holds part (finishes (c.return_value.ensures part.value part.same))))))
 
 pub simple-returns-in-Some-accept : goal.simple-returns-in-Some-accept
 unfolding rule
@@ -1772,7 +1772,7 @@ statement-modifiers-init t c =
       value = part.value;
       comes =
           leads_to c.args.self.levels p.statement c.args.cursor.now (answer_at c.args.self.levels (p.modified part.value) c.simple.new.cursor)
-          (bodies.over_phrase part (arrives c.args.self.levels (p.modified part.value) c.simple.new.cursor));
+          (over_phrase part (arrives c.args.self.levels (p.modified part.value) c.simple.new.cursor));
       same = part.same;
       shorter = no_longer c.args.self.levels p.simple c.args.cursor.now c.simple.new.cursor part;
     }
@@ -1823,7 +1823,7 @@ statement-modifiers-preserved t c =
       comes =
           c.modifiers.invariant.comes
           ∙ leads_to c.args.self.levels (p.modified a) c.modifiers.cursor (answer_at c.args.self.levels (p.modified whole.value) c.expression.new.cursor)
-          (to_first_token refl c.in-Some.ensures.taken (bodies.over_phrase part (over_decided c.in-Some.word.now part.value (modify c.in-Some.word.now a) condition
+          (to_first_token refl c.in-Some.ensures.taken (over_phrase part (over_decided c.in-Some.word.now part.value (modify c.in-Some.word.now a) condition
           (over_modified c.args.self.levels c.in-Some.word.now a condition.value c.expression.new.cursor c.expression.new.cursor whole))));
       same = whole.same;
       shorter = omega (arith, c.modifiers.invariant.shorter, took_less c.in-Some.ensures.taken, no_longer c.args.self.levels (p.expression true) c.accept_modifier.new.cursor c.expression.new.cursor part);
@@ -1833,7 +1833,7 @@ pub statement-returns : goal.statement-returns
 unfolding rule
 statement-returns t c =
     reached_further c.modifiers.invariant.comes
-    (reaches c.args.self.levels (p.modified c.modifiers.invariant.value)
+    (reached_at c.args.self.levels (p.modified c.modifiers.invariant.value)
     (second_token refl c.in_default.ensures.taken.0 (where_it_stood c.in_default.ensures.taken.1 (stops c.modifiers.invariant.same))))
 
 -- ---- looped
@@ -1857,7 +1857,7 @@ looped-returns-in_err-grown t c =
 
 pub looped-returns : goal.looped-returns
 looped-returns t c =
-    let part = of_make IsTree c.in_ok-inner.ensures.1 c.in_ok-grown.ensures in
+    let part = made_by IsTree c.in_ok-inner.ensures.1 c.in_ok-grown.ensures in
     at_the_rule c.args.self.levels alternatives.loop
     (takes c.in_ok-word.ensures.took (opens c.in_ok-inner.ensures.0 part (stops (is_value c.value.ensures part.same))))
 
@@ -1919,7 +1919,7 @@ repeated-returns t c =
     let body = c.in_ok-body.ensures in
     at_phrase c.args.self.levels (p.loop_rest c.args.word.now)
     (holds part (then_decided c.args.word.now part.value (looped c.args.word.now) condition
-    (takes c.in_ok-expect_loop_body.ensures.took (holds body (takes c.in_ok-expect.ensures.took (bodies.finishes (c.repeated.ensures condition.value body.value condition.same body.same)))))))
+    (takes c.in_ok-expect_loop_body.ensures.took (holds body (takes c.in_ok-expect.ensures.took (finishes (c.repeated.ensures condition.value body.value condition.same body.same)))))))
 
 -- ---- choice
 
@@ -1942,7 +1942,7 @@ choice-returns-in_err-grown t c =
 
 pub choice-returns : goal.choice-returns
 choice-returns t c =
-    let part = of_make IsTree c.in_ok-inner.ensures.1 c.in_ok-grown.ensures in
+    let part = made_by IsTree c.in_ok-inner.ensures.1 c.in_ok-grown.ensures in
     at_the_rule c.args.self.levels alternatives.choice
     (takes c.in_ok-word.ensures.took (opens c.in_ok-inner.ensures.0 part (stops (is_value c.value.ensures part.same))))
 
@@ -1987,7 +1987,7 @@ arm-returns t c =
     let part = c.in_ok-expression.ensures in
     let condition = c.in_ok-condition.ensures part.value c.expression.new.cursor part.same in
     let body = c.in_ok-body.ensures in
-    reaches_at c.args.self.levels (arm_of c.args.word.now)
+    reached_rule c.args.self.levels (arm_of c.args.word.now)
     (holds part (then_decided c.args.word.now part.value (arm_behind c.args.word.now) condition
     (holds (c.in_ok-take_then.ensures.came c.args.self.levels) (holds body (stops (record { at = refl; condition = condition.same; body = body.same }))))))
 
@@ -2004,7 +2004,7 @@ otherwise-returns-in_err-expect t c = λ not_there.
 pub otherwise-returns-in_default : goal.otherwise-returns-in_default
 unfolding rule
 otherwise-returns-in_default t c = λ not_there.
-    reaches c.args.self.levels (p.otherwise c.args.may_go_on)
+    reached_at c.args.self.levels (p.otherwise c.args.may_go_on)
     (second_token (no_elsif_at_end c.args.may_go_on) not_there
     (second_token refl c.in_default.ensures.taken.0 (where_it_stood c.in_default.ensures.taken.1 (takes c.in_ok-expect.ensures.took (stops c.row.ensures)))))
 
@@ -2029,7 +2029,7 @@ pub otherwise-returns : goal.otherwise-returns
 unfolding rule
 otherwise-returns t c = λ not_there.
     let body = c.in_ok-body.ensures in
-    reaches c.args.self.levels (p.otherwise c.args.may_go_on)
+    reached_at c.args.self.levels (p.otherwise c.args.may_go_on)
     (second_token (no_elsif_at_end c.args.may_go_on) not_there (first_token refl c.in-Some.ensures.taken (holds body (takes c.in_ok-expect-2.ensures.took (stops body.same)))))
 
 -- ---- conditional

@@ -3,13 +3,13 @@ use Rattle.rb_builder.specs.Grown.{IsTree, IsRow}
 use Rattle.rb_builder.specs.Literal.{ArePieces, ArePairs}
 use Rattle.rb_builder.specs.Operand.{IsPart}
 use Rattle.rb_cursor.specs.Here.{at_rule}
-use Rattle.rb_cursor.specs.State.{State, answer_at}
+use Rattle.rb_cursor.specs.State.{answer_at}
 use Rattle.rb_grammar.specs.Look.{is, line}
 use Rattle.rb_grammar.specs.Rule.{next_meets}
 use Rattle.rb_phrases.proofs.Loops.{Gone, more_items, more_pairs, GoneOver}
 use Rattle.rb_phrases.specs.Arms.{IsArm, AreArms}
 use Rattle.rb_steps.specs.Tier.{tier_by, rank_of}
-use Rattle.std.proofs.Common.{◌≡◌, ℕ, ◌+◌, ◌*◌, ◌≤◌, length, List, [], true, false}
+use Rattle.std.proofs.Common.{◌≡◌, ◌+◌, ◌*◌, ◌≤◌, length, [], false}
 use Rattle.rb_grammar.specs.Phrase as p
 use Rattle.rb_phrases.proofs.parser.Parser.+phrases.Given as goal
 

@@ -3,6 +3,7 @@ use Rattle.rb_cursor.proofs.Steps.{carry, handed_on, built_low}
 use Rattle.rb_builder.specs.Builder.{walk_of}
 use Rattle.rb_builder.specs.Grown.{IsTree}
 use Rattle.rb_phrases.proofs.Outside as out
+use Rattle.rb_phrases.proofs.Ends as ends
 use Rattle.rb_cursor.proofs.Steps.{through}
 use Rattle.rb_phrases.specs.Arms.{AreArms, choice_of, closed_by}
 use Rattle.std.proofs.lemmas.List.{length-append}
@@ -17,7 +18,7 @@ returns-in_err-choice c = λ a others trees s h i j.
     let parts = out.parted (walk_of c.args.self.make) c.pop.new.self c.in-Some.arm here.left (subst (λ x. AreArms (walk_of c.args.self.make) x here.left) c.in-Some.ensures here.are_left) in
     handed_on (IsTree (walk_of c.args.self.make)) s c.from_residual.result c.from_residual.ensures.1
     (through (here.comes s ∙ out.one_arm c.args.self.levels a here.left parts.front parts.last here.last s parts.split)
-    (out.unbuilt (walk_of c.args.self.make) (choice_of parts.last here.last) c.args.self.levels (closed_by parts.front (choice_of parts.last here.last ∷ []) (out.choosing a)) s c.in_err-choice.field-0.0 (c.in_err-choice.ensures parts.last here.last parts.is_last here.is_last)))
+    (ends.unbuilt (walk_of c.args.self.make) (choice_of parts.last here.last) c.args.self.levels (closed_by parts.front (choice_of parts.last here.last ∷ []) (out.choosing a)) s c.in_err-choice.field-0.0 (c.in_err-choice.ensures parts.last here.last parts.is_last here.is_last)))
 
 pub returns-in_err-rest : goal.returns-in_err-rest
 returns-in_err-rest c = λ a others trees s h i j. handed_on (IsTree (walk_of c.args.self.make)) s c.from_residual-in_err-rest.result (c.from_residual-in_err-rest.ensures.1) (out.memory_fails c.in_err-rest.ensures.memory)

@@ -1,24 +1,10 @@
-use Rattle.std.proofs.Common.{◌≡◌, ℕ, ◌<◌, ◌≤◌, length, arith, refl, sym, ap, ◌∙◌, subst, [], ◌∷◌, ◌++◌, true, false, map}
-use Rattle.rb_grammar.specs.Look as look
-use Rattle.rb_grammar.specs.Tree as tree
+use Rattle.std.proofs.Common.{subst}
 use Rattle.rb_grammar.specs.Phrase as p
-use Rattle.rb_grammar.specs.Scope.{leave}
-use Rattle.rb_grammar.specs.Rule.{done, token, phrase, next_meets}
-use Rattle.rb_grammar.specs.Grammar.{rule, word_of, text_of}
-use Rattle.rb_cursor.specs.Word.{word_by}
-use Rattle.rb_cursor.specs.State.{Came, Reached, answer_at, memory}
-use Rattle.rb_cursor.specs.Here.{at_rule}
-use Rattle.rb_cursor.proofs.Steps.{at_phrase, fails_at, handed_on, takes, takes_word, misses, holds, fails, stops, first_token, second_token, where_it_stood, through, reached_further, leads_to, arrives, over, to_first_token, to_second_token, from_where_it_stood, first, second, Leads, Follows, by_rule, carry}
+use Rattle.rb_grammar.specs.Grammar.{rule}
+use Rattle.rb_cursor.proofs.Steps.{at_phrase, fails_at, handed_on, takes, takes_word, misses, holds, fails}
 use Rattle.rb_builder.specs.Builder.{walk_of}
-use Rattle.rb_builder.specs.Grown.{IsTree, IsRow}
-use Rattle.rb_builder.specs.Script.{IsMethod, AreMembers, IsClass, AreItems}
-use Rattle.rb_steps.specs.Within.{within_method, name_of}
-use Rattle.rb_phrases.proofs.Forms.{fails_inside, stays_shut, opens, took_less, no_longer}
-use Rattle.rb_steps.proofs.Parameters.{wanted_memory}
-use Rattle.rb_phrases.proofs.Scripts.{handed_adds, stops_or_wants, fails_rule, opens_on, leaves, statement_begins, not_true, not_false, made_by, at_the_rule, named_at, read_added, none_added, over_line, reached_rule, reached_in, over_reached}
-use Rattle.rb_grammar.specs.Look.{one_of}
-use Rattle.rb_grammar.specs.Heads.{begins_statement, next_class}
-use Rattle.rb_cursor.proofs.Steps.{to_first, to_second}
+use Rattle.rb_builder.specs.Script.{IsClass}
+use Rattle.rb_phrases.proofs.Scripts.{stops_or_wants}
 use Rattle.rb_phrases.proofs.parser.Parser.class.Goals as goal
 
 pub returns-in_err-name : goal.returns-in_err-name

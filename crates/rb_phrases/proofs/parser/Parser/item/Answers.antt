@@ -1,21 +1,17 @@
-use Rattle.std.proofs.Common.{◌≡◌, ℕ, ◌<◌, ◌≤◌, length, arith, refl, sym, ap, ◌∙◌, subst, [], ◌∷◌, ◌++◌, true, false, map}
+use Rattle.std.proofs.Common.{length, arith, refl, sym, ap, ◌∙◌, true}
 use Rattle.rb_grammar.specs.Look as look
 use Rattle.rb_grammar.specs.Tree as tree
 use Rattle.rb_grammar.specs.Phrase as p
-use Rattle.rb_grammar.specs.Scope.{leave}
-use Rattle.rb_grammar.specs.Rule.{done, token, phrase, next_meets}
-use Rattle.rb_grammar.specs.Grammar.{rule, word_of, text_of}
-use Rattle.rb_cursor.specs.Word.{word_by}
-use Rattle.rb_cursor.specs.State.{Came, Reached, answer_at, memory}
+use Rattle.rb_grammar.specs.Rule.{done, token, phrase}
+use Rattle.rb_grammar.specs.Grammar.{rule}
+use Rattle.rb_cursor.specs.State.{answer_at}
 use Rattle.rb_cursor.specs.Here.{at_rule}
-use Rattle.rb_cursor.proofs.Steps.{at_phrase, fails_at, handed_on, takes, takes_word, misses, holds, fails, stops, first_token, second_token, where_it_stood, through, reached_further, leads_to, arrives, over, to_first_token, to_second_token, from_where_it_stood, first, second, Leads, Follows, by_rule, carry}
-use Rattle.rb_builder.specs.Builder.{walk_of}
-use Rattle.rb_builder.specs.Grown.{IsTree, IsRow}
-use Rattle.rb_builder.specs.Script.{IsMethod, AreMembers, IsClass, AreItems}
-use Rattle.rb_steps.specs.Within.{within_method, name_of}
-use Rattle.rb_phrases.proofs.Forms.{fails_inside, stays_shut, opens, took_less, no_longer}
+use Rattle.rb_cursor.proofs.Steps.{fails_at, fails, first_token, second_token, where_it_stood, leads_to, arrives, to_first_token, to_second_token, from_where_it_stood, first}
+use Rattle.rb_builder.specs.Script.{IsMethod, IsClass}
+use Rattle.rb_phrases.proofs.Forms.{fails_inside, stays_shut, took_less, no_longer}
 use Rattle.rb_steps.proofs.Parameters.{wanted_memory}
-use Rattle.rb_phrases.proofs.Scripts.{handed_adds, stops_or_wants, fails_rule, opens_on, leaves, statement_begins, not_true, not_false, made_by, at_the_rule, named_at, read_added, none_added, over_line, reached_rule, reached_in, over_reached}
+use Rattle.rb_phrases.proofs.Ends.{made_by, over_phrase, over_opened}
+use Rattle.rb_phrases.proofs.Scripts.{handed_adds, statement_begins}
 use Rattle.rb_grammar.specs.Look.{one_of}
 use Rattle.rb_grammar.specs.Heads.{begins_statement, next_class}
 use Rattle.rb_cursor.proofs.Steps.{to_first, to_second}
@@ -42,7 +38,7 @@ returns-in-Some c =
     let class = made_by IsClass c.in_ok-inner.ensures.1 c.in_ok-class.ensures in
     λ found r no_line. record {
       value = tree.with_class found class.value;
-      comes = leads_to c.args.self.levels (p.items found) c.args.cursor.now (answer_at c.args.self.levels (p.items_rest (tree.with_class found class.value)) c.class.new.cursor) (to_second_token refl no_line (to_first_token refl c.in-Some.ensures.taken (opens_on c.in_ok-inner.ensures.0 class (arrives c.args.self.levels (p.items_rest (tree.with_class found class.value)) c.class.new.cursor))));
+      comes = leads_to c.args.self.levels (p.items found) c.args.cursor.now (answer_at c.args.self.levels (p.items_rest (tree.with_class found class.value)) c.class.new.cursor) (to_second_token refl no_line (to_first_token refl c.in-Some.ensures.taken (over_opened c.in_ok-inner.ensures.0 class (arrives c.args.self.levels (p.items_rest (tree.with_class found class.value)) c.class.new.cursor))));
       same = c.in_ok-push_class.ensures.ok found class.value r class.same;
       shorter = omega (arith, took_less c.in-Some.ensures.taken, no_longer c.in_ok-inner.inner.levels p.class_rest c.accept.new.self c.class.new.cursor c.in_ok-class.ensures);
     }
@@ -68,7 +64,7 @@ returns-in-Some-accept c =
     let method = made_by IsMethod c.in_ok-inner-2.ensures.1 c.in_ok-method.ensures in
     λ found r no_line. record {
       value = tree.with_function found method.value;
-      comes = leads_to c.args.self.levels (p.items found) c.args.cursor.now (answer_at c.args.self.levels (p.items_rest (tree.with_function found method.value)) c.method.new.cursor) (to_second_token refl no_line (to_second_token refl c.in_default.ensures.taken.0 (from_where_it_stood c.in_default.ensures.taken.1 (to_first_token refl c.in-Some-accept.ensures.taken (opens_on c.in_ok-inner-2.ensures.0 method (arrives c.args.self.levels (p.items_rest (tree.with_function found method.value)) c.method.new.cursor))))));
+      comes = leads_to c.args.self.levels (p.items found) c.args.cursor.now (answer_at c.args.self.levels (p.items_rest (tree.with_function found method.value)) c.method.new.cursor) (to_second_token refl no_line (to_second_token refl c.in_default.ensures.taken.0 (from_where_it_stood c.in_default.ensures.taken.1 (to_first_token refl c.in-Some-accept.ensures.taken (over_opened c.in_ok-inner-2.ensures.0 method (arrives c.args.self.levels (p.items_rest (tree.with_function found method.value)) c.method.new.cursor))))));
       same = c.in_ok-push_function.ensures.ok found method.value r method.same;
       shorter = omega (arith, ap (λ s. length s.rest) c.in_default.ensures.taken.1, took_less c.in-Some-accept.ensures.taken, no_longer c.in_ok-inner-2.inner.levels p.method_rest c.accept-2.new.self c.method.new.cursor c.in_ok-method.ensures);
     }
@@ -100,7 +96,7 @@ returns c =
     let statement = c.in_ok-statement.ensures in
     λ found r no_line. record {
       value = tree.with_statement found statement.value;
-      comes = leads_to c.args.self.levels (p.items found) c.args.cursor.now (answer_at c.args.self.levels (p.items_rest (tree.with_statement found statement.value)) c.statement.new.cursor) (to_second_token refl no_line (to_second_token refl c.in_default.ensures.taken.0 (from_where_it_stood c.in_default.ensures.taken.1 (to_second_token refl c.in_default-accept.ensures.taken.0 (from_where_it_stood c.in_default-accept.ensures.taken.1 (to_first (statement_begins (λ a. phrase (p.items_rest (tree.with_statement found a)) done) c.accept-2.new.self.rest ∙ sym c.is_statement.ensures ∙ c.if-not-is_statement.false) (over_reached statement (arrives c.args.self.levels (p.items_rest (tree.with_statement found statement.value)) c.statement.new.cursor))))))));
+      comes = leads_to c.args.self.levels (p.items found) c.args.cursor.now (answer_at c.args.self.levels (p.items_rest (tree.with_statement found statement.value)) c.statement.new.cursor) (to_second_token refl no_line (to_second_token refl c.in_default.ensures.taken.0 (from_where_it_stood c.in_default.ensures.taken.1 (to_second_token refl c.in_default-accept.ensures.taken.0 (from_where_it_stood c.in_default-accept.ensures.taken.1 (to_first (statement_begins (λ a. phrase (p.items_rest (tree.with_statement found a)) done) c.accept-2.new.self.rest ∙ sym c.is_statement.ensures ∙ c.if-not-is_statement.false) (over_phrase statement (arrives c.args.self.levels (p.items_rest (tree.with_statement found statement.value)) c.statement.new.cursor))))))));
       same = c.in_ok-push_statement.ensures.ok found statement.value r statement.same;
       shorter = omega (arith, ap (λ s. length s.rest) c.in_default.ensures.taken.1, ap (λ s. length s.rest) c.in_default-accept.ensures.taken.1, no_longer c.args.self.levels p.statement c.accept-2.new.self c.statement.new.cursor statement);
     }

@@ -1,24 +1,17 @@
-use Rattle.std.proofs.Common.{◌≡◌, ℕ, ◌<◌, ◌≤◌, length, arith, refl, sym, ap, ◌∙◌, subst, [], ◌∷◌, ◌++◌, true, false, map}
+use Rattle.std.proofs.Common.{arith, refl, sym, ◌∙◌, subst}
 use Rattle.rb_grammar.specs.Look as look
 use Rattle.rb_grammar.specs.Tree as tree
 use Rattle.rb_grammar.specs.Phrase as p
-use Rattle.rb_grammar.specs.Scope.{leave}
-use Rattle.rb_grammar.specs.Rule.{done, token, phrase, next_meets}
-use Rattle.rb_grammar.specs.Grammar.{rule, word_of, text_of}
-use Rattle.rb_cursor.specs.Word.{word_by}
-use Rattle.rb_cursor.specs.State.{Came, Reached, answer_at, memory}
+use Rattle.rb_grammar.specs.Rule.{done, token, phrase}
+use Rattle.rb_grammar.specs.Grammar.{rule}
 use Rattle.rb_cursor.specs.Here.{at_rule}
-use Rattle.rb_cursor.proofs.Steps.{at_phrase, fails_at, handed_on, takes, takes_word, misses, holds, fails, stops, first_token, second_token, where_it_stood, through, reached_further, leads_to, arrives, over, to_first_token, to_second_token, from_where_it_stood, first, second, Leads, Follows, by_rule, carry}
+use Rattle.rb_cursor.proofs.Steps.{handed_on, takes, misses, stops, where_it_stood, through, reached_further}
 use Rattle.rb_builder.specs.Builder.{walk_of}
-use Rattle.rb_builder.specs.Grown.{IsTree, IsRow}
-use Rattle.rb_builder.specs.Script.{IsMethod, AreMembers, IsClass, AreItems}
-use Rattle.rb_steps.specs.Within.{within_method, name_of}
-use Rattle.rb_phrases.proofs.Forms.{fails_inside, stays_shut, opens, took_less, no_longer}
-use Rattle.rb_steps.proofs.Parameters.{wanted_memory}
-use Rattle.rb_phrases.proofs.Scripts.{handed_adds, stops_or_wants, fails_rule, opens_on, leaves, statement_begins, not_true, not_false, made_by, at_the_rule, named_at, read_added, none_added, over_line, reached_rule, reached_in, over_reached}
+use Rattle.rb_builder.specs.Script.{AreMembers}
+use Rattle.rb_phrases.proofs.Forms.{took_less}
+use Rattle.rb_phrases.proofs.Ends.{fails_at_the_rule, reached_rule}
+use Rattle.rb_phrases.proofs.Scripts.{read_added, none_added, over_line}
 use Rattle.rb_grammar.specs.Look.{one_of}
-use Rattle.rb_grammar.specs.Heads.{begins_statement, next_class}
-use Rattle.rb_cursor.proofs.Steps.{to_first, to_second}
 use Rattle.rb_phrases.proofs.parser.Parser.members.Goals as goal
 
 pub members-init : goal.members-init
@@ -54,14 +47,14 @@ unfolding rule
 returns-in_err-expect c =
     let added = read_added _ _ c.in_ok-member.field-0 c.if-branch.true (c.in_ok-member.ensures c.members.invariant.value c.members.invariant.same) in
     handed_on _ _ c.from_residual-in_err-expect.result c.from_residual-in_err-expect.ensures.1
-    (through c.members.invariant.comes (through added.comes (fails_rule c.args.self.levels (token (look.is look.line) (λ l. phrase (p.members_rest added.value) done)) (misses c.in_err-expect.ensures.took))))
+    (through c.members.invariant.comes (through added.comes (fails_at_the_rule c.args.self.levels (token (look.is look.line) (λ l. phrase (p.members_rest added.value) done)) (misses c.in_err-expect.ensures.took))))
 
 pub returns-in_err-expect-2 : goal.returns-in_err-expect-2
 unfolding rule
 returns-in_err-expect-2 c =
     let none = none_added (AreMembers (walk_of c.args.self.make)) (λ more. at_rule c.args.self.levels (token (look.is look.line) (λ l. phrase (p.members_rest more) done)) c.member.new.cursor) c.in_ok-member.field-0 c.if-branch.false (c.in_ok-member.ensures c.members.invariant.value c.members.invariant.same) in
     handed_on _ _ c.from_residual-in_err-expect-2.result c.from_residual-in_err-expect-2.ensures.1
-    (through c.members.invariant.comes (through none.comes (fails_rule c.args.self.levels (token (look.is look.end_word) (λ t. done c.members.invariant.value)) (where_it_stood none.stays (misses c.in_err-expect-2.ensures.took)))))
+    (through c.members.invariant.comes (through none.comes (fails_at_the_rule c.args.self.levels (token (look.is look.end_word) (λ t. done c.members.invariant.value)) (where_it_stood none.stays (misses c.in_err-expect-2.ensures.took)))))
 
 pub returns : goal.returns
 unfolding rule

@@ -1,4 +1,4 @@
-use Rattle.std.proofs.Common.{ℕ, length}
+use Rattle.std.proofs.Common.{length}
 use Rattle.rb_grammar.specs.Tree as tree
 use Rattle.rb_grammar.specs.Phrase as p
 use Rattle.rb_cursor.specs.State.{answer_at}

@@ -1,24 +1,16 @@
-use Rattle.std.proofs.Common.{◌≡◌, ℕ, ◌<◌, ◌≤◌, length, arith, refl, sym, ap, ◌∙◌, subst, [], ◌∷◌, ◌++◌, true, false, map}
+use Rattle.std.proofs.Common.{arith, refl, sym, ◌∙◌, subst}
 use Rattle.rb_grammar.specs.Look as look
 use Rattle.rb_grammar.specs.Tree as tree
 use Rattle.rb_grammar.specs.Phrase as p
-use Rattle.rb_grammar.specs.Scope.{leave}
-use Rattle.rb_grammar.specs.Rule.{done, token, phrase, next_meets}
-use Rattle.rb_grammar.specs.Grammar.{rule, word_of, text_of}
-use Rattle.rb_cursor.specs.Word.{word_by}
-use Rattle.rb_cursor.specs.State.{Came, Reached, answer_at, memory}
-use Rattle.rb_cursor.specs.Here.{at_rule}
-use Rattle.rb_cursor.proofs.Steps.{at_phrase, fails_at, handed_on, takes, takes_word, misses, holds, fails, stops, first_token, second_token, where_it_stood, through, reached_further, leads_to, arrives, over, to_first_token, to_second_token, from_where_it_stood, first, second, Leads, Follows, by_rule, carry}
+use Rattle.rb_grammar.specs.Rule.{done, token}
+use Rattle.rb_grammar.specs.Grammar.{rule}
+use Rattle.rb_cursor.specs.State.{answer_at}
+use Rattle.rb_cursor.proofs.Steps.{fails_at, handed_on, takes, misses, stops, second_token, where_it_stood, through, reached_further}
 use Rattle.rb_builder.specs.Builder.{walk_of}
-use Rattle.rb_builder.specs.Grown.{IsTree, IsRow}
-use Rattle.rb_builder.specs.Script.{IsMethod, AreMembers, IsClass, AreItems}
-use Rattle.rb_steps.specs.Within.{within_method, name_of}
-use Rattle.rb_phrases.proofs.Forms.{fails_inside, stays_shut, opens, took_less, no_longer}
-use Rattle.rb_steps.proofs.Parameters.{wanted_memory}
-use Rattle.rb_phrases.proofs.Scripts.{handed_adds, stops_or_wants, fails_rule, opens_on, leaves, statement_begins, not_true, not_false, made_by, at_the_rule, named_at, read_added, none_added, over_line, reached_rule, reached_in, over_reached}
+use Rattle.rb_builder.specs.Script.{AreItems}
+use Rattle.rb_phrases.proofs.Ends.{fails_at_the_rule, reached_rule, reached_at}
+use Rattle.rb_phrases.proofs.Scripts.{read_added, none_added}
 use Rattle.rb_grammar.specs.Look.{one_of}
-use Rattle.rb_grammar.specs.Heads.{begins_statement, next_class}
-use Rattle.rb_cursor.proofs.Steps.{to_first, to_second}
 use Rattle.rb_phrases.proofs.parser.Parser.script.Goals as goal
 
 pub items-init : goal.items-init
@@ -37,7 +29,7 @@ unfolding rule
 returns-in_err-expect c =
     let none = none_added (AreItems (walk_of c.args.self.make)) (λ more. answer_at c.args.self.levels (p.items_rest more) c.item.new.cursor) c.in_ok-item.field-0 c.if-not-branch.true (c.in_ok-item.ensures c.items.invariant.0.value c.items.invariant.0.same c.items.invariant.1) in
     handed_on _ _ c.from_residual-in_err-expect.result c.from_residual-in_err-expect.ensures.1
-    (through c.items.invariant.0.comes (through none.comes (fails_rule c.args.self.levels (token (look.is look.end) (λ t. done c.items.invariant.0.value)) (where_it_stood none.stays (misses c.in_err-expect.ensures.took)))))
+    (through c.items.invariant.0.comes (through none.comes (fails_at_the_rule c.args.self.levels (token (look.is look.end) (λ t. done c.items.invariant.0.value)) (where_it_stood none.stays (misses c.in_err-expect.ensures.took)))))
 
 pub returns-then-not-branch : goal.returns-then-not-branch
 unfolding rule
@@ -58,7 +50,7 @@ unfolding rule
 returns-then-not-skip_lines c =
     let added = read_added _ _ c.in_ok-item.field-0 c.if-not-branch.false (c.in_ok-item.ensures c.items.invariant.0.value c.items.invariant.0.same c.items.invariant.1) in
     let skipped = c.skip_lines-in-items.ensures.skipped in
-    reached_further c.items.invariant.0.comes (reached_further added.comes (reached_in c.args.self.levels (p.items_rest added.value) (where_it_stood (skipped.none c.if-not-skip_lines.true) (second_token refl skipped.behind (takes c.in_ok-expect-2.ensures.took (stops added.same))))))
+    reached_further c.items.invariant.0.comes (reached_further added.comes (reached_at c.args.self.levels (p.items_rest added.value) (where_it_stood (skipped.none c.if-not-skip_lines.true) (second_token refl skipped.behind (takes c.in_ok-expect-2.ensures.took (stops added.same))))))
 
 pub items-smaller : goal.items-smaller
 unfolding rule

@@ -1,4 +1,4 @@
-use Rattle.std.proofs.Common.{◌≡◌, ℕ, length, false}
+use Rattle.std.proofs.Common.{◌≡◌, length, false}
 use Rattle.rb_grammar.specs.Look.{is, line}
 use Rattle.rb_grammar.specs.Rule.{next_meets}
 use Rattle.rb_grammar.specs.Tree as tree
