@@ -1,0 +1,15 @@
+pub mod Names
+pub mod Sets
+pub mod Fault
+pub mod Events
+pub mod Bodies
+pub mod Around
+pub mod Rules
+pub mod Owners
+pub mod Twice
+pub mod Crowd
+pub mod Locals
+pub mod Settled
+pub mod Texts
+pub mod Misplaced
+pub mod Check

@@ -1,0 +1,21 @@
+//! The rules of names: what a script may call, make, leave and define. Of the rules that `specs/Check.antt` has, those about captured
+//! locals, about parameters and about how many variables and classes there may be are not looked at yet.
+#![tactic(auto)]
+
+mod bodies;
+mod event;
+mod fault;
+mod first;
+mod gather;
+mod misplaced;
+mod repeated;
+mod rules;
+mod sets;
+#[cfg(test)]
+mod tests;
+
+pub use bodies::Bodies;
+pub use event::{Around, Event, Sight};
+pub use fault::CheckFault;
+pub use misplaced::find_misplaced;
+pub use repeated::find_repeated;
