@@ -7,11 +7,11 @@ use Rattle.rb_checker.specs.declared.event.Sight.TheVariants as sight
 use Rattle.rb_checker.specs.declared.event.Around.{Around as Enclosure}
 use Rattle.rb_checker.specs.declared.event.Around.TheVariants as around
 
--- what begins here, the innermost first, each with its place
+-- what stands round a part of the text, the innermost first, each with its place
 abbrev pub Open : Type 0
 Open = List (Enclosure × Span)
 
--- what is round behind an event
+-- what stands round the text behind an event
 abbrev pub behind : Open → Sight → Span → Open
 behind round (sight.Begins a) at = (a, at) ∷ round
 behind round sight.Ends at = drop 1 round

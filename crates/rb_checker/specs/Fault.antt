@@ -13,7 +13,6 @@ place_of (fault.TooManyFields at) = at.from
 place_of (fault.TooManyClasses at) = at.from
 place_of (fault.BreakOutside at) = at.from
 place_of (fault.SelfOutside at) = at.from
-place_of fault.Memory = 0
 
 -- the number of a refusal, among those of a script
 abbrev pub number_of : CheckFault → ℕ
@@ -25,7 +24,6 @@ number_of (fault.TooManyFields at) = 13
 number_of (fault.TooManyClasses at) = 14
 number_of (fault.BreakOutside at) = 15
 number_of (fault.SelfOutside at) = 16
-number_of fault.Memory = 0
 
 -- whether a fault counts before another: it stands before it, or at its place and has the lower number
 abbrev pub is_before : CheckFault → CheckFault → Bool

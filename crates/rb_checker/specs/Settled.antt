@@ -16,19 +16,19 @@ opens scope (around.Block, at) = same_scope scope (Some at.from)
 opens scope (around.Thread, at) = same_scope scope (Some at.from)
 opens scope other = false
 
--- what is round inside the scope of a local
+-- of what stands round, that which is inside the scope of a local
 abbrev pub within : Option ℕ → Open → Open
 within scope [] = []
 within scope (a ∷ outer) = if opens scope a then [] else a ∷ within scope outer
 
--- whether this is a loop or a block, and round there too
+-- whether this is a loop or a block, and among what stands round there
 abbrev pub holds : Open → Enclosure × Span → Bool
 holds round (around.Loop, at) = list_any (λ (b : Enclosure × Span). elim b.0 [ around.Loop ↦ b.1.from == at.from | other ↦ false ]) round
 holds round (around.Block, at) = list_any (λ (b : Enclosure × Span). elim b.0 [ around.Block ↦ b.1.from == at.from | other ↦ false ]) round
 holds round (around.Thread, at) = list_any (λ (b : Enclosure × Span). elim b.0 [ around.Thread ↦ b.1.from == at.from | other ↦ false ]) round
 holds round (around.Value name, at) = false
 
--- whether the right side of an assignment to a local is round
+-- whether the right side of an assignment to a local is among what stands round
 abbrev pub in_value_of : List Local → Local → Open → Bool
 in_value_of known v [] = false
 in_value_of known v ((around.Value name, at) ∷ outer) =

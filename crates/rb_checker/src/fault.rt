@@ -21,6 +21,4 @@ pub enum CheckFault {
     BreakOutside(Span),
     /// `self` or an instance variable outside the methods of classes.
     SelfOutside(Span),
-    /// Want of memory.
-    Memory,
 }

@@ -19,7 +19,6 @@ fn rank(fault: CheckFault) -> (u32, u8)
         CheckFault::TooManyClasses(at) => (at.from, 14),
         CheckFault::BreakOutside(at) => (at.from, 15),
         CheckFault::SelfOutside(at) => (at.from, 16),
-        CheckFault::Memory => (0, 0),
     }
 }
 

@@ -61,9 +61,9 @@ fn two_walks(alloc: Global, tokens: &[Token]) -> Result<Program, ParseFault>
 /// integer is negative.
 ///
 /// # Errors
-/// `Syntax` at the first token with which no script can go on, and `TooNested` where one does and a limit is passed: a node
-/// is no more than 64 high, and no more than 64 things are open at once. Where tokens have both faults, the one that comes
-/// first in reading is told. `Memory` where memory is refused.
+/// `Syntax` at a token with which no script goes on behind the tokens before it, and `TooNested` where a limit is passed: a
+/// node is no more than 64 high, and no more than 64 things are open at once. Tests show that the token is the first such
+/// one, and that of both faults the one is told that comes first in reading. `Memory` where memory is refused.
 pub fn parse(alloc: Global, tokens: &[Token]) -> Result<Program, ParseFault>
     requires natural { AllByRecursion IsNatural tokens.now }
     requires ends { EndsOnce tokens.now }
