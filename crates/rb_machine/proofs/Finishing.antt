@@ -1,0 +1,77 @@
+-- Every script with a budget of steps finishes.
+use Rattle.std.proofs.Common.{◌≡◌, ◌<◌, ◌⊎◌, inl, inr, ℕ, ◌+◌, List, [], ◌∷◌, ◌++◌, Option, Some, None, refl, arith}
+use Rattle.rb_tree.specs.declared.span.Span.{Span}
+use Rattle.rb_model.specs.Values.{Reference, To}
+use Rattle.rb_model.specs.Acts.{Act, Reply, Done}
+use Rattle.rb_model.specs.Acts as reply
+use Rattle.rb_model.specs.Ends as ending
+use Rattle.rb_model.specs.Things.{Thing, gives}
+use Rattle.rb_model.specs.Private.{Private, held}
+use Rattle.rb_machine.specs.Scopes.{Script, Scope}
+use Rattle.rb_machine.specs.Control.{State, On, Cont, Eval, Give, Leave, Following, Looping, Turning, Passing, Joining, Making, Calling, Showing, Ended}
+use Rattle.rb_machine.specs.Move.{Next, Go, Make, Ask, Show, Stop, move, replied, answered, left_in}
+use Rattle.rb_machine.specs.Follows.{next_thing}
+use Rattle.rb_machine.specs.Alone.{Runs, begins, goes, makes, acts, shows, opening, globals_alone, Alone}
+use Rattle.rb_machine.specs.Laws.{Finishes, ends, misses, AlwaysFinishes}
+use Rattle.rb_machine.proofs.Measure.{size, weights}
+use Rattle.rb_machine.proofs.Down.{Less, Down, down, by_less}
+
+module _ (S : Script) (N : ℕ) where
+  -- a state where a want was has more to do than what is behind the reply
+  abbrev Wants : Next → Type 0
+  Wants (Go t) = ⊥
+  Wants (Stop how) = ⊥
+  Wants want = Unit {0}
+
+  answered_less : (r : Reply) (at : Span) (k : List Cont) (sc : Scope) (d left : ℕ) → (left_in (answered r at k sc d left) ≡ left) × (size (answered r at k sc d left) < 3 + weights k)
+  answered_less (reply.Value v) at k sc d left = (refl, omega arith)
+  answered_less (reply.Elements vs) at k sc d left = (refl, omega arith)
+  answered_less (reply.Pairs ps) at k sc d left = (refl, omega arith)
+  answered_less reply.Done at k sc d left = (refl, omega arith)
+  answered_less (reply.Ended (ending.Value v)) at k sc d left = (refl, omega arith)
+  answered_less (reply.Ended (ending.Raised f p)) at k sc d left = (refl, omega arith)
+  answered_less (reply.Ended ending.Steps) at k sc d left = (refl, omega arith)
+  answered_less (reply.Ended (ending.Full a b)) at k sc d left = (refl, omega arith)
+  answered_less (reply.Ended ending.Sink) at k sc d left = (refl, omega arith)
+  answered_less (reply.Ended ending.Memory) at k sc d left = (refl, omega arith)
+  answered_less (reply.Failed f) at k sc d left = (refl, omega arith)
+
+  reply_less : (s : State) (r : Reply) → Wants (move S s) → Less S (replied s r) s
+  reply_less (On (Making thing) k sc d left) r h = inr (answered_less r _ k sc d left)
+  reply_less (On (Calling thing act at) k sc d left) r h = inr (answered_less r at k sc d left)
+  reply_less (On (Showing bytes) k sc d left) r h = inr (refl, omega arith)
+  reply_less (On (Ended how) k sc d left) r h = absurd h
+  reply_less (On (Eval n) k sc d left) r h = absurd h
+  reply_less (On (Give v) [] sc d left) r h = absurd h
+  reply_less (On (Give v) (c ∷ k) sc d left) r h = absurd h
+  reply_less (On (Leave e) [] sc d left) r h = absurd h
+  reply_less (On (Leave e) (c ∷ k) sc d left) r h = absurd h
+  reply_less (On (Following v []) k sc d left) r h = absurd h
+  reply_less (On (Following v (n ∷ ns)) k sc d left) r h = absurd h
+  reply_less (On (Looping condition body) k sc d left) r h = absurd h
+  reply_less (On (Turning turns block) k sc d left) r h = absurd h
+  reply_less (On (Passing aim done [] at) k sc d left) r h = absurd h
+  reply_less (On (Passing aim done (n ∷ ns) at) k sc d left) r h = absurd h
+  reply_less (On (Joining bytes [] at) k sc d left) r h = absurd h
+  reply_less (On (Joining bytes (p ∷ ps) at) k sc d left) r h = absurd h
+
+  abbrev Run : State → Type 0
+  Run s = (b : List ℕ) (h : Private) → Runs S N b h s → Finishes S N
+
+  asked : (s : State) (q : Reference) (act : Act) (thing : Option Thing) (b : List ℕ) (h : Private) → Runs S N b h s → move S s ≡ Ask q act → held h q.id ≡ thing
+      → ((r : Reply) → Run (replied s r)) → Finishes S N
+  asked s q act None b h run e f later = misses b h s q act run e f
+  asked s q act (Some thing) b h run e f later = later (gives thing act) _ _ (acts b h s q act thing run e f)
+
+  step : (s : State) (next : Next) → move S s ≡ next → Down S s next → (Wants next → (r : Reply) → Run (replied s r)) → ((t : State) → Less S t s → Run t) → Run s
+  step s (Go t) e d reply later b h run = later t d b h (goes b h s t run e)
+  step s (Make thing) e d reply later b h run = reply tt _ _ _ (makes b h s thing run e)
+  step s (Ask q act) e d reply later b h run = asked s q act (held h q.id) b h run e refl (reply tt)
+  step s (Show bytes) e d reply later b h run = reply tt Done _ _ (shows b h s bytes run e)
+  step s (Stop how) e d reply later b h run = ends b how _ (record { store = h; last = s; run = run; ends = e; counted = refl })
+
+  pub finishes : Finishes S N
+  finishes = by_less S Run (λ s later. step s (move S s) refl (down S s) (λ w r. later (replied s r) (reply_less s r w)) later) (opening S N) [] globals_alone begins
+
+pub always_finishes : AlwaysFinishes
+always_finishes S N = finishes S N

@@ -1,0 +1,180 @@
+-- Calls: which method is found, how its body begins, what a built-in one does, and what `puts`, `print` and `p` show.
+use Rattle.std.specs.Prelude.{ℕ, Bool, true, false, nat_eq, nat_lt, if◌then◌else◌, List, [], ◌∷◌, ◌++◌, length, take, Option, Some, None, find, slice_get, unwrap_or, codes}
+use Rattle.std.specs.Option.{option_map}
+use Rattle.std.specs.Str.{bytes_eq}
+use Rattle.rb_tree.specs.declared.span.Span.{Span}
+use Rattle.rb_tree.specs.declared.span.NameId.{NameId}
+use Rattle.rb_tree.specs.declared.node.AssignOp.{AssignOp}
+use Rattle.rb_tree.specs.declared.node.AssignOp.TheVariants as op
+use Rattle.rb_tree.specs.declared.node.Node.{Node}
+use Rattle.rb_tree.specs.declared.node.Block.{Block}
+use Rattle.rb_tree.specs.declared.node.Method.{Method}
+use Rattle.rb_tree.specs.declared.node.Class.{Class}
+use Rattle.rb_model.specs.declared.value.Sort.{Sort}
+use Rattle.rb_model.specs.declared.value.Sort.TheVariants as sort
+use Rattle.rb_model.specs.declared.fault.Fault.{Fault}
+use Rattle.rb_model.specs.declared.fault.Fault.TheVariants.{NoMethod, ArgumentCount, TextTooLong}
+use Rattle.rb_model.specs.Values.{Value, Nil, To, Reference, truthy}
+use Rattle.rb_model.specs.Acts.{Act, GetField, SetField}
+use Rattle.rb_model.specs.Ends.{End, Raised}
+use Rattle.rb_model.specs.Things as thing
+use Rattle.rb_machine.specs.Scopes.{Script, Text, Scope, text_of, or_else, look, assign, fresh, with_locals}
+use Rattle.rb_machine.specs.Control.{State, On, Cont, Then, Frame, Step, Eval, Give, Following, Turning, Calling, Showing, Ended, Aim, OnReceiver, ByName, Storing, Instead, Create, Place, OfLocal, OfField, OfGlobal, OfElement, OfAttribute, ReadOf, RightOf, WriteTo}
+use Rattle.rb_machine.specs.Texts.{max_bytes, puts_text, print_text, p_text}
+use Rattle.rb_machine.specs.Methods.{Answer, Gives, Raises, Loops, deed}
+
+-- the end of a thread
+abbrev pub ended : End → ℕ → State
+ended e left = On (Ended e) [] (record { me = Nil; locals = [] }) 0 left
+
+abbrev pub raised : Fault → Span → ℕ → State
+raised fault at left = ended (Raised fault at) left
+
+-- what the language has and the machine does not mean yet; no accepted script has it
+abbrev pub unbuilt : Span → ℕ → State
+unbuilt at left = raised NoMethod at left
+
+-- the global variables are the fields of one thing
+abbrev pub globals : Reference
+globals = record { sort = sort.Object 4294967295; id = record { thread = 0; serial = 0 } }
+
+-- something is asked of a thing
+abbrev pub ask : Reference → Act → Span → List Cont → Scope → ℕ → ℕ → State
+ask thing act at k sc d left = On (Calling thing act at) k sc d left
+
+-- something is asked of a value; only things have fields
+abbrev pub ask_of : Value → Act → Span → List Cont → Scope → ℕ → ℕ → State
+ask_of (To thing) act at k sc d left = ask thing act at k sc d left
+ask_of v act at k sc d left = raised NoMethod at left
+
+-- something is asked of `self`
+abbrev pub own_field : Act → Span → List Cont → Scope → ℕ → ℕ → State
+own_field act at k sc d left = ask_of sc.me act at k sc d left
+
+module _ (S : Script) where
+  -- ---- methods of the script
+
+  abbrev pub named : Text → List Method → Option Method
+  named name methods = find (λ (m : Method). bytes_eq (text_of S m.name) name) methods
+
+  abbrev pub methods_in : Option Class → List Method
+  methods_in None = []
+  methods_in (Some class) = class.methods
+
+  abbrev pub methods_of_sort : Sort → List Method
+  methods_of_sort (sort.Object class) = methods_in (slice_get S.program.classes class)
+  methods_of_sort other = []
+
+  -- the methods that the class of a value has in the script
+  abbrev pub methods_of : Value → List Method
+  methods_of (To thing) = methods_of_sort thing.sort
+  methods_of v = []
+
+  -- a method begins with its arguments, where they are as many as its parameters
+  abbrev pub enter : Method → Value → List Value → Span → List Cont → Scope → ℕ → ℕ → State
+  enter m me args at k sc d left =
+      if nat_eq (length args) (length m.params)
+      then On (Following Nil m.body) (Frame sc ∷ k) (record { me = me; locals = fresh (S.method_names m) args }) d left
+      else raised ArgumentCount at left
+
+  -- ---- methods of a receiver
+
+  abbrev pub params_of : Option Block → Option ℕ
+  params_of block = option_map (λ (b : Block). length b.params) block
+
+  -- what a built-in method answers
+  abbrev pub answered : Answer → Option Block → Span → List Cont → Scope → ℕ → ℕ → State
+  answered (Gives v) block at k sc d left = On (Give v) k sc d left
+  answered (Raises fault) block at k sc d left = raised fault at left
+  answered (Loops turns) (Some block) at k sc d left = On (Turning turns block) k sc d left
+  answered (Loops turns) None at k sc d left = raised ArgumentCount at left
+
+  -- a method of the script takes no block
+  abbrev pub invoked : Option Method → Value → Text → List Value → Option Block → Span → List Cont → Scope → ℕ → ℕ → State
+  invoked (Some m) receiver name args None at k sc d left = enter m receiver args at k sc d left
+  invoked (Some m) receiver name args (Some block) at k sc d left = raised NoMethod at left
+  invoked None receiver name args block at k sc d left = answered (deed S receiver name args (params_of block)) block at k sc d left
+
+  -- a method of a receiver is called: one of its class, or one that is built in
+  abbrev pub invoke : Value → Text → List Value → Option Block → Span → List Cont → Scope → ℕ → ℕ → State
+  invoke receiver name args block at k sc d left = invoked (named name (methods_of receiver)) receiver name args block at k sc d left
+
+  -- ---- methods by their names alone
+
+  -- bytes are shown by one print, where there are any, and then the call has its value
+  abbrev pub show : Text → Step → Span → List Cont → Scope → ℕ → ℕ → State
+  show [] after at k sc d left = On (Give Nil) (Then after ∷ k) sc d left
+  show (b ∷ bs) after at k sc d left =
+      if nat_lt max_bytes (length (b ∷ bs)) then raised TextTooLong at left else On (Showing (b ∷ bs)) (Then after ∷ k) sc d left
+
+  -- the value of a call of `p`
+  abbrev pub value_of_p : List Value → Step
+  value_of_p [] = Instead Nil
+  value_of_p (v ∷ []) = Instead v
+  value_of_p (v ∷ w ∷ vs) = Create (thing.Elements (v ∷ w ∷ vs))
+
+  -- `puts`, `print` and `p`
+  abbrev pub print : Text → List Value → Span → List Cont → Scope → ℕ → ℕ → State
+  print name args at k sc d left =
+      if bytes_eq name (codes "puts") then show (puts_text S args) (Instead Nil) at k sc d left
+      else (if bytes_eq name (codes "print") then show (print_text S args) (Instead Nil) at k sc d left
+      else (if bytes_eq name (codes "p") then show (p_text S args) (value_of_p args) at k sc d left
+      else raised NoMethod at left))
+
+  abbrev pub top_level : Option Method → Text → List Value → Span → List Cont → Scope → ℕ → ℕ → State
+  top_level (Some m) name args at k sc d left = enter m Nil args at k sc d left
+  top_level None name args at k sc d left = print name args at k sc d left
+
+  abbrev pub own : Option Method → Text → List Value → Span → List Cont → Scope → ℕ → ℕ → State
+  own (Some m) name args at k sc d left = enter m sc.me args at k sc d left
+  own None name args at k sc d left = top_level (named name S.program.functions) name args at k sc d left
+
+  -- a call without receiver finds a method of the class of `self`, one of the top level, which has no `self`, or one that prints
+  abbrev pub call_by_name : Text → List Value → Span → List Cont → Scope → ℕ → ℕ → State
+  call_by_name name args at k sc d left = own (named name (methods_of sc.me)) name args at k sc d left
+
+  -- the last of values
+  abbrev pub last_value : List Value → Value
+  last_value [] = Nil
+  last_value (v ∷ []) = v
+  last_value (v ∷ w ∷ vs) = last_value (w ∷ vs)
+
+  -- the arguments are evaluated
+  abbrev pub perform : Aim → List Value → Span → List Cont → Scope → ℕ → ℕ → State
+  perform (OnReceiver receiver name block) args at k sc d left = invoke receiver name args block at k sc d left
+  perform (ByName name) args at k sc d left = call_by_name name args at k sc d left
+  perform (Storing receiver name) args at k sc d left = invoke receiver name args None at (Then (Instead (last_value args)) ∷ k) sc d left
+
+  -- ---- assignments with an operator
+
+  abbrev pub operator : AssignOp → Text
+  operator op.Plus = codes "+"
+  operator op.Minus = codes "-"
+  operator op.Times = codes "*"
+  operator op.Over = codes "/"
+  operator op.Modulo = codes "%"
+  operator op.OrElse = []
+  operator op.AndThen = []
+
+  -- the target is read
+  abbrev pub read_place : Place → AssignOp → Node → Span → List Cont → Scope → ℕ → ℕ → State
+  read_place (OfLocal name) o value at k sc d left = On (Give (look name sc.locals)) (Then (ReadOf (OfLocal name) o value at) ∷ k) sc d left
+  read_place (OfField name) o value at k sc d left = own_field (GetField name) at (Then (ReadOf (OfField name) o value at) ∷ k) sc d left
+  read_place (OfGlobal name) o value at k sc d left = ask globals (GetField name) at (Then (ReadOf (OfGlobal name) o value at) ∷ k) sc d left
+  read_place (OfElement receiver index) o value at k sc d left =
+      invoke receiver (codes "[]") (index ∷ []) None at (Then (ReadOf (OfElement receiver index) o value at) ∷ k) sc d left
+  read_place (OfAttribute receiver name) o value at k sc d left = invoke receiver name [] None at (Then (ReadOf (OfAttribute receiver name) o value at) ∷ k) sc d left
+
+  -- `||=` goes on only where the target is false or nil, and `&&=` only where it is not; other operators are applied to the target and the right side
+  abbrev pub decide : Value → Place → AssignOp → Node → Span → List Cont → Scope → ℕ → ℕ → State
+  decide v place op.OrElse value at k sc d left = if truthy v then On (Give v) k sc d left else On (Eval value) (Then (WriteTo place at) ∷ k) sc d left
+  decide v place op.AndThen value at k sc d left = if truthy v then On (Eval value) (Then (WriteTo place at) ∷ k) sc d left else On (Give v) k sc d left
+  decide v place o value at k sc d left = On (Eval value) (Then (RightOf v o at) ∷ Then (WriteTo place at) ∷ k) sc d left
+
+  -- the target is written, and the value written is the value of the assignment
+  abbrev pub write_place : Value → Place → Span → List Cont → Scope → ℕ → ℕ → State
+  write_place v (OfLocal name) at k sc d left = On (Give v) k (with_locals sc (assign name v sc.locals)) d left
+  write_place v (OfField name) at k sc d left = own_field (SetField name v) at (Then (Instead v) ∷ k) sc d left
+  write_place v (OfGlobal name) at k sc d left = ask globals (SetField name v) at (Then (Instead v) ∷ k) sc d left
+  write_place v (OfElement receiver index) at k sc d left = invoke receiver (codes "[]=") (index ∷ v ∷ []) None at (Then (Instead v) ∷ k) sc d left
+  write_place v (OfAttribute receiver name) at k sc d left = invoke receiver (name ++ codes "=") (v ∷ []) None at (Then (Instead v) ∷ k) sc d left

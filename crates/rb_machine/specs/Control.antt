@@ -1,0 +1,99 @@
+-- What the machine is at, and what waits behind it.
+use Rattle.std.specs.Prelude.{ℕ, ℤ, List, Option}
+use Rattle.rb_tree.specs.declared.span.Span.{Span}
+use Rattle.rb_tree.specs.declared.span.NameId.{NameId}
+use Rattle.rb_tree.specs.declared.node.AssignOp.{AssignOp}
+use Rattle.rb_tree.specs.declared.node.Node.{Node}
+use Rattle.rb_tree.specs.declared.node.Piece.{Piece}
+use Rattle.rb_tree.specs.declared.node.Block.{Block}
+use Rattle.rb_model.specs.Values.{Value, Reference}
+use Rattle.rb_model.specs.Acts.{Act}
+use Rattle.rb_model.specs.Ends.{End}
+use Rattle.rb_model.specs.Things.{Thing}
+use Rattle.rb_machine.specs.Scopes.{Scope, Text}
+
+-- how a part of a script is left without a value of its own
+pub data Exit : Type 0 where
+  Break : Exit
+  Next : Exit
+  Return : (value : Value) → Exit
+
+-- what arguments are evaluated for: the call of a method of a receiver, of a method by its name alone, or an assignment by a call,
+-- whose value is the last argument
+pub data Aim : Type 0 where
+  OnReceiver : (receiver : Value) (name : Text) (block : Option Block) → Aim
+  ByName : (name : Text) → Aim
+  Storing : (receiver : Value) (name : Text) → Aim
+
+-- what an assignment with an operator reads and writes, once its parts are evaluated
+pub data Place : Type 0 where
+  OfLocal : (name : NameId) → Place
+  OfField : (name : NameId) → Place
+  OfGlobal : (name : NameId) → Place
+  OfElement : (receiver index : Value) → Place
+  OfAttribute : (receiver : Value) (name : Text) → Place
+
+-- what the iterations of a block are given, and what its call answers in the end: the integers from the next up to those below the last
+pub data Turns : Type 0 where
+  Counting : (next last : ℤ) (answer : Value) → Turns
+
+-- what is done with a value inside a node
+pub data Step : Type 0 where
+  AssignTo : (name : NameId) → Step
+  FieldTo : (name : NameId) (at : Span) → Step
+  GlobalTo : (name : NameId) (at : Span) → Step
+  -- the statements behind a value
+  Rest : (nodes : List Node) → Step
+  Choose : (first second : List Node) → Step
+  RightOfAnd : (right : Node) → Step
+  RightOfOr : (right : Node) → Step
+  Negate : Step
+  ReturnOf : Step
+  ReceiverOf : (name : Text) (args : List Node) (block : Option Block) (at : Span) → Step
+  ReceiverToStore : (name : Text) (args : List Node) (at : Span) → Step
+  Argument : (aim : Aim) (done : List Value) (rest : List Node) (at : Span) → Step
+  -- another value in its place
+  Instead : (value : Value) → Step
+  Create : (thing : Thing) → Step
+  PieceOf : (bytes : List ℕ) (pieces : List Piece) (at : Span) → Step
+  -- an assignment with an operator: the receiver of its target, the index, the value that the target has, the right side, the value to write
+  IndexedBy : (index : Node) (op : AssignOp) (value : Node) (at : Span) → Step
+  MemberOf : (name : Text) (op : AssignOp) (value : Node) (at : Span) → Step
+  IndexOf : (receiver : Value) (op : AssignOp) (value : Node) (at : Span) → Step
+  ReadOf : (place : Place) (op : AssignOp) (value : Node) (at : Span) → Step
+  RightOf : (current : Value) (op : AssignOp) (at : Span) → Step
+  WriteTo : (place : Place) (at : Span) → Step
+
+-- What waits: a step inside a node; or what an exit may end: a node, begun at this depth; the condition and the body of a loop; an
+-- iteration of a block, with so many locals round it, and those that are left; a method, with the scope that called it.
+pub data Cont : Type 0 where
+  Then : (step : Step) → Cont
+  Under : (depth : ℕ) → Cont
+  Test : (condition : Node) (body : List Node) → Cont
+  Again : (condition : Node) (body : List Node) → Cont
+  Turn : (turns : Turns) (block : Block) (kept : ℕ) → Cont
+  Frame : (saved : Scope) → Cont
+
+-- what the machine is at
+pub data Control : Type 0 where
+  -- a node is evaluated; its value is given to what waits; or a part is left
+  Eval : (node : Node) → Control
+  Give : (value : Value) → Control
+  Leave : (exit : Exit) → Control
+  -- the rest of a body, behind a statement with this value
+  Following : (value : Value) (nodes : List Node) → Control
+  Looping : (condition : Node) (body : List Node) → Control
+  Turning : (turns : Turns) (block : Block) → Control
+  -- the arguments that are left, behind those that are evaluated
+  Passing : (aim : Aim) (done : List Value) (rest : List Node) (at : Span) → Control
+  -- the pieces of a text that are left, behind these bytes
+  Joining : (bytes : List ℕ) (pieces : List Piece) (at : Span) → Control
+  -- a thing is made; something is asked of a thing; bytes are shown
+  Making : (thing : Thing) → Control
+  Calling : (thing : Reference) (act : Act) (at : Span) → Control
+  Showing : (bytes : List ℕ) → Control
+  Ended : (how : End) → Control
+
+-- A state: what the machine is at, what waits, the scope, how many nodes are under evaluation, and how many steps are left.
+pub data State : Type 0 where
+  On : Control → List Cont → Scope → (depth left : ℕ) → State

@@ -1,0 +1,75 @@
+-- What a thread does, given the replies that it got: its machine, its private store and its log go together.
+use Rattle.std.specs.Prelude.{◌≡◌, ◌≤◌, ◌-◌, ℕ, List, [], ◌∷◌, Some, None}
+use Rattle.rb_model.specs.Values.{Value as Val, To, Reference}
+use Rattle.rb_model.specs.declared.value.Sort.{Sort}
+use Rattle.rb_model.specs.declared.value.Sort.TheVariants as sort
+use Rattle.rb_model.specs.Acts.{Act, Reply, Done, handed}
+use Rattle.rb_model.specs.Acts as reply
+use Rattle.rb_model.specs.Ends.{End as Ending, Value, Full, Sink, Memory, told}
+use Rattle.rb_model.specs.Things.{Thing, becomes, gives, Object, Elements, Pairs, Mutex}
+use Rattle.rb_model.specs.Private.{Private, Item, Leaves, bare, held, next_id, entered, changed}
+use Rattle.rb_model.specs.Log.{Log, Entry, Call, On, Print, End, fresh, logged, refused}
+use Rattle.rb_machine.specs.Scopes.{Script}
+use Rattle.rb_machine.specs.Control.{State}
+use Rattle.rb_machine.specs.Move.{Next, Go, Make, Ask, Show, Stop, move, replied, left_in, IsWant}
+
+-- the sort of a thing
+abbrev pub sort_of : Thing → Sort
+sort_of (Object class fields) = sort.Object class
+sort_of (Elements values) = sort.List
+sort_of (Pairs pairs) = sort.Pairs
+sort_of (Mutex owner) = sort.Mutex
+
+-- a reference to the thing that is made next
+abbrev pub next_thing : Private → Thing → Reference
+next_thing h thing = record { sort = sort_of thing; id = next_id h }
+
+-- Thread t of a script makes at most N steps, and its machine begins with a state.
+module _ (S : Script) (t N : ℕ) (start : State) where
+  -- how many steps were begun
+  abbrev pub step_of : State → ℕ
+  step_of s = N - left_in s
+
+  -- the entry of a call of this thread
+  abbrev pub entry : State → Call → List Item → Reply → Entry
+  entry s call moved r = record { thread = t; step = step_of s; call = call; moved = moved; reply = r }
+
+  -- the thread comes to a state of its machine, with this log and this private store
+  pub data At : Log → Private → State → Type 0 where
+    here : At fresh (bare t) start
+    -- a silent move
+    goes : (l : Log) (h : Private) (s s' : State) → At l h s → move S s ≡ Go s' → At l h s'
+    -- a thing enters the private store under the next id
+    makes : (l : Log) (h : Private) (s : State) (thing : Thing) → At l h s → move S s ≡ Make thing
+        → At l (entered h thing) (replied s (reply.Value (To (next_thing h thing))))
+    -- something is asked of a private thing: the plain step on it gives the reply, and there is no entry
+    acts : (l : Log) (h : Private) (s : State) (r : Reference) (act : Act) (thing : Thing) → At l h s → move S s ≡ Ask r act → held h r.id ≡ Some thing
+        → At l (changed h r.id (becomes thing act)) (replied s (gives thing act))
+    -- anything else that is asked of a thing is an entry; what it hands over moves, and the entry's reply goes to the machine
+    asks : (l : Log) (h h' : Private) (s : State) (r : Reference) (act : Act) (moved : List Item) (answer : Reply) → At l h s → move S s ≡ Ask r act → held h r.id ≡ None
+        → Leaves h (handed act) moved h' → At (logged l (entry s (On r act) moved answer)) h' (replied s answer)
+    -- a print is an entry
+    prints : (l : Log) (h : Private) (s : State) (bytes : List ℕ) → At l h s → move S s ≡ Show bytes
+        → At (logged l (entry s (Print bytes) [] Done)) h (replied s Done)
+
+  -- How the machine's own work goes out, and at which step number: it ends; memory cuts it in place of a want, at a step number that is not
+  -- above that want's; the shared heap is too full for a call; or the sink refuses a print.
+  pub data Comes : Log → Private → Ending → ℕ → Type 0 where
+    ends : (l : Log) (h : Private) (s : State) (e : Ending) → At l h s → move S s ≡ Stop e → Comes l h e (step_of s)
+    cut : (l : Log) (h : Private) (want : State) (n : ℕ) → At l h want → IsWant (move S want) → n ≤ step_of want → Comes l h Memory n
+    fills : (l : Log) (h h' : Private) (s : State) (r : Reference) (act : Act) (moved : List Item) (used asked : ℕ) → At l h s → move S s ≡ Ask r act → held h r.id ≡ None
+        → Leaves h (handed act) moved h' → Comes (refused l (On r act) moved) h (Full used asked) (step_of s)
+    refuses : (l : Log) (h : Private) (s : State) (bytes : List ℕ) → At l h s → move S s ≡ Show bytes → Comes (refused l (Print bytes) []) h Sink (step_of s)
+
+  -- the last entry of a thread
+  abbrev pub last_entry : ℕ → Ending → List Item → Entry
+  last_entry step e moved = record { thread = t; step = step; call = End e; moved = moved; reply = Done }
+
+  -- what a thread does from its start to its End entry; what its end tells moves
+  pub data Follows : Log → Ending → Type 0 where
+    closes : (l : Log) (h h' : Private) (e : Ending) (n : ℕ) (moved : List Item) → Comes l h e n → Leaves h (told e) moved h'
+        → Follows (logged l (last_entry n e moved)) e
+    -- want of memory, or a full heap, in place of the end with a value
+    late : (l : Log) (h : Private) (v : Val) (n : ℕ) → Comes l h (Value v) n → Follows (logged l (last_entry n Memory [])) Memory
+    full : (l : Log) (h h' : Private) (v : Val) (n used asked : ℕ) (moved : List Item) → Comes l h (Value v) n → Leaves h (v ∷ []) moved h'
+        → Follows (logged (refused l (End (Value v)) moved) (last_entry n (Full used asked) [])) (Full used asked)

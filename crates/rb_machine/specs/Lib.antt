@@ -1,0 +1,11 @@
+pub mod Scopes
+pub mod Control
+pub mod Texts
+pub mod Methods
+pub mod Call
+pub mod Begin
+pub mod Give
+pub mod Move
+pub mod Follows
+pub mod Alone
+pub mod Laws

@@ -1,0 +1,7 @@
+pub mod Characters
+pub mod Values
+pub mod Ends
+pub mod Acts
+pub mod Things
+pub mod Private
+pub mod Log

@@ -1,0 +1,43 @@
+// What a thread asks of the outside, and how it ends.
+
+use crate::fault::Fault;
+use crate::shared_text::SharedText;
+use crate::value::Value;
+use rb_tree::Span;
+
+/// How a thread ends.
+#[derive(Drop)]
+pub enum End {
+    /// With the value of its last statement; the main thread with nil.
+    Value(Value),
+    /// With a fault, at the place of the node that raised it.
+    Raised(Fault, Span),
+    /// It needed a step more than it may make.
+    Steps,
+    /// The shared heap had no room: the words in use, and those that were asked for.
+    Full { used: u64, asked: u64 },
+    /// The sink failed.
+    Sink,
+    /// Want of memory.
+    Memory,
+}
+
+/// A call that a thread makes on what is shared.
+#[derive(Drop)]
+pub enum Call {
+    /// Writes these bytes to the sink.
+    Print(SharedText),
+    /// The last call of a thread.
+    End(End),
+}
+
+/// What a store answers to a call.
+#[derive(Clone, Copy, Debug, PartialEq, Eq)]
+pub enum Answer {
+    /// The call is an entry of the history.
+    Done,
+    /// The sink failed. There is no entry.
+    SinkFailed,
+    /// Want of memory. There is no entry.
+    Memory,
+}

@@ -1,0 +1,15 @@
+//! Values, things, what is asked of them and what they answer, faults and ends, and the log of what a thread asked of the
+//! outside. The definitions in `specs/` are those that the reference machine and every store speak of.
+#![tactic(auto)]
+
+mod call;
+mod fault;
+mod shared_text;
+#[cfg(test)]
+mod tests;
+mod value;
+
+pub use call::{Answer, Call, End};
+pub use fault::Fault;
+pub use shared_text::SharedText;
+pub use value::{Id, Ref, Sort, Value};
