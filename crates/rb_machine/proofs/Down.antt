@@ -2,6 +2,7 @@
 use Rattle.std.proofs.Common.{◌≡◌, ◌<◌, ◌≤◌, ◌⊎◌, inl, inr, ℕ, zero, suc, ◌+◌, Bool, true, false, cond, List, [], ◌∷◌, ◌++◌, Option, Some, None, length, refl, sym, ap, ◌∙◌, subst, arith}
 use Rattle.std.specs.Prelude.{nat_lt, nat_eq, ℤ, int_lt, pos, ◌+ℤ◌, take}
 use Rattle.rb_tree.specs.declared.span.Span.{Span}
+use Rattle.rb_tree.specs.declared.span.NameId.{NameId}
 use Rattle.rb_tree.specs.declared.node.AssignOp.{AssignOp}
 use Rattle.rb_tree.specs.declared.node.Node.{Node, out-Node}
 use Rattle.rb_tree.specs.declared.node.Piece.{Piece, out-Piece}
@@ -31,7 +32,7 @@ module _ (S : Script) where
   target_left (node.Index receiver index) o value at k sc d left = refl
   target_left (node.Attribute receiver name) o value at k sc d left = refl
 
-  call_left : (receiver : Option Node) (name : Text) (args : List Node) (block : Option Block) (at : Span) (k : List Cont) (sc : Scope) (d left : ℕ) → left_in (begin_call S receiver name args block at k sc d left) ≡ left
+  call_left : (receiver : Option Node) (name : NameId) (args : List Node) (block : Option Block) (at : Span) (k : List Cont) (sc : Scope) (d left : ℕ) → left_in (begin_call S receiver name args block at k sc d left) ≡ left
   call_left None name args block at k sc d left = refl
   call_left (Some receiver) name args block at k sc d left = refl
 
@@ -43,7 +44,7 @@ module _ (S : Script) where
   pub begin_left : (f : NodeLayer) (k : List Cont) (sc : Scope) (d left : ℕ) → left_in (begin S f k sc d left) ≡ left
   begin_left (node.«Node::Field» name at) k sc d left = (ask_of_within sc.me (GetField name) at k sc d left).0
   begin_left (node.OpAssign target o value at) k sc d left = target_left (out-Target target) o value at k sc d left
-  begin_left (node.Call receiver name args block at) k sc d left = call_left receiver (text_of S name) args block at k sc d left
+  begin_left (node.Call receiver name args block at) k sc d left = call_left receiver name args block at k sc d left
   begin_left (node.Return value at) k sc d left = return_left value k sc d left
   begin_left other k sc d left = refl
 

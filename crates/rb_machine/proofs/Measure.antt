@@ -3,6 +3,7 @@ use Rattle.std.proofs.Common.{◌≡◌, ◌<◌, ◌≤◌, ◌⊎◌, inl, inr
 use Rattle.std.specs.Prelude.{nat_lt, nat_eq, ℤ, int_lt, slice_get, codes}
 use Rattle.std.specs.Str.{bytes_eq}
 use Rattle.rb_tree.specs.declared.span.Span.{Span}
+use Rattle.rb_tree.specs.declared.span.NameId.{NameId}
 use Rattle.rb_tree.specs.declared.node.AssignOp.{AssignOp}
 use Rattle.rb_tree.specs.declared.node.AssignOp.TheVariants as op
 use Rattle.rb_tree.specs.declared.node.Node.{Node}
@@ -18,12 +19,12 @@ use Rattle.rb_model.specs.Acts.{Act, Reply}
 use Rattle.rb_model.specs.Acts as reply
 use Rattle.rb_model.specs.Ends.{End}
 use Rattle.rb_model.specs.Ends as ending
-use Rattle.rb_machine.specs.Scopes.{Script, Text, Scope}
+use Rattle.rb_machine.specs.Scopes.{Script, Text, Scope, text_of}
 use Rattle.rb_machine.specs.Control.{State, On, Cont, Then, Under, Test, Again, Turn, Frame, Step, AssignTo, FieldTo, GlobalTo, Rest, Choose, RightOfAnd, RightOfOr, Negate, ReturnOf, ReceiverOf, ReceiverToStore, Argument, Instead, Create, PieceOf, IndexedBy, MemberOf, IndexOf, ReadOf, RightOf, WriteTo}
 use Rattle.rb_machine.specs.Control.{Control, Eval, Give, Leave, Following, Looping, Turning, Passing, Joining, Making, Calling, Showing, Ended, Exit, Break, Next, Return, Aim, OnReceiver, ByName, Storing, Place, OfLocal, OfField, OfGlobal, OfElement, OfAttribute, Turns, Counting}
 use Rattle.rb_machine.specs.Methods.{Answer, Gives, Raises, Loops}
 use Rattle.rb_machine.specs.Texts.{max_bytes, shown, puts_text, print_text, p_text}
-use Rattle.rb_machine.specs.Call.{ask_of, named, methods_of, invoked, top_level, own, last_value, enter, answered, invoke, show, value_of_p, print, call_by_name, perform, read_place, decide, write_place}
+use Rattle.rb_machine.specs.Call.{ask_of, named, texted, methods_of, invoked, top_level, own, last_value, enter, answered, invoke, show, value_of_p, print, call_by_name, perform, read_place, decide, write_place}
 use Rattle.rb_machine.specs.Give.{join, give_step, give, leave}
 use Rattle.rb_machine.specs.Move.{Go, move, left_in, turn, join_piece, replied, IsWant}
 
@@ -109,7 +110,7 @@ module _ (S : Script) where
 
   pub invoke_within : (v : Value) (name : Text) (args : List Value) (block : Option Block) (at : Span) (k : List Cont) (sc : Scope) (d left : ℕ)
       → Within left (4 + weights k) (invoke S v name args block at k sc d left)
-  invoke_within v name args block at k sc d left = invoked_within (named S name (methods_of S v)) v name args block at k sc d left
+  invoke_within v name args block at k sc d left = invoked_within (texted S name (methods_of S v)) v name args block at k sc d left
 
   pub show_within : (bytes : Text) (after : Step) (at : Span) (k : List Cont) (sc : Scope) (d left : ℕ) → step_weight after ≤ 2 → Within left (5 + weights k) (show S bytes after at k sc d left)
   show_within [] after at k sc d left h = (refl, omega (arith, h))
@@ -126,11 +127,11 @@ module _ (S : Script) where
       (one_of (bytes_eq name (codes "print")) left _ _ _ (show_within (print_text S args) (Instead Nil) at k sc d left (omega arith))
       (one_of (bytes_eq name (codes "p")) left _ _ _ (show_within (p_text S args) (value_of_p S args) at k sc d left (p_weighs args)) (refl, omega arith)))
 
-  pub top_level_within : (m : Option Method) (name : Text) (args : List Value) (at : Span) (k : List Cont) (sc : Scope) (d left : ℕ) → Within left (5 + weights k) (top_level S m name args at k sc d left)
+  pub top_level_within : (m : Option Method) (name : NameId) (args : List Value) (at : Span) (k : List Cont) (sc : Scope) (d left : ℕ) → Within left (5 + weights k) (top_level S m name args at k sc d left)
   top_level_within (Some m) name args at k sc d left = wider left (4 + weights k) _ _ (omega arith) (enter_within m Nil args at k sc d left)
-  top_level_within None name args at k sc d left = print_within name args at k sc d left
+  top_level_within None name args at k sc d left = print_within (text_of S name) args at k sc d left
 
-  pub own_within : (m : Option Method) (name : Text) (args : List Value) (at : Span) (k : List Cont) (sc : Scope) (d left : ℕ) → Within left (5 + weights k) (own S m name args at k sc d left)
+  pub own_within : (m : Option Method) (name : NameId) (args : List Value) (at : Span) (k : List Cont) (sc : Scope) (d left : ℕ) → Within left (5 + weights k) (own S m name args at k sc d left)
   own_within (Some m) name args at k sc d left = wider left (4 + weights k) _ _ (omega arith) (enter_within m sc.me args at k sc d left)
   own_within None name args at k sc d left = top_level_within (named S name S.program.functions) name args at k sc d left
 

@@ -1,6 +1,7 @@
 -- The start of a node's evaluation, by what the node is.
 use Rattle.std.specs.Prelude.{ℕ, List, [], ◌∷◌, Option, Some, None}
 use Rattle.rb_tree.specs.declared.span.Span.{Span}
+use Rattle.rb_tree.specs.declared.span.NameId.{NameId}
 use Rattle.rb_tree.specs.declared.node.AssignOp.{AssignOp}
 use Rattle.rb_tree.specs.declared.node.Node.{Node}
 use Rattle.rb_tree.specs.declared.node.Target.{Target, out-Target}
@@ -17,8 +18,8 @@ use Rattle.rb_machine.specs.Call.{raised, ask, unbuilt, globals, own_field, read
 
 module _ (S : Script) where
   -- the receiver first, then the arguments; a call without receiver has arguments alone
-  abbrev pub begin_call : Option Node → Text → List Node → Option Block → Span → List Cont → Scope → ℕ → ℕ → State
-  begin_call (Some receiver) name args block at k sc d left = On (Eval receiver) (Then (ReceiverOf name args block at) ∷ k) sc d left
+  abbrev pub begin_call : Option Node → NameId → List Node → Option Block → Span → List Cont → Scope → ℕ → ℕ → State
+  begin_call (Some receiver) name args block at k sc d left = On (Eval receiver) (Then (ReceiverOf (text_of S name) args block at) ∷ k) sc d left
   begin_call None name args block at k sc d left = On (Passing (ByName name) [] args at) k sc d left
 
   -- an assignment with an operator evaluates the parts of its target first
@@ -52,7 +53,7 @@ module _ (S : Script) where
   begin (node.SetGlobal name value at) k sc d left = On (Eval value) (Then (GlobalTo name at) ∷ k) sc d left
   begin (node.Store receiver name args at) k sc d left = On (Eval receiver) (Then (ReceiverToStore (text_of S name) args at) ∷ k) sc d left
   begin (node.OpAssign target op value at) k sc d left = begin_target (out-Target target) op value at k sc d left
-  begin (node.Call receiver name args block at) k sc d left = begin_call receiver (text_of S name) args block at k sc d left
+  begin (node.Call receiver name args block at) k sc d left = begin_call receiver name args block at k sc d left
   begin (node.New class args at) k sc d left = unbuilt at left
   begin (node.ThreadNew args body at) k sc d left = unbuilt at left
   begin (node.And first second at) k sc d left = On (Eval first) (Then (RightOfAnd second) ∷ k) sc d left

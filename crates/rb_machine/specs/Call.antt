@@ -1,5 +1,5 @@
 -- Calls: which method is found, how its body begins, what a built-in one does, and what `puts`, `print` and `p` show.
-use Rattle.std.specs.Prelude.{ℕ, Bool, true, false, nat_eq, nat_lt, if◌then◌else◌, List, [], ◌∷◌, ◌++◌, length, take, Option, Some, None, find, slice_get, unwrap_or, codes}
+use Rattle.std.specs.Prelude.{ℕ, nat_eq, nat_lt, ◌==◌, if◌then◌else◌, List, [], ◌∷◌, ◌++◌, length, take, Option, Some, None, find, slice_get, unwrap_or, codes}
 use Rattle.std.specs.Option.{option_map}
 use Rattle.std.specs.Str.{bytes_eq}
 use Rattle.rb_tree.specs.declared.span.Span.{Span}
@@ -54,8 +54,12 @@ own_field act at k sc d left = ask_of sc.me act at k sc d left
 module _ (S : Script) where
   -- ---- methods of the script
 
-  abbrev pub named : Text → List Method → Option Method
-  named name methods = find (λ (m : Method). bytes_eq (text_of S m.name) name) methods
+  -- the method of a name, and of a text
+  abbrev pub named : NameId → List Method → Option Method
+  named name methods = find (λ (m : Method). m.name.0 == name.0) methods
+
+  abbrev pub texted : Text → List Method → Option Method
+  texted text methods = find (λ (m : Method). bytes_eq (text_of S m.name) text) methods
 
   abbrev pub methods_in : Option Class → List Method
   methods_in None = []
@@ -97,7 +101,7 @@ module _ (S : Script) where
 
   -- a method of a receiver is called: one of its class, or one that is built in
   abbrev pub invoke : Value → Text → List Value → Option Block → Span → List Cont → Scope → ℕ → ℕ → State
-  invoke receiver name args block at k sc d left = invoked (named name (methods_of receiver)) receiver name args block at k sc d left
+  invoke receiver name args block at k sc d left = invoked (texted name (methods_of receiver)) receiver name args block at k sc d left
 
   -- ---- methods by their names alone
 
@@ -121,16 +125,16 @@ module _ (S : Script) where
       else (if bytes_eq name (codes "p") then show (p_text S args) (value_of_p args) at k sc d left
       else raised NoMethod at left))
 
-  abbrev pub top_level : Option Method → Text → List Value → Span → List Cont → Scope → ℕ → ℕ → State
+  abbrev pub top_level : Option Method → NameId → List Value → Span → List Cont → Scope → ℕ → ℕ → State
   top_level (Some m) name args at k sc d left = enter m Nil args at k sc d left
-  top_level None name args at k sc d left = print name args at k sc d left
+  top_level None name args at k sc d left = print (text_of S name) args at k sc d left
 
-  abbrev pub own : Option Method → Text → List Value → Span → List Cont → Scope → ℕ → ℕ → State
+  abbrev pub own : Option Method → NameId → List Value → Span → List Cont → Scope → ℕ → ℕ → State
   own (Some m) name args at k sc d left = enter m sc.me args at k sc d left
   own None name args at k sc d left = top_level (named name S.program.functions) name args at k sc d left
 
   -- a call without receiver finds a method of the class of `self`, one of the top level, which has no `self`, or one that prints
-  abbrev pub call_by_name : Text → List Value → Span → List Cont → Scope → ℕ → ℕ → State
+  abbrev pub call_by_name : NameId → List Value → Span → List Cont → Scope → ℕ → ℕ → State
   call_by_name name args at k sc d left = own (named name (methods_of sc.me)) name args at k sc d left
 
   -- the last of values

@@ -22,7 +22,7 @@ pub data Exit : Type 0 where
 -- whose value is the last argument
 pub data Aim : Type 0 where
   OnReceiver : (receiver : Value) (name : Text) (block : Option Block) → Aim
-  ByName : (name : Text) → Aim
+  ByName : (name : NameId) → Aim
   Storing : (receiver : Value) (name : Text) → Aim
 
 -- what an assignment with an operator reads and writes, once its parts are evaluated

@@ -56,7 +56,7 @@ module _ (S : Script) where
   start_turn turns block k sc d zero = ended ending.Steps zero
   start_turn turns block k sc d (suc left) =
       On (Following Nil block.body) (Turn (later_turns turns) block (length sc.locals) ∷ k)
-        (with_locals sc (sc.locals ++ fresh (S.block_names block) (take (length block.params) (first_of_turn turns)))) d left
+        (with_locals sc (sc.locals ++ fresh (S.block_names block.at) (take (length block.params) (first_of_turn turns)))) d left
 
   -- another iteration, or the answer of the call
   abbrev pub turn : Turns → Block → List Cont → Scope → ℕ → ℕ → State

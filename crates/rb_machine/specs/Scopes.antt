@@ -3,7 +3,7 @@ use Rattle.std.specs.Prelude.{ℕ, List, [], ◌∷◌, Option, Some, None, if�
 use Rattle.std.specs.Option.{is_some}
 use Rattle.std.specs.Str.{bytes_eq}
 use Rattle.rb_tree.specs.declared.span.NameId.{NameId}
-use Rattle.rb_tree.specs.declared.node.Block.{Block}
+use Rattle.rb_tree.specs.declared.span.Span.{Span}
 use Rattle.rb_tree.specs.declared.node.Method.{Method}
 use Rattle.rb_tree.specs.declared.node.Program.{Program}
 use Rattle.rb_model.specs.Values.{Value, Nil, or_nil}
@@ -12,10 +12,10 @@ abbrev pub Text : Type 0
 Text = List ℕ
 
 -- A program, and the names that its text makes known in each scope, as Ruby's parser keeps them: the parameters first, then each local
--- in the order in which the text assigns it first, that of a block without the names that are known round it.
+-- in the order in which the text assigns it first, that of a block without the names that are known round it. A block is known by its place.
 pub record Script : Type 0 where
   pub program : Program
-  pub block_names : Block → List NameId
+  pub block_names : Span → List NameId
   pub method_names : Method → List NameId
   pub main_names : List NameId
 
