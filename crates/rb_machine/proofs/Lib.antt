@@ -4,3 +4,4 @@ pub mod Counts
 pub mod Exits
 pub mod Once
 pub mod Finishing
+pub mod Examples

@@ -1,7 +1,7 @@
 -- The methods that values have, as a table.
 use Rattle.std.specs.Prelude.{ℕ, ◌^◌, ℤ, pos, negsuc, neg_ℤ, ◌+ℤ◌, ◌-ℤ◌, ◌*ℤ◌, int_lt, int_le, nat_lt, nat_le, nat_eq, Bool, true, false, ◌&&◌, ◌||◌, not, if◌then◌else◌, List, [], ◌∷◌, ◌++◌, length, Option, Some, None, find, codes}
 use Rattle.std.specs.Ordering.{int_eq}
-use Rattle.std.specs.Int.{int_div_euclid}
+use Rattle.std.specs.Int.{int_div_euclid, int_rem_euclid}
 use Rattle.std.specs.Str.{bytes_eq}
 use Rattle.rb_model.specs.declared.value.Sort.{Sort}
 use Rattle.rb_model.specs.declared.value.Sort.TheVariants as sort
@@ -58,12 +58,17 @@ abbrev pub on_integers : (ℤ → ℤ → Answer) → Value → List Value → A
 on_integers does (Int m) (Int n ∷ []) = does m n
 on_integers does v args = Raises TypeMismatch
 
--- the quotient, rounded toward minus infinity, and what is left of the dividend, which has the sign of the divisor
+-- whether a division leaves something, and by a negative divisor
+abbrev pub leaves_below : ℤ → ℤ → Bool
+leaves_below m n = int_lt n (pos 0) && not (int_eq (int_rem_euclid m n) (pos 0))
+
+-- The quotient, rounded toward minus infinity, and what is left of the dividend, which has the sign of the divisor. The quotient whose
+-- remainder is never negative differs by one where something is left by a negative divisor.
 abbrev pub quotient : ℤ → ℤ → ℤ
-quotient m n = if int_lt (pos 0) n then int_div_euclid m n else int_div_euclid (neg_ℤ m) (neg_ℤ n)
+quotient m n = if leaves_below m n then int_div_euclid m n -ℤ pos 1 else int_div_euclid m n
 
 abbrev pub modulo : ℤ → ℤ → ℤ
-modulo m n = m -ℤ n *ℤ quotient m n
+modulo m n = if leaves_below m n then int_rem_euclid m n +ℤ n else int_rem_euclid m n
 
 abbrev pub unless_zero : (ℤ → ℤ → ℤ) → ℤ → ℤ → Answer
 unless_zero f m n = if int_eq n (pos 0) then Raises ZeroDivision else integer (f m n)
@@ -143,7 +148,7 @@ module _ (S : Script) where
 
   -- the row of a method, where the receiver has it
   abbrev pub row_of : Value → Text → Option Row
-  row_of v name = find (λ (r : Row). is_of r.of v && bytes_eq r.name name) rows
+  row_of v name = find (λ (r : Row). bytes_eq name r.name && is_of r.of v) rows
 
 -- a block that is given where none is taken: there is no such method; one that is missing, or has too many parameters: the count is wrong
 abbrev pub block_fault : Option ℕ → Option ℕ → Option Fault
