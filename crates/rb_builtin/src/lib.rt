@@ -3,5 +3,7 @@
 #![tactic(auto)]
 
 mod builtin;
+mod integer;
 
 pub use builtin::{Builtin, builtin_of};
+pub use integer::{IntegerAnswer, integer_operation};

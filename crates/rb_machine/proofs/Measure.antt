@@ -123,9 +123,9 @@ module _ (S : Script) where
 
   pub print_within : (name : Text) (args : List Value) (at : Span) (k : List Cont) (sc : Scope) (d left : ℕ) → Within left (5 + weights k) (print S name args at k sc d left)
   print_within name args at k sc d left =
-      one_of (bytes_eq name (codes "puts")) left _ _ _ (show_within (puts_text S args) (Instead Nil) at k sc d left (omega arith))
-      (one_of (bytes_eq name (codes "print")) left _ _ _ (show_within (print_text S args) (Instead Nil) at k sc d left (omega arith))
-      (one_of (bytes_eq name (codes "p")) left _ _ _ (show_within (p_text S args) (value_of_p S args) at k sc d left (p_weighs args)) (refl, omega arith)))
+      one_of (bytes_eq name (codes "puts")) left _ _ _ (show_within (puts_text S.program.names args) (Instead Nil) at k sc d left (omega arith))
+      (one_of (bytes_eq name (codes "print")) left _ _ _ (show_within (print_text S.program.names args) (Instead Nil) at k sc d left (omega arith))
+      (one_of (bytes_eq name (codes "p")) left _ _ _ (show_within (p_text S.program.names args) (value_of_p S args) at k sc d left (p_weighs args)) (refl, omega arith)))
 
   pub top_level_within : (m : Option Method) (name : NameId) (args : List Value) (at : Span) (k : List Cont) (sc : Scope) (d left : ℕ) → Within left (5 + weights k) (top_level S m name args at k sc d left)
   top_level_within (Some m) name args at k sc d left = wider left (4 + weights k) _ _ (omega arith) (enter_within m Nil args at k sc d left)
@@ -181,7 +181,7 @@ module _ (S : Script) where
   give_step_within v (Argument aim done rest at) k sc d left = (refl, omega arith)
   give_step_within v (Instead w) k sc d left = (refl, omega arith)
   give_step_within v (Create thing) k sc d left = (refl, omega arith)
-  give_step_within v (PieceOf bytes pieces at) k sc d left = wider left _ _ _ (omega arith) (join_within bytes (shown S v) pieces at k sc d left)
+  give_step_within v (PieceOf bytes pieces at) k sc d left = wider left _ _ _ (omega arith) (join_within bytes (shown S.program.names v) pieces at k sc d left)
   give_step_within v (IndexedBy index o value at) k sc d left = (refl, omega arith)
   give_step_within v (MemberOf name o value at) k sc d left = read_within (OfAttribute v name) o value at k sc d left
   give_step_within v (IndexOf w o value at) k sc d left = read_within (OfElement w v) o value at k sc d left

@@ -97,7 +97,7 @@ module _ (S : Script) where
   abbrev pub invoked : Option Method → Value → Text → List Value → Option Block → Span → List Cont → Scope → ℕ → ℕ → State
   invoked (Some m) receiver name args None at k sc d left = enter m receiver args at k sc d left
   invoked (Some m) receiver name args (Some block) at k sc d left = raised NoMethod at left
-  invoked None receiver name args block at k sc d left = answered (deed S receiver name args (params_of block)) block at k sc d left
+  invoked None receiver name args block at k sc d left = answered (deed S.program.names receiver name args (params_of block)) block at k sc d left
 
   -- a method of a receiver is called: one of its class, or one that is built in
   abbrev pub invoke : Value → Text → List Value → Option Block → Span → List Cont → Scope → ℕ → ℕ → State
@@ -120,9 +120,9 @@ module _ (S : Script) where
   -- `puts`, `print` and `p`
   abbrev pub print : Text → List Value → Span → List Cont → Scope → ℕ → ℕ → State
   print name args at k sc d left =
-      if bytes_eq name (codes "puts") then show (puts_text S args) (Instead Nil) at k sc d left
-      else (if bytes_eq name (codes "print") then show (print_text S args) (Instead Nil) at k sc d left
-      else (if bytes_eq name (codes "p") then show (p_text S args) (value_of_p args) at k sc d left
+      if bytes_eq name (codes "puts") then show (puts_text S.program.names args) (Instead Nil) at k sc d left
+      else (if bytes_eq name (codes "print") then show (print_text S.program.names args) (Instead Nil) at k sc d left
+      else (if bytes_eq name (codes "p") then show (p_text S.program.names args) (value_of_p args) at k sc d left
       else raised NoMethod at left))
 
   abbrev pub top_level : Option Method → NameId → List Value → Span → List Cont → Scope → ℕ → ℕ → State

@@ -36,7 +36,7 @@ module _ (S : Script) where
   give_step v (Argument aim done rest at) k sc d left = On (Passing aim (done ++ v ∷ []) rest at) k sc d left
   give_step v (Instead w) k sc d left = On (Give w) k sc d left
   give_step v (Create thing) k sc d left = On (Making thing) k sc d left
-  give_step v (PieceOf bytes pieces at) k sc d left = join bytes (shown S v) pieces at k sc d left
+  give_step v (PieceOf bytes pieces at) k sc d left = join bytes (shown S.program.names v) pieces at k sc d left
   give_step v (IndexedBy index op value at) k sc d left = On (Eval index) (Then (IndexOf v op value at) ∷ k) sc d left
   give_step v (MemberOf name op value at) k sc d left = read_place S (OfAttribute v name) op value at k sc d left
   give_step v (IndexOf receiver op value at) k sc d left = read_place S (OfElement receiver v) op value at k sc d left

@@ -9,7 +9,7 @@ use Rattle.rb_model.specs.declared.fault.Fault.{Fault}
 use Rattle.rb_model.specs.declared.fault.Fault.TheVariants.{NoMethod, ArgumentCount, TypeMismatch, ZeroDivision, IntegerOverflow, TextTooLong}
 use Rattle.rb_model.specs.Values.{Value, Nil, Int, Str, To, truth, same}
 use Rattle.rb_model.specs.Characters.{characters}
-use Rattle.rb_machine.specs.Scopes.{Script, Text}
+use Rattle.rb_machine.specs.Scopes.{Text}
 use Rattle.rb_machine.specs.Control.{Turns, Counting}
 use Rattle.rb_machine.specs.Texts.{max_bytes, shown, inspected}
 
@@ -112,13 +112,13 @@ is_nil v args = Gives (truth (same v Nil))
 
 -- ---- the table
 
-module _ (S : Script) where
+module _ (names : List Text) where
   abbrev pub any_rows : List Row
   any_rows =
       record { of = AnyValue; name = codes "=="; arity = 1; block = None; does = equal }
     ∷ record { of = AnyValue; name = codes "nil?"; arity = 0; block = None; does = is_nil }
-    ∷ record { of = AnyValue; name = codes "to_s"; arity = 0; block = None; does = λ v args. text (shown S v) }
-    ∷ record { of = AnyValue; name = codes "inspect"; arity = 0; block = None; does = λ v args. text (inspected S v) }
+    ∷ record { of = AnyValue; name = codes "to_s"; arity = 0; block = None; does = λ v args. text (shown names v) }
+    ∷ record { of = AnyValue; name = codes "inspect"; arity = 0; block = None; does = λ v args. text (inspected names v) }
     ∷ []
 
   abbrev pub integer_rows : List Row
@@ -166,5 +166,5 @@ answered_by None v args given = Raises NoMethod
 answered_by (Some r) v args given = unless_fault (block_fault r.block given) (nat_eq (length args) r.arity) (r.does v args)
 
 -- what a value answers to the call of a method, with so many parameters of a block where one is given
-abbrev pub deed : Script → Value → Text → List Value → Option ℕ → Answer
-deed S v name args given = answered_by (row_of S v name) v args given
+abbrev pub deed : List Text → Value → Text → List Value → Option ℕ → Answer
+deed names v name args given = answered_by (row_of names v name) v args given

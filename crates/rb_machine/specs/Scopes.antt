@@ -19,9 +19,12 @@ pub record Script : Type 0 where
   pub method_names : Method → List NameId
   pub main_names : List NameId
 
--- the text of a name
+-- the text of a name, empty where there is no such name
+abbrev pub name_text : List Text → NameId → Text
+name_text names name = unwrap_or (slice_get names name.0) []
+
 abbrev pub text_of : Script → NameId → Text
-text_of S name = unwrap_or (slice_get S.program.names name.0) []
+text_of S name = name_text S.program.names name
 
 abbrev pub Locals : Type 0
 Locals = List (NameId × Value)

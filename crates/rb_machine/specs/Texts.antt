@@ -1,9 +1,9 @@
 -- The texts of values, and what `puts`, `print` and `p` show.
-use Rattle.std.specs.Prelude.{ℕ, ℤ, Bool, true, false, ◌==◌, ◌||◌, if◌then◌else◌, List, [], ◌∷◌, ◌++◌, Option, Some, None, codes}
-use Rattle.std.specs.List.{flat_map, last_or}
+use Rattle.std.specs.Prelude.{ℕ, ℤ, Bool, true, false, ◌==◌, ◌||◌, if◌then◌else◌, List, [], ◌∷◌, ◌++◌, Option, Some, None, length, ◌-◌, slice_get, codes}
+use Rattle.std.specs.List.{flat_map}
 use Rattle.std.specs.Fmt.{signed_decimal}
 use Rattle.rb_model.specs.Values.{Value, Nil, False, True, Int, Sym, Str, To}
-use Rattle.rb_machine.specs.Scopes.{Script, Text, text_of}
+use Rattle.rb_machine.specs.Scopes.{Text, name_text}
 
 -- how many bytes one text has at most, and one print
 abbrev pub max_bytes : ℕ
@@ -27,14 +27,26 @@ abbrev pub escaped : List ℕ → List ℕ
 escaped [] = []
 escaped (b ∷ bs) = escaped_byte b bs ++ escaped bs
 
-module _ (S : Script) where
+abbrev pub is_feed : Option ℕ → Bool
+is_feed None = false
+is_feed (Some b) = b == 10
+
+-- whether the last byte of a text is a line feed
+abbrev pub ends_line : Text → Bool
+ends_line text = is_feed (slice_get text (length text - 1))
+
+-- a text and a line feed, unless it ends with one
+abbrev pub line_of : Text → Text
+line_of text = if ends_line text then text else text ++ 10 ∷ []
+
+module _ (names : List Text) where
   -- The text of a value. Things have none yet.
   abbrev pub shown : Value → Text
   shown Nil = []
   shown False = codes "false"
   shown True = codes "true"
   shown (Int n) = signed_decimal n
-  shown (Sym name) = text_of S name
+  shown (Sym name) = name_text names name
   shown (Str bytes) = bytes
   shown (To thing) = []
 
@@ -44,17 +56,9 @@ module _ (S : Script) where
   inspected False = codes "false"
   inspected True = codes "true"
   inspected (Int n) = signed_decimal n
-  inspected (Sym name) = 58 ∷ text_of S name
+  inspected (Sym name) = 58 ∷ name_text names name
   inspected (Str bytes) = 34 ∷ escaped bytes ++ 34 ∷ []
   inspected (To thing) = []
-
-  abbrev ends_line : Option ℕ → Bool
-  ends_line None = false
-  ends_line (Some b) = b == 10
-
-  -- a text and a line feed, unless it ends with one
-  abbrev pub line_of : Text → Text
-  line_of text = if ends_line (last_or None text) then text else text ++ 10 ∷ []
 
   -- `puts` writes a line for each value, and one line feed for none
   abbrev pub puts_text : List Value → Text
