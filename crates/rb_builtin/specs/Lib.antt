@@ -1,2 +1,3 @@
 pub mod Names
 pub mod Integers
+pub mod Deeds

@@ -3,7 +3,9 @@
 #![tactic(auto)]
 
 mod builtin;
+mod deed;
 mod integer;
 
 pub use builtin::{Builtin, builtin_of};
+pub use deed::{Deed, Loop};
 pub use integer::{IntegerAnswer, integer_operation};
