@@ -1,2 +1,4 @@
 pub mod Words
 pub mod Line
+pub mod Seen
+pub mod Rows

@@ -1,7 +1,7 @@
 -- The words behind the command, with the values of options as texts: what is read before the numbers are.
 use Rattle.std.specs.Prelude.{ℕ, ◌==◌, ◌&&◌, ◌||◌, Bool, true, false, not, List, [], ◌∷◌, Option, Some, None, option_map, option_and_then, if◌then◌else◌, codes}
 use Rattle.std.specs.Str.{bytes_eq}
-use Rattle.rb_command.specs.Words.{Text, Name, Kind, steps, heap_words, ends, option, refused, other, once, kind_of, begins_with_hyphen}
+use Rattle.rb_command.specs.Words.{Text, Name, Kind, steps, heap_words, ends, option, refused, other, once, kind_of, begins_with_hyphen, number_in, least_of, most_of, default_of, Run, Wanted, run}
 
 -- ---- words with one hyphen
 
@@ -68,3 +68,20 @@ whole parts = option_map (λ file. record { file = file; steps = parts.steps; he
 
 abbrev pub line_of : List Text → Option Line
 line_of words = option_and_then whole (parts_of None words no_parts)
+
+-- ---- the numbers
+
+-- the number of an option, or what stands where it is not given
+abbrev pub chosen : ℕ → ℕ → ℕ → Option Text → Option ℕ
+chosen least most default None = Some default
+chosen least most default (Some word) = number_in least most word
+
+abbrev pub number_for : Name → Option Text → Option ℕ
+number_for name text = chosen (least_of name) (most_of name) (default_of name) text
+
+abbrev pub run_of_line : Line → Option Run
+run_of_line line = option_and_then (λ number. option_map (λ words. record { file = line.file; steps = number; heap_words = words })
+    (number_for heap_words line.heap_words)) (number_for steps line.steps)
+
+abbrev pub command_of_line : Line → Option Wanted
+command_of_line line = option_map run (run_of_line line)

@@ -49,10 +49,12 @@ kind_of word = if bytes_eq word (codes "--") then ends
 abbrev pub is_numeral : Text → Bool
 is_numeral word = nat_le 1 (length word) && (nat_le (length word) 19 && list_all is_ascii_digit word)
 
+abbrev pub within : ℕ → ℕ → ℕ → Option ℕ
+within least most number = if nat_le least number && nat_le number most then Some number else None
+
 -- the number that the word writes, where it is in the range
 abbrev pub number_in : ℕ → ℕ → Text → Option ℕ
-number_in least most word =
-    if is_numeral word && (nat_le least (digits_value 10 word) && nat_le (digits_value 10 word) most) then Some (digits_value 10 word) else None
+number_in least most word = if is_numeral word then within least most (digits_value 10 word) else None
 
 abbrev pub least_of : Name → ℕ
 least_of steps = 1

@@ -2,3 +2,10 @@
 #![tactic(auto)]
 
 mod hyphens;
+mod line;
+mod numbers;
+#[cfg(test)]
+mod tests;
+mod words;
+
+pub use words::{Command, RunWords, command_of};
