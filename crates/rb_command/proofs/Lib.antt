@@ -4,3 +4,6 @@ pub mod Rows
 pub mod Looks
 pub mod Walks
 pub mod Agree
+pub mod Counted
+pub mod Whole
+pub mod Numerals

@@ -115,3 +115,28 @@ looks (byte ∷ word) fine = go (byte == 45) refl
     go : (b : Bool) → (byte == 45) ≡ b → Look (byte ∷ word)
     go true is = first_hyphen byte word is fine
     go false is = first_other byte word is
+
+-- ---- words with one hyphen
+
+kind-one : (next : ℕ) (word : Text) → (next == 45) ≡ false → kind_of (45 ∷ next ∷ word) ≡ refused
+kind-one next word differs =
+    let name = name_part-cons 45 (next ∷ word) refl in
+    let not_steps : bytes_eq (name_part (45 ∷ next ∷ word)) (codes "--steps") ≡ false =
+      ap (λ (n : Text). bytes_eq n (codes "--steps")) name ∙ name-other next word (codes "steps") differs in
+    let not_heap_words : bytes_eq (name_part (45 ∷ next ∷ word)) (codes "--heap-words") ≡ false =
+      ap (λ (n : Text). bytes_eq n (codes "--heap-words")) name ∙ name-other next word (codes "heap-words") differs in
+    rw (differs, not_steps, not_heap_words) refl
+
+pub one_is_refused : (word : Text) → has_one_hyphen word ≡ true → kind_of word ≡ refused
+one_is_refused [] one = cc
+one_is_refused (byte ∷ []) one =
+    let P : ℕ → Type 0 = λ b. kind_of (b ∷ []) ≡ refused in
+    subst P (sym (eqb-true byte 45 one)) refl
+one_is_refused (byte ∷ next ∷ word) one = go (byte == 45) (next == 45) refl refl one
+  where
+    go : (a b : Bool) → (byte == 45) ≡ a → (next == 45) ≡ b → (a && not b) ≡ true → kind_of (byte ∷ next ∷ word) ≡ refused
+    go false b is_hyphen differs h = cc
+    go true true is_hyphen differs h = cc
+    go true false is_hyphen differs h =
+        let P : ℕ → Type 0 = λ b. kind_of (b ∷ next ∷ word) ≡ refused in
+        subst P (sym (eqb-true byte 45 is_hyphen)) (kind-one next word differs)

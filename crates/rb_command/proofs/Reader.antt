@@ -1,33 +1,20 @@
 -- The reader that clap is given, as its lists of rules.
-use Rattle.std.proofs.Common.{ℕ, ◌≡◌, Bool, true, false, cond, List, [], ◌∷◌, Option, Some, None, codes, refl, sym, ◌∙◌}
+use Rattle.std.proofs.Common.{ℕ, ◌≡◌, Bool, true, false, cond, List, [], ◌∷◌, Option, Some, None, codes, refl, ap, sym, ◌∙◌}
 use Rattle.std.specs.Prelude.{◌||◌, if◌then◌else◌}
 use Rattle.std.specs.Str.{bytes_eq}
 use Rattle.clap.specs.Faults.{is_simple_and_free}
-use Rattle.clap.specs.Simple.{App, Shape, new_app, new_rule, with_rule, with_index, filled, on_top, built, is_simple, names_of}
+use Rattle.clap.specs.Simple.{App, Shape, new_app, new_rule, with_rule, with_index, filled, on_top, built, is_simple, names_of, app_of, app_of_fields}
 use Rattle.clap.specs.Walk.{Rule, arg_by_long}
+use Rattle.clap.specs.declared.builder.command.Command.{Command}
+use Rattle.clap.specs.declared.builder.command.Command.TheViews.{out-Command}
 use Rattle.clap.specs.declared.builder.action.ArgAction.TheVariants.{Set}
 use Rattle.rb_command.specs.Words.{Text, Name, steps, heap_words}
+pub use Rattle.rb_command.specs.Reader.{id_of, file_given, option_given, bare, reader}
 use Rattle.std.proofs.lemmas.Slice.Eq.{bytes_eq-Decides}
 use Rattle.std.proofs.lemmas.Bool.Decides.{same_from_decides, Decides-like}
 
 pub bytes_eq-sym : (xs ys : Text) → bytes_eq xs ys ≡ bytes_eq ys xs
 bytes_eq-sym xs ys = same_from_decides (bytes_eq xs ys) (bytes_eq ys xs) (bytes_eq-Decides xs ys) (Decides-like _ (λ (e : ys ≡ xs). sym e) (λ (e : xs ≡ ys). sym e) (bytes_eq-Decides ys xs))
-
-abbrev pub id_of : Name → Text
-id_of steps = codes "steps"
-id_of heap_words = codes "heap-words"
-
-abbrev pub file_given : Rule
-file_given = record (new_rule (codes "file")) { required = true; action = Some Set }
-
-abbrev pub option_given : Name → Rule
-option_given name = record (new_rule (id_of name)) { long = Some (id_of name); action = Some Set }
-
-abbrev pub bare : App
-bare = on_top (λ s. record s { no_binary_name = true; disable_help_flag = true }) (new_app (codes "run"))
-
-abbrev pub reader : App
-reader = with_rule (with_rule (with_rule bare file_given) (option_given steps)) (option_given heap_words)
 
 pub is_plain_reader : is_simple_and_free reader ≡ true
 is_plain_reader = refl
@@ -64,3 +51,11 @@ unknown_name name not_steps not_heap_words =
     let one : bytes_eq (id_of steps) name ≡ false = bytes_eq-sym (id_of steps) name ∙ not_steps in
     let two : bytes_eq (id_of heap_words) name ≡ false = bytes_eq-sym (id_of heap_words) name ∙ not_heap_words in
     rw (one, two) refl
+
+-- ---- the command that is built
+
+pub bare_command : (new unnamed helpless : Command) → app_of new ≡ new_app (codes "run") → out-Command unnamed ≡ record (out-Command new) { no_binary_name = true }
+    → out-Command helpless ≡ record (out-Command unnamed) { disable_help_flag = true } → app_of helpless ≡ bare
+bare_command new unnamed helpless new_is unnamed_is helpless_is =
+    ap app_of_fields helpless_is ∙ ap (on_top (λ (s : Shape). record s { disable_help_flag = true }))
+    (ap app_of_fields unnamed_is ∙ ap (on_top (λ (s : Shape). record s { no_binary_name = true })) new_is)

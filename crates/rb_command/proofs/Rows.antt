@@ -7,6 +7,7 @@ use Rattle.clap.specs.declared.parser.matches.ValueSource.TheVariants.{CommandLi
 use Rattle.clap.specs.Walk.{Row, at_row, without, with_values, has_row, first_of, more_values}
 use Rattle.rb_command.specs.Words.{Text}
 use Rattle.rb_command.specs.Line.{Parts, Line, whole}
+pub use Rattle.rb_command.specs.Rows.{line_in}
 
 -- the row of an argument that was used once
 abbrev pub row : Text → Text → Row
@@ -108,13 +109,6 @@ heap_words_used rows file steps text h = record {
   heap_words = here rows (codes "heap-words") text h.heap_words refl;
 }
 
--- the line that the rows tell
-abbrev pub line_in : List Row → Option Line
-line_in rows = option_map (λ (file : Text). record {
-  file = file;
-  steps = first_of (codes "steps") rows;
-  heap_words = first_of (codes "heap-words") rows;
-}) (first_of (codes "file") rows)
 
 first_text : (id : Text) (rows : List Row) (o : Option Text) → looked id rows ≡ option_map (row id) o → first_of id rows ≡ o
 first_text id rows o is = ap (option_and_then (λ (r : Row). slice_get r.values 0)) is ∙ go o

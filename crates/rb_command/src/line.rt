@@ -1,10 +1,11 @@
 // The words behind the command, as clap reads them: the FILE, and the values of options as texts.
 
-ghost use Rattle.std.specs.Prelude.{◌≡◌, List, ℕ, Option, IfOk, map, option_map, string_bytes};
+ghost use Rattle.std.specs.Prelude.{◌≡◌, ◌≢◌, None, List, ℕ, Option, IfOk, map, option_map, string_bytes};
 ghost use Rattle.std.specs.Borrow.{Bor};
 ghost use Rattle.rb_command.specs.Line as spec;
 ghost use Rattle.rb_command.specs.Seen.{line_seen};
-ghost use Rattle.clap.specs.Words.{found_of, rows_of};
+ghost use Rattle.clap.specs.Words.{app_of, found_of, kind_of, rows_of};
+ghost use Rattle.rb_command.specs.Reader as Reader;
 ghost use Rattle.rb_command.specs.Rows.{line_in};
 
 use crate::hyphens::any_has_one_hyphen;
@@ -34,7 +35,9 @@ pub fn line_of<'w>(alloc: Global, words: &'w [String]) -> Result<Option<Line<'w>
 }
 
 /// The words that clap is to read.
-fn reader<'w>(alloc: Global) -> Result<clap::Command<'w>, AllocError> {
+fn reader<'w>(alloc: Global) -> Result<clap::Command<'w>, AllocError>
+    ensures { IfOk result (λ command. app_of command ≡ Reader.reader) }
+{
     let file = Arg::new(alloc, "file").required(true).action(ArgAction::Set);
     let steps = Arg::new(alloc, "steps").long("steps").action(ArgAction::Set);
     let heap_words = Arg::new(alloc, "heap-words").long("heap-words").action(ArgAction::Set);
@@ -59,7 +62,10 @@ fn found_line<'w>(matches: &ArgMatches<'w>) -> Option<Line<'w>>
 }
 
 /// That clap refused the words, unless memory ran out.
-fn refused<'w>(error: &Error) -> Result<Option<Line<'w>>, AllocError> {
+fn refused<'w>(error: &Error) -> Result<Option<Line<'w>>, AllocError>
+    ensures nothing { IfOk result (λ line. line ≡ None) }
+    ensures cause { IfOk result (λ line. kind_of error.now ≢ ErrorKind.OutOfMemory) }
+{
     match error.kind() {
         ErrorKind::OutOfMemory => Err(AllocError),
         _ => Ok(None),

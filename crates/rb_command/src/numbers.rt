@@ -2,6 +2,8 @@
 
 ghost use Rattle.std.specs.Prelude.{◌≡◌, List, ℕ, option_map};
 ghost use Rattle.std.specs.Borrow.{Bor};
+ghost use Rattle.std.specs.Char.{is_ascii_digit};
+ghost use Rattle.std.specs.List.{list_all};
 ghost use Rattle.rb_command.specs.Words as spec;
 ghost use Rattle.rb_command.specs.Line as line;
 
@@ -30,11 +32,18 @@ pub const HEAP_WORDS: Setting = Setting {
     default: 1_048_576,
 };
 
+/// Whether all bytes are digits.
+fn are_digits(word: &[u8]) -> bool
+    ensures { result ≡ list_all is_ascii_digit word.now }
+{
+    word.iter().all(|byte| byte.is_ascii_digit())
+}
+
 /// Whether the word is 1 to 19 digits.
 fn is_numeral(word: &[u8]) -> bool
     ensures { result ≡ spec.is_numeral word.now }
 {
-    1 <= word.len() && word.len() <= MOST_DIGITS && word.iter().all(|byte| byte.is_ascii_digit())
+    1 <= word.len() && word.len() <= MOST_DIGITS && are_digits(word)
 }
 
 /// The number that the word writes, where it is in the range.
@@ -63,7 +72,7 @@ fn within(least: u64, most: u64, number: u64) -> Option<u64>
 
 /// The number that an option is given, or what stands where it is not given.
 pub fn chosen(setting: Setting, word: Option<&str>) -> Option<u64>
-    ensures { result ≡ line.chosen setting.least setting.most setting.default (option_map (λ (w : Bor (List ℕ)). w.now) word) }
+    ensures { result ≡ line.chosen setting.least setting.most setting.default (option_map (λ (w : Bor (List ℕ)). w.now) word.entry) }
 {
     match word {
         Some(word) => number_in(setting.least, setting.most, word),
