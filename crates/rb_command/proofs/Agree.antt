@@ -1,19 +1,17 @@
 -- What clap makes of words is what the line says of them.
-use Rattle.std.proofs.Common.{ℕ, ◌≡◌, ◌∙◌, ap, ap₂, sym, subst, Bool, true, false, cond, is_some, List, [], ◌∷◌, ◌++◌, Option, Some, None, option_map, codes, refl, length}
+use Rattle.std.proofs.Common.{ℕ, ◌≡◌, ◌∙◌, ap, sym, subst, Bool, true, false, List, [], ◌∷◌, Option, Some, None, codes, refl}
 use Rattle.std.specs.Prelude.{◌&&◌, ◌||◌, not, if◌then◌else◌, fold, option_and_then}
-use Rattle.std.specs.Option.{option_map_or}
 use Rattle.std.specs.Str.{bytes_eq}
 use Rattle.std.proofs.lemmas.Slice.Eq.{bytes_eq-Decides}
 use Rattle.clap.specs.Lexer.{long_of, short_of}
 use Rattle.clap.specs.Kinds.{Kinds, or_else}
-use Rattle.clap.specs.Facts.{explicit_source}
-use Rattle.clap.specs.Faults.{settle_fault, turn_fault, walk_fault, defaults_fault, check_fault, default_fault}
-use Rattle.clap.specs.Walk.{Held, Walk, Waiting, Row, idle, option, positional, walked, walk_from, nothing_held, settled, settled_rows, finished, has_row, arg_by_long, with_default}
+use Rattle.clap.specs.Faults.{walk_fault, defaults_fault, check_fault, default_fault}
+use Rattle.clap.specs.Walk.{Held, Walk, Waiting, Row, idle, option, walked, walk_from, nothing_held, finished, has_row, arg_by_long, with_default}
 use Rattle.clap.specs.declared.error.kind.ErrorKind.TheVariants as kind
-use Rattle.rb_command.specs.Words.{option as Kind_option, Text, Name, Kind, steps, heap_words, kind_of, ends, refused, other, once, begins_with_hyphen}
-use Rattle.rb_command.specs.Line.{Parts, Line, whole, no_parts, line_of, parts_of, part_files, part_file, part_value, part_text, part_on, has_one_hyphen, any_has_one_hyphen}
+use Rattle.rb_command.specs.Words.{option as Kind_option, Text, Name, Kind, steps, heap_words, kind_of, ends, refused, other, begins_with_hyphen}
+use Rattle.rb_command.specs.Line.{Parts, Line, whole, line_of, parts_of, part_files, part_file, part_text, part_on, has_one_hyphen, any_has_one_hyphen}
 use Rattle.rb_command.proofs.Reader.{rules, shape, id_of, file_rule, option_rule}
-use Rattle.rb_command.proofs.Rows.{Rows, no_rows, row, looked, has_row-looked, after_use, file_used, steps_used, heap_words_used, line_in, line_in-rows}
+use Rattle.rb_command.proofs.Rows.{Rows, no_rows, after_use, file_used, steps_used, heap_words_used, line_in, line_in-rows}
 use Rattle.rb_command.proofs.Looks.{Look, looks_end, looks_option, looks_unknown, looks_other, looks}
 use Rattle.rb_command.proofs.Walks as walks
 use Rattle.rb_command.proofs.Walks.{at, after, fault, settles, rows_in, with_file_held, wanting, with_value_held, value_held, repeats}

@@ -1,12 +1,10 @@
 -- Reading the words and then the numbers is reading the words with their numbers.
-use Rattle.std.proofs.Common.{ℕ, ◌≡◌, ◌∙◌, ap, ap₂, sym, subst, Bool, true, false, List, [], ◌∷◌, length, Option, Some, None, option_map, codes, refl}
-use Rattle.std.specs.Prelude.{◌&&◌, ◌==◌, if◌then◌else◌, option_and_then, unwrap_or, nat_le}
-use Rattle.std.specs.List.{list_all}
-use Rattle.std.specs.Char.{is_ascii_digit}
+use Rattle.std.proofs.Common.{ℕ, ◌≡◌, ◌∙◌, ap, ap₂, sym, subst, Bool, true, false, List, [], ◌∷◌, length, Option, Some, None, option_map, refl}
+use Rattle.std.specs.Prelude.{◌&&◌, if◌then◌else◌, option_and_then, nat_le}
 use Rattle.std.specs.Str.Parse.{digits_value}
 use Rattle.std.proofs.lemmas.Bool.{eqb-true}
-use Rattle.rb_command.specs.Words.{Text, Name, Kind, Given, Wanted, Run, steps, heap_words, ends, option, refused, other, kind_of, begins_with_hyphen, is_numeral, number_of, within, least_of, most_of, nothing_given, once, with_file, with_number, with_value, files, reads_on, reads, run_of, run, command_of, default_of}
-use Rattle.rb_command.specs.Line.{Parts, Line, no_parts, parts_of, part_files, part_file, part_text, part_value, part_on, whole, line_of, number_for, run_of_line, command_of_line}
+use Rattle.rb_command.specs.Words.{Text, Name, Kind, Given, steps, heap_words, ends, option, refused, other, kind_of, begins_with_hyphen, number_of, within, least_of, most_of, nothing_given, with_file, with_number, with_value, files, reads_on, reads, run_of, run, default_of}
+use Rattle.rb_command.specs.Line.{Parts, no_parts, parts_of, part_files, part_file, part_text, part_value, part_on, whole, line_of, command_of_line}
 
 -- ---- the numbers of the parts
 

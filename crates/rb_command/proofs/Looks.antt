@@ -1,14 +1,14 @@
 -- What a word looks like to clap, and what kind the definition gives it.
-use Rattle.std.proofs.Common.{ℕ, ◌≡◌, ◌∙◌, ap, ap₂, sym, subst, Bool, true, false, cond, not, List, [], ◌∷◌, Option, Some, None, codes, refl, take, drop, ◌+◌, length, suc, arith}
-use Rattle.std.specs.Prelude.{◌==◌, ◌&&◌, ◌||◌, if◌then◌else◌}
+use Rattle.std.proofs.Common.{ℕ, ◌≡◌, ◌∙◌, ap, ap₂, sym, subst, Bool, true, false, cond, not, [], ◌∷◌, Option, Some, None, codes, refl, drop, ◌+◌, suc, arith}
+use Rattle.std.specs.Prelude.{◌==◌, ◌&&◌, if◌then◌else◌}
 use Rattle.std.specs.Str.{bytes_eq}
-use Rattle.std.specs.List.{before_first, after_first, list_any, prefix_len}
+use Rattle.std.specs.List.{list_any, prefix_len}
 use Rattle.std.proofs.lemmas.List.Sums.{take_while-cons}
 use Rattle.std.proofs.lemmas.Bool.{eqb-true}
 use Rattle.std.proofs.lemmas.Slice.Eq.{bytes_eq-Decides}
 use Rattle.clap.specs.Lexer.{long_of, short_of}
 use Rattle.clap.specs.Walk.{arg_by_long}
-use Rattle.rb_command.specs.Words.{Text, Name, Kind, steps, heap_words, ends, option, refused, other, kind_of, name_part, value_part, is_equals_sign, begins_with_hyphen}
+use Rattle.rb_command.specs.Words.{Text, Name, Kind, steps, heap_words, option, refused, other, kind_of, name_part, value_part, is_equals_sign, begins_with_hyphen}
 use Rattle.rb_command.specs.Line.{has_one_hyphen}
 use Rattle.rb_command.proofs.Reader.{rules, id_of, unknown_name}
 
@@ -45,11 +45,11 @@ kind_by name value = if bytes_eq name (codes "steps") then option steps value
 kind-long : (byte : ℕ) (word : Text) → kind_of (45 ∷ 45 ∷ byte ∷ word) ≡ kind_by (name_part (byte ∷ word)) (value_part (byte ∷ word))
 kind-long byte word =
     let name : name_part (45 ∷ 45 ∷ byte ∷ word) ≡ 45 ∷ 45 ∷ name_part (byte ∷ word) =
-      name_part-cons 45 (45 ∷ byte ∷ word) refl ∙ ap (λ (n : Text). 45 ∷ n) (name_part-cons 45 (byte ∷ word) refl) in
+    name_part-cons 45 (45 ∷ byte ∷ word) refl ∙ ap (λ (n : Text). 45 ∷ n) (name_part-cons 45 (byte ∷ word) refl) in
     let value : value_part (45 ∷ 45 ∷ byte ∷ word) ≡ value_part (byte ∷ word) =
-      value_part-cons 45 (45 ∷ byte ∷ word) refl ∙ value_part-cons 45 (byte ∷ word) refl in
+    value_part-cons 45 (45 ∷ byte ∷ word) refl ∙ value_part-cons 45 (byte ∷ word) refl in
     ap₂ (λ (n : Text) (v : Option Text). if bytes_eq n (codes "--steps") then option steps v
-        else (if bytes_eq n (codes "--heap-words") then option heap_words v else refused)) name value
+    else (if bytes_eq n (codes "--heap-words") then option heap_words v else refused)) name value
 
 long : (byte : ℕ) (word : Text) → Look (45 ∷ 45 ∷ byte ∷ word)
 long byte word = go (bytes_eq name (codes "steps")) (bytes_eq name (codes "heap-words")) refl refl
@@ -122,9 +122,9 @@ kind-one : (next : ℕ) (word : Text) → (next == 45) ≡ false → kind_of (45
 kind-one next word differs =
     let name = name_part-cons 45 (next ∷ word) refl in
     let not_steps : bytes_eq (name_part (45 ∷ next ∷ word)) (codes "--steps") ≡ false =
-      ap (λ (n : Text). bytes_eq n (codes "--steps")) name ∙ name-other next word (codes "steps") differs in
+    ap (λ (n : Text). bytes_eq n (codes "--steps")) name ∙ name-other next word (codes "steps") differs in
     let not_heap_words : bytes_eq (name_part (45 ∷ next ∷ word)) (codes "--heap-words") ≡ false =
-      ap (λ (n : Text). bytes_eq n (codes "--heap-words")) name ∙ name-other next word (codes "heap-words") differs in
+    ap (λ (n : Text). bytes_eq n (codes "--heap-words")) name ∙ name-other next word (codes "heap-words") differs in
     rw (differs, not_steps, not_heap_words) refl
 
 pub one_is_refused : (word : Text) → has_one_hyphen word ≡ true → kind_of word ≡ refused

@@ -1,6 +1,6 @@
 -- Words of digits.
-use Rattle.std.proofs.Common.{ℕ, ◌≡◌, ◌≢◌, ◌∙◌, ap, ◌<◌, ◌≤◌, ◌^◌, Bool, true, false, cond, List, [], ◌∷◌, length, get_or, Option, Some, None, refl, arith, sym, subst}
-use Rattle.std.specs.Prelude.{◌&&◌, if◌then◌else◌, nat_le, nat_lt}
+use Rattle.std.proofs.Common.{ℕ, ◌≡◌, ◌≢◌, ◌<◌, ◌^◌, Bool, true, false, [], ◌∷◌, length, get_or, Some, None, refl, arith, sym, subst}
+use Rattle.std.specs.Prelude.{◌&&◌, if◌then◌else◌, nat_le}
 use Rattle.std.specs.List.{list_all}
 use Rattle.std.specs.Char.{is_ascii_digit, digit_value}
 use Rattle.std.specs.Str.Parse.{AllDigits, IsNumeral, digits_value, without_leading_plus}
@@ -48,10 +48,10 @@ pub past_every_range : (least most : ℕ) (word : Text) → most < 2 ^ 64 → is
 past_every_range least most word bound numeral no_number =
     let some = left (nat_le 1 (length word)) (nat_le (length word) 19 && list_all is_ascii_digit word) numeral in
     let digits = right (nat_le (length word) 19) (list_all is_ascii_digit word)
-      (right (nat_le 1 (length word)) (nat_le (length word) 19 && list_all is_ascii_digit word) numeral) in
+    (right (nat_le 1 (length word)) (nat_le (length word) 19 && list_all is_ascii_digit word) numeral) in
     let plain : without_leading_plus word ≡ word = without_leading_plus_none word (first_digit word digits) in
     let past : ¬ (IsNumeral 10 word × (digits_value 10 word < 2 ^ 64)) =
-      subst (λ (w : Text). ¬ (IsNumeral 10 w × (digits_value 10 w < 2 ^ 64))) plain no_number in
+    subst (λ (w : Text). ¬ (IsNumeral 10 w × (digits_value 10 w < 2 ^ 64))) plain no_number in
     let large : digits_value 10 word < 2 ^ 64 → ⊥ = λ below. past ((some_digits word some, all_digits word digits), below) in
     let over : most < digits_value 10 word = omega arith in
     rw numeral (sym (above least most (digits_value 10 word) over))

@@ -1,13 +1,11 @@
 -- The reader that clap is given, as its lists of rules.
-use Rattle.std.proofs.Common.{ℕ, ◌≡◌, Bool, true, false, cond, List, [], ◌∷◌, Option, Some, None, codes, refl, ap, sym, ◌∙◌}
-use Rattle.std.specs.Prelude.{◌||◌, if◌then◌else◌}
+use Rattle.std.proofs.Common.{◌≡◌, true, false, List, [], ◌∷◌, None, codes, refl, ap, sym, ◌∙◌}
 use Rattle.std.specs.Str.{bytes_eq}
 use Rattle.clap.specs.Faults.{is_simple_and_free}
-use Rattle.clap.specs.Simple.{App, Shape, new_app, new_rule, with_rule, with_index, filled, on_top, built, is_simple, names_of, app_of, app_of_fields}
+use Rattle.clap.specs.Simple.{Shape, new_app, with_index, filled, on_top, built, is_simple, names_of, app_of, app_of_fields}
 use Rattle.clap.specs.Walk.{Rule, arg_by_long}
 use Rattle.clap.specs.declared.builder.command.Command.{Command}
 use Rattle.clap.specs.declared.builder.command.Command.TheViews.{out-Command}
-use Rattle.clap.specs.declared.builder.action.ArgAction.TheVariants.{Set}
 use Rattle.rb_command.specs.Words.{Text, Name, steps, heap_words}
 pub use Rattle.rb_command.specs.Reader.{id_of, file_given, option_given, bare, reader}
 use Rattle.std.proofs.lemmas.Slice.Eq.{bytes_eq-Decides}

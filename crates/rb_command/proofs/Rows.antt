@@ -1,12 +1,12 @@
 -- What clap found, by the texts that the words gave.
-use Rattle.std.proofs.Common.{◌≡◌, ◌∙◌, ap, sym, refl, append_assoc, ℕ, Bool, true, false, cond, is_some, List, [], ◌∷◌, ◌++◌, Option, Some, None, option_map, codes}
+use Rattle.std.proofs.Common.{◌≡◌, ◌∙◌, ap, refl, Bool, true, false, cond, is_some, List, [], ◌∷◌, ◌++◌, Option, Some, None, option_map, codes}
 use Rattle.std.specs.Prelude.{option_and_then, slice_get, ◌||◌, if◌then◌else◌, find}
 use Rattle.std.specs.Str.{bytes_eq}
 use Rattle.clap.specs.declared.builder.value_parser.Reading.TheVariants.{AsWritten}
 use Rattle.clap.specs.declared.parser.matches.ValueSource.TheVariants.{CommandLine}
 use Rattle.clap.specs.Walk.{Row, at_row, without, with_values, has_row, first_of, more_values}
 use Rattle.rb_command.specs.Words.{Text}
-use Rattle.rb_command.specs.Line.{Parts, Line, whole}
+use Rattle.rb_command.specs.Line.{Parts, whole}
 pub use Rattle.rb_command.specs.Rows.{line_in}
 
 -- the row of an argument that was used once
@@ -60,7 +60,7 @@ looked-after_use id text other rows absent =
     let kept : without id rows ≡ rows ++ [] = at_row-absent id (λ r. []) [] rows absent in
     let still : looked id (rows ++ []) ≡ None = looked-append id rows [] ∙ first_some-none (looked id rows) ∙ absent in
     let added : after_use id text rows ≡ (rows ++ []) ++ (row id text ∷ []) =
-      ap (λ (xs : List Row). with_values id AsWritten CommandLine (text ∷ []) xs) kept ∙ at_row-absent id (more_values CommandLine (text ∷ [])) (row id text ∷ []) (rows ++ []) still in
+    ap (λ (xs : List Row). with_values id AsWritten CommandLine (text ∷ []) xs) kept ∙ at_row-absent id (more_values CommandLine (text ∷ [])) (row id text ∷ []) (rows ++ []) still in
     ap (looked other) added ∙ looked-append other (rows ++ []) (row id text ∷ [])
     ∙ ap (λ (o : Option Row). first_some o (cond (bytes_eq id other) (Some (row id text)) None)) (looked-append other rows [] ∙ first_some-none (looked other rows))
 
@@ -108,7 +108,6 @@ heap_words_used rows file steps text h = record {
   steps = kept rows (codes "heap-words") (codes "steps") text _ h.heap_words refl h.steps;
   heap_words = here rows (codes "heap-words") text h.heap_words refl;
 }
-
 
 first_text : (id : Text) (rows : List Row) (o : Option Text) → looked id rows ≡ option_map (row id) o → first_of id rows ≡ o
 first_text id rows o is = ap (option_and_then (λ (r : Row). slice_get r.values 0)) is ∙ go o

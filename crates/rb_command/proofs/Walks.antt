@@ -1,17 +1,15 @@
 -- One word of clap's walk: what may fail, and where the walk stands behind it.
-use Rattle.std.proofs.Common.{ℕ, ◌≡◌, ◌∙◌, ap, ap₂, sym, subst, Bool, true, false, cond, is_some, List, [], ◌∷◌, ◌++◌, Option, Some, None, option_map, codes, refl}
-use Rattle.std.specs.Prelude.{◌&&◌, ◌||◌, not, if◌then◌else◌, fold}
+use Rattle.std.proofs.Common.{ℕ, ◌≡◌, ◌∙◌, ap, Bool, true, false, List, [], ◌∷◌, Option, Some, None, codes, refl}
+use Rattle.std.specs.Prelude.{◌&&◌, if◌then◌else◌}
 use Rattle.std.specs.Str.{bytes_eq}
 use Rattle.clap.specs.Lexer.{long_of, short_of}
 use Rattle.clap.specs.Kinds.{Kinds, or_else}
-use Rattle.clap.specs.Faults.{settle_fault, turn_fault, walk_fault, defaults_fault, check_fault, use_fault, repeat_fault, default_fault}
-use Rattle.clap.specs.Walk.{Held, Walk, Waiting, Row, idle, option, positional, walked, settled, settled_rows, positional_held, pushed, subcommand_met, finished, has_row, arg_by_long, with_default}
-use Rattle.clap.specs.declared.error.kind.ErrorKind.{ErrorKind}
+use Rattle.clap.specs.Faults.{settle_fault, turn_fault, repeat_fault}
+use Rattle.clap.specs.Walk.{Held, Walk, Waiting, Row, idle, option, positional, walked, settled, settled_rows, positional_held, pushed, subcommand_met, arg_by_long}
 use Rattle.clap.specs.declared.error.kind.ErrorKind.TheVariants as kind
 use Rattle.rb_command.specs.Words.{Text, Name, steps, heap_words}
-use Rattle.rb_command.specs.Line.{Parts, Line, whole}
-use Rattle.rb_command.proofs.Reader.{rules, shape, id_of, file_rule, option_rule}
-use Rattle.rb_command.proofs.Rows.{Rows, row, looked, has_row-looked, after_use, file_used, steps_used, heap_words_used, line_in, line_in-rows}
+use Rattle.rb_command.proofs.Reader.{rules, shape, id_of, file_rule}
+use Rattle.rb_command.proofs.Rows.{looked, has_row-looked, after_use}
 
 abbrev pub at : Held → Waiting → ℕ → Bool → Walk
 at held waiting position is_trailing = record { held = held; waiting = waiting; position = position; is_trailing = is_trailing; stopped = None }

@@ -1,27 +1,27 @@
 -- What clap answers to the words behind the command, as the line says it.
-use Rattle.std.proofs.Common.{ℕ, ◌≡◌, ◌≢◌, ◌∙◌, ap, ap₂, sym, subst, Bool, true, false, inl, inr, List, [], ◌∷◌, Option, Some, None, option_map, codes, refl, ◌≤◌, length, get_or, map, take, drop, ◌-◌, string_bytes, String, Global, Result, Ok, Err, IfOk, arith}
-use Rattle.std.specs.Prelude.{◌&&◌, ◌||◌, ◌==◌, not, ◌⊎◌, if◌then◌else◌, option_and_then}
+use Rattle.std.proofs.Common.{◌≡◌, ◌≢◌, ◌∙◌, ap, sym, subst, Bool, true, false, inl, inr, List, [], ◌∷◌, Option, Some, None, option_map, codes, refl, ◌≤◌, length, get_or, map, take, drop, ◌-◌, string_bytes, String, Global, Result, Ok, Err, IfOk, arith}
+use Rattle.std.specs.Prelude.{◌&&◌, ◌||◌, ◌==◌, not, if◌then◌else◌, option_and_then}
 use Rattle.std.specs.Str.{bytes_eq}
 use Rattle.std.proofs.lemmas.List.{take_all}
-use Rattle.clap.specs.Kinds.{Kinds, HasKind, IsAmong, or_else}
+use Rattle.clap.specs.Kinds.{Kinds, HasKind, IsAmong}
 use Rattle.clap.specs.Values.{kind_of as kind_of_error}
 use Rattle.clap.specs.declared.error.Error.{Error}
 use Rattle.clap.specs.declared.error.kind.ErrorKind.TheVariants.{OutOfMemory}
-use Rattle.clap.specs.Faults.{fault_of, walk_fault}
-use Rattle.clap.specs.Simple.{matches_of, built, argument_words}
-use Rattle.clap.specs.Walk.{Row, nothing_held, walk_from, first_of, rows_of}
+use Rattle.clap.specs.Faults.{fault_of}
+use Rattle.clap.specs.Simple.{matches_of, built}
+use Rattle.clap.specs.Walk.{nothing_held, first_of, rows_of}
 use Rattle.clap.specs.Matches.{first_value}
 use Rattle.clap.specs.declared.parser.matches.Found.{Found}
 use Rattle.clap.specs.declared.error.kind.ErrorKind.{ErrorKind}
 use Rattle.clap.proofs.FaultLemmas.{leaf_fault}
 use Rattle.clap.proofs.WalkLemmas.{first_value-rows}
 use Rattle.rb_command.specs.Words.{Text, Name, Kind, steps, heap_words, ends, option, refused, other, kind_of, begins_with_hyphen, name_part, value_part, command_of}
-use Rattle.rb_command.specs.Line.{Parts, Line, whole, no_parts, line_of, parts_of, part_files, part_file, part_value, part_text, part_on, has_one_hyphen, any_has_one_hyphen, command_of_line}
+use Rattle.rb_command.specs.Line.{Parts, Line, whole, no_parts, line_of, parts_of, part_file, part_value, part_text, part_on, has_one_hyphen, any_has_one_hyphen, command_of_line}
 use Rattle.rb_command.specs.Rows.{line_in}
 use Rattle.rb_command.proofs.Reader.{reader}
 use Rattle.rb_command.proofs.Looks.{one_is_refused}
 use Rattle.rb_command.proofs.Counted.{reads-line}
-use Rattle.rb_command.proofs.Agree.{answer, outcome, outcome-line}
+use Rattle.rb_command.proofs.Agree.{answer, outcome-line}
 
 -- ---- what clap takes and what it refuses
 

@@ -1,5 +1,5 @@
--- The words that clap is given to read.
-use Rattle.std.specs.Prelude.{true, List, [], ◌∷◌, Some, codes}
+-- What clap is to read.
+use Rattle.std.specs.Prelude.{true, Some, codes}
 use Rattle.clap.specs.Simple.{App, new_app, new_rule, with_rule, on_top}
 use Rattle.clap.specs.Walk.{Rule}
 use Rattle.clap.specs.declared.builder.action.ArgAction.TheVariants.{Set}

@@ -5,7 +5,7 @@ ghost use Rattle.std.specs.Borrow.{Bor};
 ghost use Rattle.rb_command.specs.Line as spec;
 ghost use Rattle.rb_command.specs.Seen.{line_seen};
 ghost use Rattle.clap.specs.Words.{app_of, found_of, kind_of, rows_of};
-ghost use Rattle.rb_command.specs.Reader as Reader;
+ghost use Rattle.rb_command.specs.Reader as wanted;
 ghost use Rattle.rb_command.specs.Rows.{line_in};
 
 use crate::hyphens::any_has_one_hyphen;
@@ -25,6 +25,7 @@ pub struct Line<'w> {
 pub fn line_of<'w>(alloc: Global, words: &'w [String]) -> Result<Option<Line<'w>>, AllocError>
     ensures { IfOk result (λ line. option_map line_seen line ≡ spec.line_of (map string_bytes words.now)) }
 {
+    // For clap `-` is a FILE.
     if any_has_one_hyphen(words) {
         return Ok(None);
     }
@@ -34,13 +35,19 @@ pub fn line_of<'w>(alloc: Global, words: &'w [String]) -> Result<Option<Line<'w>
     }
 }
 
-/// The words that clap is to read.
+/// What clap is to read: a FILE, and two options that each take a value.
 fn reader<'w>(alloc: Global) -> Result<clap::Command<'w>, AllocError>
-    ensures { IfOk result (λ command. app_of command ≡ Reader.reader) }
+    ensures { IfOk result (λ command. app_of command ≡ wanted.reader) }
 {
-    let file = Arg::new(alloc, "file").required(true).action(ArgAction::Set);
-    let steps = Arg::new(alloc, "steps").long("steps").action(ArgAction::Set);
-    let heap_words = Arg::new(alloc, "heap-words").long("heap-words").action(ArgAction::Set);
+    let file = Arg::new(alloc, "file")
+        .required(true)
+        .action(ArgAction::Set);
+    let steps = Arg::new(alloc, "steps")
+        .long("steps")
+        .action(ArgAction::Set);
+    let heap_words = Arg::new(alloc, "heap-words")
+        .long("heap-words")
+        .action(ArgAction::Set);
     clap::Command::new(alloc, "run")
         .no_binary_name(true)
         .disable_help_flag(true)

@@ -1,4 +1,4 @@
-use Rattle.std.proofs.Common.{rules, ◌≡◌, ◌∙◌, ap, subst, sym, map, string_bytes, List, []}
+use Rattle.std.proofs.Common.{◌≡◌, ◌∙◌, ap, subst, sym, map, string_bytes, List, []}
 use Rattle.clap.specs.Words.{App, app_of, fault_of, matches_of, is_simple, is_simple_and_free, HasKind}
 use Rattle.rb_command.specs.Words.{Text}
 use Rattle.rb_command.specs.Reader.{reader}
@@ -16,7 +16,7 @@ returns-in-Ok c =
     let words : List Text = map string_bytes c.args.words.now in
     let read : app_of c.in_ok-reader.field-0 ≡ reader = c.in_ok-reader.ensures in
     let fine : fault_of reader words ≡ [] =
-      sym (ap (λ (a : App). fault_of a words) read) ∙ c.in-Ok.ensures.kinds (ap is_simple_and_free read ∙ is_plain_reader) in
+    sym (ap (λ (a : App). fault_of a words) read) ∙ c.in-Ok.ensures.kinds (ap is_simple_and_free read ∙ is_plain_reader) in
     let rows = (c.in-Ok.ensures.matches (ap is_simple read ∙ is_simple_reader)).0 ∙ ap (λ (a : App). matches_of a words) read in
     c.found_line.ensures ∙ ap line_in rows ∙ taken words (sym c.if-any_has_one_hyphen.ensures) fine
 

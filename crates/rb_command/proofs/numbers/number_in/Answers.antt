@@ -1,4 +1,4 @@
-use Rattle.std.proofs.Common.{rules, sym}
+use Rattle.std.proofs.Common.{rules}
 use Rattle.rb_command.proofs.Numerals.{past_every_range}
 use Rattle.rb_command.proofs.numbers.number_in.Goals as goal
 
