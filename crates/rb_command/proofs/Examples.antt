@@ -1,0 +1,57 @@
+-- What command lines ask for, by example.
+use Rattle.std.specs.Prelude.{ℕ, ◌≡◌, List, [], ◌∷◌, Option, Some, None, codes, refl}
+use Rattle.rb_command.specs.Words.{Text, Wanted, run, command_of}
+
+abbrev asks : Text → ℕ → ℕ → Option Wanted
+asks file steps heap_words = Some (run (record { file = file; steps = steps; heap_words = heap_words }))
+
+abbrev of : List Text → Option Wanted
+of words = command_of (codes "run" ∷ words)
+
+value_in_the_word : of (codes "a.rb" ∷ codes "--steps=5" ∷ []) ≡ asks (codes "a.rb") 5 1048576
+value_in_the_word = refl
+
+file_behind_the_end : of (codes "--" ∷ codes "-a.rb" ∷ []) ≡ asks (codes "-a.rb") 100000000 1048576
+file_behind_the_end = refl
+
+end_as_file : of (codes "--" ∷ codes "--" ∷ []) ≡ asks (codes "--") 100000000 1048576
+end_as_file = refl
+
+option_before_the_file : of (codes "--steps" ∷ codes "5" ∷ codes "a.rb" ∷ []) ≡ asks (codes "a.rb") 5 1048576
+option_before_the_file = refl
+
+both_options : of (codes "--heap-words=4096" ∷ codes "a.rb" ∷ codes "--steps" ∷ codes "1000000000000" ∷ []) ≡ asks (codes "a.rb") 1000000000000 4096
+both_options = refl
+
+no_file : of [] ≡ None
+no_file = refl
+
+no_step : of (codes "--steps" ∷ codes "0" ∷ codes "a.rb" ∷ []) ≡ None
+no_step = refl
+
+option_given_twice : of (codes "--steps" ∷ codes "5" ∷ codes "--steps" ∷ codes "6" ∷ codes "a.rb" ∷ []) ≡ None
+option_given_twice = refl
+
+too_many_steps : of (codes "--steps" ∷ codes "1000000000001" ∷ codes "a.rb" ∷ []) ≡ None
+too_many_steps = refl
+
+too_small_a_heap : of (codes "--heap-words" ∷ codes "4095" ∷ codes "a.rb" ∷ []) ≡ None
+too_small_a_heap = refl
+
+single_hyphen : of (codes "-" ∷ []) ≡ None
+single_hyphen = refl
+
+no_command : command_of (codes "--help" ∷ []) ≡ None
+no_command = refl
+
+sign : of (codes "--steps=+5" ∷ codes "a.rb" ∷ []) ≡ None
+sign = refl
+
+two_files : of (codes "a.rb" ∷ codes "b.rb" ∷ []) ≡ None
+two_files = refl
+
+value_that_is_no_number : of (codes "--steps" ∷ codes "a.rb" ∷ []) ≡ None
+value_that_is_no_number = refl
+
+end_as_value : of (codes "--steps" ∷ codes "--" ∷ codes "a.rb" ∷ []) ≡ None
+end_as_value = refl

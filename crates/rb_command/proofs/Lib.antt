@@ -1,0 +1,9 @@
+pub mod Examples
+pub mod Reader
+pub mod Rows
+pub mod Looks
+pub mod Walks
+pub mod Agree
+pub mod Counted
+pub mod Whole
+pub mod Numerals

@@ -1,0 +1,5 @@
+pub mod Words
+pub mod Line
+pub mod Seen
+pub mod Rows
+pub mod Reader

@@ -1,0 +1,17 @@
+-- What the program holds of the words, as the definitions see it.
+use Rattle.std.specs.Prelude.{option_map}
+use Rattle.rb_command.specs.Words as spec
+use Rattle.rb_command.specs.Line as said
+use Rattle.rb_command.specs.declared.line.Line.{Line}
+use Rattle.rb_command.specs.declared.words.RunWords.{RunWords}
+use Rattle.rb_command.specs.declared.words.Command.{Command}
+use Rattle.rb_command.specs.declared.words.Command.TheVariants.{Run}
+
+abbrev pub line_seen : Line → said.Line
+line_seen line = record { file = line.file.now; steps = option_map (λ text. text.now) line.steps; heap_words = option_map (λ text. text.now) line.heap_words }
+
+abbrev pub run_seen : RunWords → spec.Run
+run_seen words = record { file = words.file.now; steps = words.steps; heap_words = words.heap_words }
+
+abbrev pub seen : Command → spec.Wanted
+seen (Run words) = spec.run (run_seen words)

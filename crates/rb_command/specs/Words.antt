@@ -1,0 +1,143 @@
+-- What the words of a command line ask for.
+use Rattle.std.specs.Prelude.{ℕ, ◌==◌, ◌&&◌, Bool, false, List, [], ◌∷◌, length, Option, Some, None, option_map, option_and_then, unwrap_or, if◌then◌else◌, nat_le, codes}
+use Rattle.std.specs.List.{list_all, list_any, before_first, after_first}
+use Rattle.std.specs.Char.{is_ascii_digit}
+use Rattle.std.specs.Str.{bytes_eq}
+use Rattle.std.specs.Str.Parse.{digits_value}
+
+abbrev pub Text : Type 0
+Text = List ℕ
+
+-- ---- a word
+
+-- the options
+pub data Name : Type 0 where
+  steps : Name
+  heap_words : Name
+
+-- What a word is, before `--`: the end of the options, an option with its value if that is in the same word, no word of the program, or
+-- another.
+pub data Kind : Type 0 where
+  ends : Kind
+  option : Name → Option Text → Kind
+  refused : Kind
+  other : Kind
+
+abbrev pub is_equals_sign : ℕ → Bool
+is_equals_sign byte = byte == 61
+
+-- what stands before the first `=`, and what stands behind it
+abbrev pub name_part : Text → Text
+name_part word = before_first is_equals_sign word
+
+abbrev pub value_part : Text → Option Text
+value_part word = if list_any is_equals_sign word then Some (after_first is_equals_sign word) else None
+
+abbrev pub begins_with_hyphen : Text → Bool
+begins_with_hyphen [] = false
+begins_with_hyphen (byte ∷ word) = byte == 45
+
+abbrev pub kind_of : Text → Kind
+kind_of word = if bytes_eq word (codes "--") then ends
+    else (if bytes_eq (name_part word) (codes "--steps") then option steps (value_part word)
+    else (if bytes_eq (name_part word) (codes "--heap-words") then option heap_words (value_part word)
+    else (if begins_with_hyphen word then refused else other)))
+
+-- ---- numbers
+
+-- 1 to 19 digits
+abbrev pub is_numeral : Text → Bool
+is_numeral word = nat_le 1 (length word) && (nat_le (length word) 19 && list_all is_ascii_digit word)
+
+abbrev pub within : ℕ → ℕ → ℕ → Option ℕ
+within least most number = if nat_le least number && nat_le number most then Some number else None
+
+-- the number that the word writes, where it is in the range
+abbrev pub number_in : ℕ → ℕ → Text → Option ℕ
+number_in least most word = if is_numeral word then within least most (digits_value 10 word) else None
+
+abbrev pub least_of : Name → ℕ
+least_of steps = 1
+least_of heap_words = 4096
+
+abbrev pub most_of : Name → ℕ
+most_of steps = 1000000000000
+most_of heap_words = 134217728
+
+-- where the option is not given
+abbrev pub default_of : Name → ℕ
+default_of steps = 100000000
+default_of heap_words = 1048576
+
+abbrev pub number_of : Name → Text → Option ℕ
+number_of name word = number_in (least_of name) (most_of name) word
+
+-- ---- the words behind the command
+
+-- what the words so far gave
+pub record Given : Type 0 where
+  pub file : Option Text
+  pub steps : Option ℕ
+  pub heap_words : Option ℕ
+
+abbrev pub nothing_given : Given
+nothing_given = record { file = None; steps = None; heap_words = None }
+
+-- the value, where there is none before it
+abbrev pub once : {X : Type 0} → Option X → X → Option X
+once None value = Some value
+once (Some before) value = None
+
+abbrev pub with_file : Text → Given → Option Given
+with_file word given = option_map (λ file. record given { file = Some file }) (once given.file word)
+
+abbrev pub with_number : Name → ℕ → Given → Option Given
+with_number steps number given = option_map (λ n. record given { steps = Some n }) (once given.steps number)
+with_number heap_words number given = option_map (λ n. record given { heap_words = Some n }) (once given.heap_words number)
+
+abbrev pub with_value : Name → Text → Given → Option Given
+with_value name word given = option_and_then (λ number. with_number name number given) (number_of name word)
+
+-- behind `--` each word is a FILE
+abbrev pub files : List Text → Given → Option Given
+files [] given = Some given
+files (word ∷ rest) given = option_and_then (files rest) (with_file word given)
+
+-- a word of this kind, and then what `next` makes of the rest, which may have to begin with a value
+abbrev pub reads_on : Kind → Text → List Text → (Option Name → Given → Option Given) → Given → Option Given
+reads_on ends word rest next given = files rest given
+reads_on (option name None) word rest next given = next (Some name) given
+reads_on (option name (Some value)) word rest next given = option_and_then (next None) (with_value name value given)
+reads_on refused word rest next given = None
+reads_on other word rest next given = option_and_then (next None) (with_file word given)
+
+-- what the words give; where an option waits, the first is its value, whatever it looks like
+abbrev pub reads : Option Name → List Text → Given → Option Given
+reads None [] given = Some given
+reads (Some name) [] given = None
+reads None (word ∷ rest) given = reads_on (kind_of word) word rest (λ pending now. reads pending rest now) given
+reads (Some name) (word ∷ rest) given = option_and_then (reads None rest) (with_value name word given)
+
+-- ---- the command line
+
+pub record Run : Type 0 where
+  pub file : Text
+  pub steps : ℕ
+  pub heap_words : ℕ
+
+-- what the program is asked to do
+pub data Wanted : Type 0 where
+  run : Run → Wanted
+
+-- a run wants a FILE
+abbrev pub run_of : Given → Option Wanted
+run_of given = option_map (λ file. run (record {
+  file = file;
+  steps = unwrap_or given.steps (default_of steps);
+  heap_words = unwrap_or given.heap_words (default_of heap_words);
+})) given.file
+
+-- what the words ask for, without the program's own name; none where they are no words of the program
+abbrev pub command_of : List Text → Option Wanted
+command_of [] = None
+command_of (word ∷ rest) = if bytes_eq word (codes "run") then option_and_then run_of (reads None rest nothing_given) else None

@@ -1,0 +1,11 @@
+//! The words of the command line: what the program is asked to do.
+#![tactic(auto)]
+
+mod hyphens;
+mod line;
+mod numbers;
+#[cfg(test)]
+mod tests;
+mod words;
+
+pub use words::{Command, RunWords, command_of};
