@@ -4,4 +4,6 @@ pub mod Counts
 pub mod Exits
 pub mod Once
 pub mod Finishing
+pub mod Uniform
+pub mod Budgets
 pub mod Examples

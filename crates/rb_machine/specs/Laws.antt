@@ -33,6 +33,14 @@ pub data Finishes (S : Script) (N : ℕ) : Type 0 where
 abbrev pub AlwaysFinishes : Type 0
 AlwaysFinishes = (S : Script) (N : ℕ) → Finishes S N
 
+-- A script that ends with a budget of steps, and not for want of them, does the same with every greater budget.
+abbrev pub MoreStepsChangeNothing : Type 0
+MoreStepsChangeNothing = (S : Script) (N M : ℕ) (b : List ℕ) (e : End) (n : ℕ) → N ≤ M → (e ≡ Steps → ⊥) → Alone S N b e n → Alone S M b e n
+
+-- what a script shows with a budget of steps stands in front of what it shows with a greater one
+abbrev pub MoreStepsShowMore : Type 0
+MoreStepsShowMore = (S : Script) (N M : ℕ) (b b' : List ℕ) (e e' : End) (n n' : ℕ) → N ≤ M → Alone S N b e n → Alone S M b' e' n' → (behind : List ℕ) × (b' ≡ b ++ behind)
+
 -- whether a node or an iteration of a block begins
 abbrev pub begins_step : State → Bool
 begins_step (On (Eval n) k sc d left) = nat_lt 0 left && nat_lt d max_depth

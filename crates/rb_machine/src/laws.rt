@@ -39,3 +39,10 @@ pub fn next_goes_on()
 pub fn return_ends()
     ensures { law.ReturnEndsMethods }
 {}
+
+/// A greater budget changes nothing that was done with a smaller one: an end that is not for want of steps stays with its bytes and
+/// its count, and what was shown is shown first.
+pub fn budgets()
+    ensures kept { law.MoreStepsChangeNothing }
+    ensures front { law.MoreStepsShowMore }
+{}
