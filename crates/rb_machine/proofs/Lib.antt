@@ -5,5 +5,6 @@ pub mod Exits
 pub mod Once
 pub mod Finishing
 pub mod Uniform
+pub mod Division
 pub mod Budgets
 pub mod Examples

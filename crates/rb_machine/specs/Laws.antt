@@ -1,5 +1,5 @@
 -- What holds of the machine, whatever the script.
-use Rattle.std.specs.Prelude.{◌≡◌, ◌≤◌, ℕ, suc, Bool, true, false, ◌&&◌, nat_lt, int_lt, List, [], ◌∷◌, ◌++◌, None}
+use Rattle.std.specs.Prelude.{◌≡◌, ◌≤◌, ℕ, suc, Bool, true, false, ◌&&◌, nat_lt, ℤ, pos, negsuc, ◌+ℤ◌, ◌*ℤ◌, ◌≤ℤ◌, ◌<ℤ◌, int_lt, List, [], ◌∷◌, ◌++◌, None}
 use Rattle.rb_tree.specs.declared.node.Node.{Node}
 use Rattle.rb_tree.specs.declared.node.Block.{Block}
 use Rattle.rb_model.specs.Values.{Value, Nil, Reference}
@@ -8,6 +8,7 @@ use Rattle.rb_model.specs.Private.{Private, held}
 use Rattle.rb_model.specs.Ends.{End, Steps}
 use Rattle.rb_machine.specs.Scopes.{Script, Scope}
 use Rattle.rb_machine.specs.Control.{State, On, Eval, Give, Leave, Looping, Turning, Break, Next, Return, Turns, Counting, Cont, Then, Under, Test, Again, Turn, Frame}
+use Rattle.rb_machine.specs.Methods.{quotient, modulo}
 use Rattle.rb_machine.specs.Give.{back}
 use Rattle.rb_machine.specs.Move.{Go, Ask, move, replied, left_in, IsWant, max_depth}
 use Rattle.rb_machine.specs.Alone.{Runs, Alone}
@@ -101,3 +102,16 @@ NextGoesOn = (S : Script) (inner k : List Cont) (condition : Node) (body : List 
 abbrev pub ReturnEndsMethods : Type 0
 ReturnEndsMethods = (S : Script) (inner k : List Cont) (v : Value) (saved sc : Scope) (d left : ℕ) → is_in_method inner ≡ true
     → Quiet S (On (Leave (Return v)) (inner ++ Frame saved ∷ k) sc d left) (On (Give v) k saved (depth_behind inner d) left)
+
+-- what a division leaves: from 0 up to below the divisor, or, where that is negative, from above it up to 0
+abbrev pub IsRestBy : ℤ → ℤ → Type 0
+IsRestBy (pos n) rest = (pos 0 ≤ℤ rest) × (rest <ℤ pos n)
+IsRestBy (negsuc n) rest = (negsuc n <ℤ rest) × (rest ≤ℤ pos 0)
+
+-- the quotient and the rest make up the dividend
+abbrev pub DividesBack : Type 0
+DividesBack = (m n : ℤ) → (n ≡ pos 0 → ⊥) → m ≡ n *ℤ quotient m n +ℤ modulo m n
+
+-- the rest is 0, or has the sign of the divisor and is smaller
+abbrev pub RestsAreSmall : Type 0
+RestsAreSmall = (m n : ℤ) → (n ≡ pos 0 → ⊥) → IsRestBy n (modulo m n)

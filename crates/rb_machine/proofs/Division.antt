@@ -1,0 +1,66 @@
+-- Division of integers, rounded toward minus infinity.
+use Rattle.std.proofs.Common.{◌≡◌, ◌<◌, ◌≤◌, ℕ, zero, suc, ◌+◌, ◌-◌, ◌*◌, ◌/◌, ◌%◌, Bool, true, false, cond, refl, sym, ap, ◌∙◌, subst, arith, ℤ, pos, negsuc, ◌+ℤ◌, ◌-ℤ◌, ◌*ℤ◌, neg_ℤ, unsigned_abs, ◌<ℤ◌, ◌≤ℤ◌, div-add-mod', mod-lt}
+use borrow.Author.Differences.{neg_is}
+use Rattle.std.specs.Prelude.{int_lt, not, ◌&&◌}
+use Rattle.std.specs.Ordering.{int_eq}
+use Rattle.std.specs.Int.{int_div_euclid, int_rem_euclid}
+use Rattle.std.proofs.Math.IntN.{*ℤ_comm, pred_ℤ-*ℤ, -ℤ_one}
+use Rattle.std.proofs.lemmas.Int.{ints}
+use Rattle.rb_machine.specs.Methods.{quotient, modulo, leaves_below}
+use Rattle.rb_machine.specs.Laws.{IsRestBy, DividesBack, RestsAreSmall}
+
+-- the quotient whose remainder is never negative
+euclid : (m n : ℤ) → (n ≡ pos 0 → ⊥) → m ≡ n *ℤ int_div_euclid m n +ℤ int_rem_euclid m n
+euclid m (pos zero) h = absurd (h refl)
+euclid (pos a) (pos (suc b)) h = omega (arith, ints, div-add-mod' a (suc b))
+euclid (pos a) (negsuc b) h =
+    let negated = neg_is (pos (a / suc b)) in
+    omega (arith, ints, div-add-mod' a (suc b), ap (λ x. suc b * x) negated.0, ap (λ x. suc b * x) negated.1)
+euclid (negsuc a) (pos (suc b)) h = omega (arith, ints, div-add-mod' a (suc b))
+euclid (negsuc a) (negsuc b) h = omega (arith, ints, div-add-mod' a (suc b))
+
+euclid_rest : (m n : ℤ) → (n ≡ pos 0 → ⊥) → (r : ℕ) × (int_rem_euclid m n ≡ pos r) × (r < unsigned_abs n)
+euclid_rest m (pos zero) h = absurd (h refl)
+euclid_rest (pos a) (pos (suc b)) h = (a % suc b, refl, mod-lt a (omega arith))
+euclid_rest (pos a) (negsuc b) h = (a % suc b, refl, mod-lt a (omega arith))
+euclid_rest (negsuc a) (pos (suc b)) h = (suc b - 1 - a % suc b, refl, omega arith)
+euclid_rest (negsuc a) (negsuc b) h = (suc b - 1 - a % suc b, refl, omega arith)
+
+one_less : (n q : ℤ) → n *ℤ (q -ℤ pos 1) ≡ n *ℤ q -ℤ n
+one_less n q = ap (λ p. n *ℤ p) (-ℤ_one q) ∙ (*ℤ_comm n _ ∙ (pred_ℤ-*ℤ q n ∙ ap (λ p. p -ℤ n) (*ℤ_comm q n)))
+
+cancels : (p n r : ℤ) → p +ℤ r ≡ (p -ℤ n) +ℤ (r +ℤ n)
+cancels p n r = omega (arith, ints)
+
+-- a quotient that is one less leaves the divisor more
+divided_if : (b : Bool) (m n q r : ℤ) → m ≡ n *ℤ q +ℤ r → m ≡ n *ℤ cond b (q -ℤ pos 1) q +ℤ cond b (r +ℤ n) r
+divided_if false m n q r e = e
+divided_if true m n q r e = e ∙ (cancels (n *ℤ q) n r ∙ ap (λ p. p +ℤ (r +ℤ n)) (sym (one_less n q)))
+
+pub divides_back : DividesBack
+divides_back m n h = divided_if (leaves_below m n) m n (int_div_euclid m n) (int_rem_euclid m n) (euclid m n h)
+
+not_below : (b : ℕ) → int_lt (pos b) (pos 0) ≡ false
+not_below b = grind (arith, ints)
+
+not_zero : (r : ℕ) → int_eq (pos (suc r)) (pos 0) ≡ false
+not_zero r = grind (arith, ints)
+
+-- where the divisor is positive, the rest stays
+rest_above : (below leaves : Bool) (b r : ℕ) (rest : ℤ) → below ≡ false → rest ≡ pos r → r < b → IsRestBy (pos b) (cond (below && leaves) (rest +ℤ pos b) rest)
+rest_above true leaves b r rest f e h = absurd (cc)
+rest_above false leaves b r rest f e h = (omega (arith, ints), omega (arith, ints))
+
+-- where it is negative, it is added to a rest that is not 0
+rest_below : (is_zero : Bool) (b r : ℕ) (rest : ℤ) → int_eq (pos r) (pos 0) ≡ is_zero → rest ≡ pos r → r < suc b → IsRestBy (negsuc b) (cond (not is_zero) (rest +ℤ negsuc b) rest)
+rest_below true b zero rest z e h = (omega (arith, ints), omega (arith, ints))
+rest_below true b (suc r) rest z e h = let wrong : true ≡ false = sym z ∙ not_zero r in absurd (cc)
+rest_below false b zero rest z e h = absurd (cc)
+rest_below false b (suc r) rest z e h = (omega (arith, ints), omega (arith, ints))
+
+pub rests_are_small : RestsAreSmall
+rests_are_small m (pos zero) h = absurd (h refl)
+rests_are_small m (pos (suc b)) h =
+    let r = euclid_rest m (pos (suc b)) h in rest_above (int_lt (pos (suc b)) (pos 0)) _ (suc b) r.0 _ (not_below (suc b)) r.1 r.2
+rests_are_small m (negsuc b) h =
+    let r = euclid_rest m (negsuc b) h in rest_below (int_eq (int_rem_euclid m (negsuc b)) (pos 0)) b r.0 _ (ap (λ x. int_eq x (pos 0)) (sym r.1)) r.1 r.2
