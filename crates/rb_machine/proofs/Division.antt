@@ -6,8 +6,9 @@ use Rattle.std.specs.Ordering.{int_eq}
 use Rattle.std.specs.Int.{int_div_euclid, int_rem_euclid}
 use Rattle.std.proofs.Math.IntN.{*ℤ_comm, pred_ℤ-*ℤ, -ℤ_one}
 use Rattle.std.proofs.lemmas.Int.{ints}
-use Rattle.rb_machine.specs.Methods.{quotient, modulo, leaves_below}
-use Rattle.rb_machine.specs.Laws.{IsRestBy, DividesBack, RestsAreSmall}
+use Rattle.rb_model.specs.declared.fault.Fault.TheVariants.{ZeroDivision}
+use Rattle.rb_machine.specs.Methods.{integer, Raises, quotient, modulo, leaves_below}
+use Rattle.rb_machine.specs.Laws.{IsRestBy, DividesBack, RestsAreSmall, DivisionsAnswer}
 
 -- the quotient whose remainder is never negative
 euclid : (m n : ℤ) → (n ≡ pos 0 → ⊥) → m ≡ n *ℤ int_div_euclid m n +ℤ int_rem_euclid m n
@@ -64,3 +65,18 @@ rests_are_small m (pos (suc b)) h =
     let r = euclid_rest m (pos (suc b)) h in rest_above (int_lt (pos (suc b)) (pos 0)) _ (suc b) r.0 _ (not_below (suc b)) r.1 r.2
 rests_are_small m (negsuc b) h =
     let r = euclid_rest m (negsuc b) h in rest_below (int_eq (int_rem_euclid m (negsuc b)) (pos 0)) b r.0 _ (ap (λ x. int_eq x (pos 0)) (sym r.1)) r.1 r.2
+
+not_zero_itself : (n : ℤ) → (n ≡ pos 0 → ⊥) → int_eq n (pos 0) ≡ false
+not_zero_itself (pos zero) h = absurd (h refl)
+not_zero_itself (pos (suc n)) h = not_zero n
+not_zero_itself (negsuc n) h = grind (arith, ints)
+
+pub divisions_answer : DivisionsAnswer
+divisions_answer names m n =
+    ( refl
+    , refl
+    , λ h.
+      ( ap (λ t. cond t (Raises ZeroDivision) (integer (quotient m n))) (not_zero_itself n h)
+      , ap (λ t. cond t (Raises ZeroDivision) (integer (modulo m n))) (not_zero_itself n h)
+      )
+    )

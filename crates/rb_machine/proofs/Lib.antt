@@ -5,6 +5,8 @@ pub mod Exits
 pub mod Once
 pub mod Finishing
 pub mod Uniform
+pub mod Locals
+pub mod Turns
 pub mod Division
 pub mod Budgets
 pub mod Examples

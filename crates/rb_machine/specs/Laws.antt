@@ -1,14 +1,21 @@
 -- What holds of the machine, whatever the script.
-use Rattle.std.specs.Prelude.{◌≡◌, ◌≤◌, ℕ, suc, Bool, true, false, ◌&&◌, nat_lt, ℤ, pos, negsuc, ◌+ℤ◌, ◌*ℤ◌, ◌≤ℤ◌, ◌<ℤ◌, int_lt, List, [], ◌∷◌, ◌++◌, None}
-use Rattle.rb_tree.specs.declared.node.Node.{Node}
+use Rattle.std.specs.Prelude.{◌≡◌, ◌<◌, ◌≤◌, ℕ, suc, ◌+◌, Bool, true, false, ◌&&◌, nat_lt, ℤ, pos, negsuc, ◌+ℤ◌, ◌*ℤ◌, ◌≤ℤ◌, ◌<ℤ◌, int_lt, List, [], ◌∷◌, ◌++◌, length, take, slice_get, Option, Some, None, codes}
+use Rattle.std.specs.Option.{is_some}
+use Rattle.rb_tree.specs.declared.span.Span.{Span}
+use Rattle.rb_tree.specs.declared.span.NameId.{NameId}
+use Rattle.rb_tree.specs.declared.node.Node.{Node, out-Node}
+use Rattle.rb_tree.specs.declared.node.Node.TheOpen as node
 use Rattle.rb_tree.specs.declared.node.Block.{Block}
-use Rattle.rb_model.specs.Values.{Value, Nil, Reference}
+use Rattle.rb_tree.specs.declared.node.AssignOp.TheVariants.{OrElse, AndThen}
+use Rattle.rb_model.specs.declared.fault.Fault.TheVariants.{ZeroDivision}
+use Rattle.rb_model.specs.Values.{Value, Nil, Int, Reference, truthy}
 use Rattle.rb_model.specs.Acts.{Act, Reply}
 use Rattle.rb_model.specs.Private.{Private, held}
 use Rattle.rb_model.specs.Ends.{End, Steps}
-use Rattle.rb_machine.specs.Scopes.{Script, Scope}
-use Rattle.rb_machine.specs.Control.{State, On, Eval, Give, Leave, Looping, Turning, Break, Next, Return, Turns, Counting, Cont, Then, Under, Test, Again, Turn, Frame}
-use Rattle.rb_machine.specs.Methods.{quotient, modulo}
+use Rattle.rb_machine.specs.Scopes.{Script, Scope, Text, text_of, Locals, with_locals, found, look, assign, fresh}
+use Rattle.rb_machine.specs.Control.{State, On, Eval, Give, Leave, Following, Looping, Turning, Passing, Break, Next, Return, Turns, Counting, Cont, Then, Under, Test, Again, Turn, Frame, Aim, OnReceiver, Place, Argument, ReceiverOf, RightOfAnd, RightOfOr, ReadOf, WriteTo}
+use Rattle.rb_machine.specs.Methods.{deed, integer, Raises, quotient, modulo}
+use Rattle.rb_machine.specs.Call.{perform}
 use Rattle.rb_machine.specs.Give.{back}
 use Rattle.rb_machine.specs.Move.{Go, Ask, move, replied, left_in, IsWant, max_depth}
 use Rattle.rb_machine.specs.Alone.{Runs, Alone}
@@ -115,3 +122,88 @@ DividesBack = (m n : ℤ) → (n ≡ pos 0 → ⊥) → m ≡ n *ℤ quotient m 
 -- the rest is 0, or has the sign of the divisor and is smaller
 abbrev pub RestsAreSmall : Type 0
 RestsAreSmall = (m n : ℤ) → (n ≡ pos 0 → ⊥) → IsRestBy n (modulo m n)
+
+-- a division by 0 is refused, and any other answers the quotient or the rest, where it has 64 bits
+abbrev pub DivisionsAnswer : Type 0
+DivisionsAnswer = (names : List Text) (m n : ℤ)
+    → (deed names (Int m) (codes "/") (Int (pos 0) ∷ []) None ≡ Raises ZeroDivision)
+    × (deed names (Int m) (codes "%") (Int (pos 0) ∷ []) None ≡ Raises ZeroDivision)
+    × ((n ≡ pos 0 → ⊥) → (deed names (Int m) (codes "/") (Int n ∷ []) None ≡ integer (quotient m n)) × (deed names (Int m) (codes "%") (Int n ∷ []) None ≡ integer (modulo m n)))
+
+-- a block's own locals as an iteration begins that is given these values
+abbrev pub own_at : Script → Block → List Value → Locals
+own_at S block given = fresh (S.block_names block.at) (take (length block.params) given)
+
+-- An iteration begins with its block's own locals new, behind those round the block: each name behind the parameters reads nil,
+-- whatever earlier iterations assigned.
+abbrev pub OwnLocalsAreNew : Type 0
+OwnLocalsAreNew = (S : Script) (next last : ℤ) (answer : Value) (block : Block) (k : List Cont) (sc : Scope) (d left : ℕ) → int_lt next last ≡ true
+    → (move S (On (Turning (Counting next last answer) block) k sc d (suc left))
+      ≡ Go (On (Following Nil block.body) (Turn (Counting (next +ℤ pos 1) last answer) block (length sc.locals) ∷ k) (with_locals sc (sc.locals ++ own_at S block (Int next ∷ []))) d left))
+    × ((i : ℕ) (name : NameId) → length block.params ≤ i → slice_get (S.block_names block.at) i ≡ Some name → look name (sc.locals ++ own_at S block (Int next ∷ [])) ≡ Nil)
+
+-- the first parameter reads what the iteration is given, where no name of the block behind it is the same
+abbrev pub ParametersAreGiven : Type 0
+ParametersAreGiven = (S : Script) (block : Block) (v : Value) (outer : Locals) (param : NameId) (names : List NameId)
+    → 0 < length block.params → S.block_names block.at ≡ param ∷ names → ((i : ℕ) (name : NameId) → slice_get names i ≡ Some name → name.0 ≡ param.0 → ⊥)
+    → look param (outer ++ own_at S block (v ∷ [])) ≡ v
+
+-- a name that the block does not have is assigned round it, and its own names stay
+abbrev pub AssignsOutside : Type 0
+AssignsOutside = (name : NameId) (v : Value) (outer own : Locals) → found name own ≡ None → assign name v (outer ++ own) ≡ assign name v outer ++ own
+
+-- a name of the block is assigned in it, and what is round it stays
+abbrev pub AssignsOwn : Type 0
+AssignsOwn = (name : NameId) (v : Value) (outer own : Locals) → is_some (found name own) ≡ true → assign name v (outer ++ own) ≡ outer ++ assign name v own
+
+-- a name that is in scope reads what was assigned last, and an assignment changes no other
+abbrev pub AssignsOne : Type 0
+AssignsOne = (name other : NameId) (v : Value) (locals : Locals)
+    → (is_some (found name locals) ≡ true → look name (assign name v locals) ≡ v)
+    × ((other.0 ≡ name.0 → ⊥) → look other (assign name v locals) ≡ look other locals)
+
+-- behind an iteration the locals are those round the block, with what they were given in it
+abbrev pub IterationsLeaveOutside : Type 0
+IterationsLeaveOutside = (S : Script) (v me : Value) (turns : Turns) (block : Block) (k : List Cont) (outer own : Locals) (d left : ℕ)
+    → move S (On (Give v) (Turn turns block (length outer) ∷ k) (record { me = me; locals = outer ++ own }) d left) ≡ Go (On (Turning turns block) k (record { me = me; locals = outer }) d left)
+
+-- the receiver of a call is evaluated before its arguments
+abbrev pub ReceiversComeFirst : Type 0
+ReceiversComeFirst = (S : Script) (n receiver : Node) (name : NameId) (args : List Node) (block : Option Block) (at : Span) (k : List Cont) (sc : Scope) (d left : ℕ) (v : Value)
+    → out-Node n ≡ node.Call (Some receiver) name args block at → nat_lt d max_depth ≡ true
+    → (move S (On (Eval n) k sc d (suc left)) ≡ Go (On (Eval receiver) (Then (ReceiverOf (text_of S name) args block at) ∷ Under d ∷ k) sc (d + 1) left))
+    × (move S (On (Give v) (Then (ReceiverOf (text_of S name) args block at) ∷ k) sc d left) ≡ Go (On (Passing (OnReceiver v (text_of S name) block) [] args at) k sc d left))
+
+-- nodes that give these values silently, one after the other from the left, from a scope and so many steps left to others
+pub data Evaluates (S : Script) (d : ℕ) : List Node → List Value → Scope → ℕ → Scope → ℕ → Type 0 where
+  nothing : (sc : Scope) (left : ℕ) → Evaluates S d [] [] sc left sc left
+  first : (n : Node) (ns : List Node) (v : Value) (vs : List Value) (sc sc' sc'' : Scope) (left left' left'' : ℕ)
+      → ((k : List Cont) → Quiet S (On (Eval n) k sc d left) (On (Give v) k sc' d left')) → Evaluates S d ns vs sc' left' sc'' left''
+      → Evaluates S d (n ∷ ns) (v ∷ vs) sc left sc'' left''
+
+-- the arguments are evaluated one after the other from the left, and then the call is made with their values
+abbrev pub ArgumentsComeInTurn : Type 0
+ArgumentsComeInTurn = (S : Script) (aim : Aim) (done vs : List Value) (ns : List Node) (at : Span) (k : List Cont) (sc sc' : Scope) (d left left' : ℕ)
+    → Evaluates S d ns vs sc left sc' left' → Quiet S (On (Passing aim done ns at) k sc d left) (perform S aim (done ++ vs) at k sc' d left')
+
+-- an argument that is left waits while another is evaluated, whatever that does: its value goes behind those before it
+abbrev pub ArgumentsComeOnce : Type 0
+ArgumentsComeOnce = (S : Script) (aim : Aim) (done : List Value) (v : Value) (n : Node) (ns : List Node) (at : Span) (k : List Cont) (sc : Scope) (d left : ℕ)
+    → (move S (On (Passing aim done (n ∷ ns) at) k sc d left) ≡ Go (On (Eval n) (Then (Argument aim done ns at) ∷ k) sc d left))
+    × (move S (On (Give v) (Then (Argument aim done ns at) ∷ k) sc d left) ≡ Go (On (Passing aim (done ++ v ∷ []) ns at) k sc d left))
+
+-- `||` and `||=` go on to their right side only where the left one is false or nil
+abbrev pub OrGoesOnWhereFalse : Type 0
+OrGoesOnWhereFalse = (S : Script) (v : Value) (place : Place) (right : Node) (at : Span) (k : List Cont) (sc : Scope) (d left : ℕ)
+    → (truthy v ≡ true → move S (On (Give v) (Then (RightOfOr right) ∷ k) sc d left) ≡ Go (On (Give v) k sc d left))
+    × (truthy v ≡ false → move S (On (Give v) (Then (RightOfOr right) ∷ k) sc d left) ≡ Go (On (Eval right) k sc d left))
+    × (truthy v ≡ true → move S (On (Give v) (Then (ReadOf place OrElse right at) ∷ k) sc d left) ≡ Go (On (Give v) k sc d left))
+    × (truthy v ≡ false → move S (On (Give v) (Then (ReadOf place OrElse right at) ∷ k) sc d left) ≡ Go (On (Eval right) (Then (WriteTo place at) ∷ k) sc d left))
+
+-- `&&` and `&&=` only where it is neither
+abbrev pub AndGoesOnWhereTrue : Type 0
+AndGoesOnWhereTrue = (S : Script) (v : Value) (place : Place) (right : Node) (at : Span) (k : List Cont) (sc : Scope) (d left : ℕ)
+    → (truthy v ≡ false → move S (On (Give v) (Then (RightOfAnd right) ∷ k) sc d left) ≡ Go (On (Give v) k sc d left))
+    × (truthy v ≡ true → move S (On (Give v) (Then (RightOfAnd right) ∷ k) sc d left) ≡ Go (On (Eval right) k sc d left))
+    × (truthy v ≡ false → move S (On (Give v) (Then (ReadOf place AndThen right at) ∷ k) sc d left) ≡ Go (On (Give v) k sc d left))
+    × (truthy v ≡ true → move S (On (Give v) (Then (ReadOf place AndThen right at) ∷ k) sc d left) ≡ Go (On (Eval right) (Then (WriteTo place at) ∷ k) sc d left))

@@ -46,3 +46,38 @@ pub fn budgets()
     ensures kept { law.MoreStepsChangeNothing }
     ensures front { law.MoreStepsShowMore }
 {}
+
+/// Division rounds toward minus infinity: the quotient and the rest make up the dividend, and the rest is 0, or has the sign of the
+/// divisor and is smaller.
+pub fn division()
+    ensures whole { law.DividesBack }
+    ensures rest { law.RestsAreSmall }
+    ensures answered { law.DivisionsAnswer }
+{}
+
+/// Each iteration of a block has its own locals new, and leaves those round the block alone.
+pub fn block_locals()
+    ensures new { law.OwnLocalsAreNew }
+    ensures given { law.ParametersAreGiven }
+    ensures behind { law.IterationsLeaveOutside }
+{}
+
+/// An assignment changes one name, where it is innermost: one of the block's, or else one round it.
+pub fn assignments()
+    ensures one { law.AssignsOne }
+    ensures own { law.AssignsOwn }
+    ensures outside { law.AssignsOutside }
+{}
+
+/// The receiver comes first, then the arguments, each once and from the left, and then the call.
+pub fn calls_in_turn()
+    ensures receiver { law.ReceiversComeFirst }
+    ensures once { law.ArgumentsComeOnce }
+    ensures turn { law.ArgumentsComeInTurn }
+{}
+
+/// The right side of `||`, `||=`, `&&` and `&&=` is evaluated only where the left one does not decide.
+pub fn right_sides()
+    ensures or { law.OrGoesOnWhereFalse }
+    ensures and { law.AndGoesOnWhereTrue }
+{}
