@@ -10,6 +10,7 @@ use Rattle.rb_model.specs.Values.{To, Reference}
 use Rattle.rb_model.specs.Acts.{Act, Done}
 use Rattle.rb_model.specs.Acts as reply
 use Rattle.rb_model.specs.Ends.{End, Steps}
+use Rattle.rb_model.specs.Ends
 use Rattle.rb_model.specs.Things.{Thing, gives, becomes}
 use Rattle.rb_model.specs.Private.{Private, held, entered, changed}
 use Rattle.rb_machine.specs.Scopes.{Script, Scope}
@@ -19,9 +20,9 @@ use Rattle.rb_machine.specs.Begin.{begin}
 use Rattle.rb_machine.specs.Follows.{next_thing}
 use Rattle.rb_machine.specs.Move.{Next, Go, Make, Ask, Show, Stop, move, replied, left_in, turn, start_node, start_turn, max_depth}
 use Rattle.rb_machine.specs.Alone.{Runs, begins, goes, makes, acts, shows, Alone}
-use Rattle.rb_machine.specs.Laws.{MoreStepsChangeNothing, MoreStepsShowMore}
+use Rattle.rb_machine.specs.Laws.{MoreStepsChangeNothing, MoreStepsShowMore, FewerStepsEndEarly}
 use Rattle.rb_machine.proofs.Uniform.{longer, either, begin_uniform, give_uniform, leave_uniform, perform_uniform, piece_uniform, replied_longer}
-use Rattle.rb_machine.proofs.Once.{Begins, front}
+use Rattle.rb_machine.proofs.Once.{Begins, front, has_one_run}
 
 -- what comes next, with more steps left
 abbrev next_longer : ℕ → Next → Next
@@ -169,3 +170,23 @@ more_steps_change_nothing S N M b e n h not_spent alone = subst (λ budget. Alon
 pub more_steps_show_more : MoreStepsShowMore
 more_steps_show_more S N M b b' e e' n n' h alone greater =
     shows_front S N (M - N) b b' alone.store alone.last e' n' (runs_longer S N (M - N) alone.run) (subst (λ budget. Alone S budget b' e' n') (sym (budget_is N M h)) greater)
+
+-- an end that is not for want of steps would be that of the greater budget, whose count is greater
+pub fewer_steps_end_early : FewerStepsEndEarly
+fewer_steps_end_early S N M b b' e e' n n' h alone fewer = decided e' refl
+  where
+    steps_within : {K : ℕ} {bytes : List ℕ} {how : End} {steps : ℕ} → Alone S K bytes how steps → steps ≤ K
+    steps_within a = omega (arith, a.counted)
+
+    not_other : (e' ≡ Steps → ⊥) → e' ≡ Steps
+    not_other other =
+        let same = has_one_run S N b b' e e' n n' alone (more_steps_change_nothing S M N b' e' n' (omega (arith, h, steps_within alone)) other fewer) in
+        absurd (omega (arith, h, steps_within fewer, same.2))
+
+    decided : (how : End) → e' ≡ how → e' ≡ Steps
+    decided Steps same = same
+    decided (Ends.Value v) same = not_other (λ f. let wrong : Ends.Value v ≡ Steps = sym same ∙ f in cc)
+    decided (Ends.Raised fault at) same = not_other (λ f. let wrong : Ends.Raised fault at ≡ Steps = sym same ∙ f in cc)
+    decided (Ends.Full used asked) same = not_other (λ f. let wrong : Ends.Full used asked ≡ Steps = sym same ∙ f in cc)
+    decided Ends.Sink same = not_other (λ f. let wrong : Ends.Sink ≡ Steps = sym same ∙ f in cc)
+    decided Ends.Memory same = not_other (λ f. let wrong : Ends.Memory ≡ Steps = sym same ∙ f in cc)

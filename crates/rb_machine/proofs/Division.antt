@@ -1,6 +1,8 @@
 -- Division of integers, rounded toward minus infinity.
-use Rattle.std.proofs.Common.{◌≡◌, ◌<◌, ◌≤◌, ℕ, zero, suc, ◌+◌, ◌-◌, ◌*◌, ◌/◌, ◌%◌, Bool, true, false, cond, refl, sym, ap, ◌∙◌, subst, arith, ℤ, pos, negsuc, ◌+ℤ◌, ◌-ℤ◌, ◌*ℤ◌, neg_ℤ, unsigned_abs, ◌<ℤ◌, ◌≤ℤ◌, div-add-mod', mod-lt}
-use borrow.Author.Differences.{neg_is}
+use Rattle.std.proofs.Common.{◌≡◌, ◌<◌, ◌≤◌, ◌⊎◌, inl, inr, ℕ, zero, suc, ◌+◌, ◌-◌, ◌*◌, ◌/◌, ◌%◌, Bool, true, false, cond, refl, sym, ap, ◌∙◌, subst, arith, ℤ, pos, negsuc, ◌+ℤ◌, ◌-ℤ◌, ◌*ℤ◌, neg_ℤ, unsigned_abs, ◌<ℤ◌, ◌≤ℤ◌, div-add-mod', mod-lt}
+use borrow.Author.Differences.{up, down, neg_is, same_in}
+use Rattle.std.proofs.lemmas.Bool.{cases_order}
+use Rattle.std.proofs.Math.Nat.{mul-le-mul_left}
 use Rattle.std.specs.Prelude.{int_lt, not, ◌&&◌}
 use Rattle.std.specs.Ordering.{int_eq}
 use Rattle.std.specs.Int.{int_div_euclid, int_rem_euclid}
@@ -8,7 +10,7 @@ use Rattle.std.proofs.Math.IntN.{*ℤ_comm, pred_ℤ-*ℤ, -ℤ_one}
 use Rattle.std.proofs.lemmas.Int.{ints}
 use Rattle.rb_model.specs.declared.fault.Fault.TheVariants.{ZeroDivision}
 use Rattle.rb_machine.specs.Methods.{integer, Raises, quotient, modulo, leaves_below}
-use Rattle.rb_machine.specs.Laws.{IsRestBy, DividesBack, RestsAreSmall, DivisionsAnswer}
+use Rattle.rb_machine.specs.Laws.{IsRestBy, DividesBack, RestsAreSmall, DividesOneWay, DivisionsAnswer}
 
 -- the quotient whose remainder is never negative
 euclid : (m n : ℤ) → (n ≡ pos 0 → ⊥) → m ≡ n *ℤ int_div_euclid m n +ℤ int_rem_euclid m n
@@ -80,3 +82,38 @@ divisions_answer names m n =
       , ap (λ t. cond t (Raises ZeroDivision) (integer (modulo m n))) (not_zero_itself n h)
       )
     )
+
+-- ---- one way
+
+-- a quotient that is greater by one adds the whole divisor
+too_far : (size a c x y : ℕ) → a < c → x < size + y → size * a + x ≡ size * c + y → ⊥
+too_far size a c x y h small e =
+    let grows : size * suc a ≤ size * c = mul-le-mul_left size h in
+    omega (arith, grows, small, e)
+
+same_quotient : (size x y : ℕ) (q p : ℤ) → x < size + y → y < size + x → size * (up q + down p) + x ≡ size * (up p + down q) + y → q ≡ p
+same_quotient size x y q p h k e = at (cases_order (up q + down p) (up p + down q))
+  where
+    at : (up q + down p ≡ up p + down q) ⊎ ((up q + down p < up p + down q) ⊎ (up p + down q < up q + down p)) → q ≡ p
+    at (inl same) = same_in q p same
+    at (inr (inl less)) = absurd (too_far size _ _ x y less h e)
+    at (inr (inr more)) = absurd (too_far size _ _ y x more k (sym e))
+
+-- two ways to divide have one quotient
+one_quotient : (n q p r s : ℤ) → (n ≡ pos 0 → ⊥) → n *ℤ q +ℤ r ≡ n *ℤ p +ℤ s → IsRestBy n r → IsRestBy n s → q ≡ p
+one_quotient (pos zero) q p r s some e h k = absurd (some refl)
+one_quotient (pos (suc b)) q p (pos x) (pos y) some e h k =
+    same_quotient (suc b) x y q p (omega (arith, ints, h.1)) (omega (arith, ints, k.1)) (omega (arith, ints))
+one_quotient (pos (suc b)) q p (negsuc x) s some e h k = absurd (omega (arith, ints, h.0))
+one_quotient (pos (suc b)) q p r (negsuc y) some e h k = absurd (omega (arith, ints, k.0))
+one_quotient (negsuc b) q p r s some e h k =
+    same_quotient (suc b) (up s + down r) (up r + down s) q p (omega (arith, ints)) (omega (arith, ints)) (omega (arith, ints))
+
+same_rest : (p r s : ℤ) → p +ℤ r ≡ p +ℤ s → r ≡ s
+same_rest p r s e = omega (arith, ints)
+
+pub divides_one_way : DividesOneWay
+divides_one_way m n q rest some e small =
+    let both : n *ℤ q +ℤ rest ≡ n *ℤ quotient m n +ℤ modulo m n = sym e ∙ divides_back m n some in
+    let same = one_quotient n q (quotient m n) rest (modulo m n) some both small (rests_are_small m n some) in
+    (same, same_rest (n *ℤ q) rest (modulo m n) (both ∙ ap (λ x. n *ℤ x +ℤ modulo m n) (sym same)))

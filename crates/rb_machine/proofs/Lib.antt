@@ -5,6 +5,8 @@ pub mod Exits
 pub mod Once
 pub mod Finishing
 pub mod Uniform
+pub mod Scoping
+pub mod Kept
 pub mod Locals
 pub mod Turns
 pub mod Division

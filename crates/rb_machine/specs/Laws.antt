@@ -1,11 +1,12 @@
 -- What holds of the machine, whatever the script.
-use Rattle.std.specs.Prelude.{◌≡◌, ◌<◌, ◌≤◌, ℕ, suc, ◌+◌, Bool, true, false, ◌&&◌, nat_lt, ℤ, pos, negsuc, ◌+ℤ◌, ◌*ℤ◌, ◌≤ℤ◌, ◌<ℤ◌, int_lt, List, [], ◌∷◌, ◌++◌, length, take, slice_get, Option, Some, None, codes}
+use Rattle.std.specs.Prelude.{◌≡◌, ◌<◌, ◌≤◌, ℕ, suc, ◌+◌, Bool, true, false, ◌&&◌, nat_lt, ℤ, pos, negsuc, ◌+ℤ◌, ◌*ℤ◌, ◌≤ℤ◌, ◌<ℤ◌, int_lt, List, [], ◌∷◌, ◌++◌, length, map, take, slice_get, Option, Some, None, codes}
 use Rattle.std.specs.Option.{is_some}
 use Rattle.rb_tree.specs.declared.span.Span.{Span}
 use Rattle.rb_tree.specs.declared.span.NameId.{NameId}
 use Rattle.rb_tree.specs.declared.node.Node.{Node, out-Node}
 use Rattle.rb_tree.specs.declared.node.Node.TheOpen as node
 use Rattle.rb_tree.specs.declared.node.Block.{Block}
+use Rattle.rb_tree.specs.declared.node.Method.{Method}
 use Rattle.rb_tree.specs.declared.node.AssignOp.TheVariants.{OrElse, AndThen}
 use Rattle.rb_model.specs.declared.fault.Fault.TheVariants.{ZeroDivision}
 use Rattle.rb_model.specs.Values.{Value, Nil, Int, Reference, truthy}
@@ -13,7 +14,7 @@ use Rattle.rb_model.specs.Acts.{Act, Reply}
 use Rattle.rb_model.specs.Private.{Private, held}
 use Rattle.rb_model.specs.Ends.{End, Steps}
 use Rattle.rb_machine.specs.Scopes.{Script, Scope, Text, text_of, Locals, with_locals, found, look, assign, fresh}
-use Rattle.rb_machine.specs.Control.{State, On, Eval, Give, Leave, Following, Looping, Turning, Passing, Break, Next, Return, Turns, Counting, Cont, Then, Under, Test, Again, Turn, Frame, Aim, OnReceiver, Place, Argument, ReceiverOf, RightOfAnd, RightOfOr, ReadOf, WriteTo}
+use Rattle.rb_machine.specs.Control.{State, On, Eval, Give, Leave, Following, Looping, Turning, Passing, Break, Next, Return, Turns, Counting, Cont, Then, Under, Test, Again, Turn, Frame, Aim, OnReceiver, Place, Argument, ReceiverOf, RightOfAnd, RightOfOr, ReadOf, WriteTo, Ended}
 use Rattle.rb_machine.specs.Methods.{deed, integer, Raises, quotient, modulo}
 use Rattle.rb_machine.specs.Call.{perform}
 use Rattle.rb_machine.specs.Give.{back}
@@ -48,6 +49,14 @@ MoreStepsChangeNothing = (S : Script) (N M : ℕ) (b : List ℕ) (e : End) (n : 
 -- what a script shows with a budget of steps stands in front of what it shows with a greater one
 abbrev pub MoreStepsShowMore : Type 0
 MoreStepsShowMore = (S : Script) (N M : ℕ) (b b' : List ℕ) (e e' : End) (n n' : ℕ) → N ≤ M → Alone S N b e n → Alone S M b' e' n' → (behind : List ℕ) × (b' ≡ b ++ behind)
+
+-- with fewer steps than it took, a script ends for want of them
+abbrev pub FewerStepsEndEarly : Type 0
+FewerStepsEndEarly = (S : Script) (N M : ℕ) (b b' : List ℕ) (e e' : End) (n n' : ℕ) → M < n → Alone S N b e n → Alone S M b' e' n' → e' ≡ Steps
+
+-- a script that ends for want of steps has begun all that it may
+abbrev pub StepsAreUsedUp : Type 0
+StepsAreUsedUp = (S : Script) (N : ℕ) (b : List ℕ) (n : ℕ) → Alone S N b Steps n → n ≡ N
 
 -- whether a node or an iteration of a block begins
 abbrev pub begins_step : State → Bool
@@ -123,6 +132,10 @@ DividesBack = (m n : ℤ) → (n ≡ pos 0 → ⊥) → m ≡ n *ℤ quotient m 
 abbrev pub RestsAreSmall : Type 0
 RestsAreSmall = (m n : ℤ) → (n ≡ pos 0 → ⊥) → IsRestBy n (modulo m n)
 
+-- no other quotient and rest do
+abbrev pub DividesOneWay : Type 0
+DividesOneWay = (m n q rest : ℤ) → (n ≡ pos 0 → ⊥) → m ≡ n *ℤ q +ℤ rest → IsRestBy n rest → (q ≡ quotient m n) × (rest ≡ modulo m n)
+
 -- a division by 0 is refused, and any other answers the quotient or the rest, where it has 64 bits
 abbrev pub DivisionsAnswer : Type 0
 DivisionsAnswer = (names : List Text) (m n : ℤ)
@@ -166,6 +179,26 @@ AssignsOne = (name other : NameId) (v : Value) (locals : Locals)
 abbrev pub IterationsLeaveOutside : Type 0
 IterationsLeaveOutside = (S : Script) (v me : Value) (turns : Turns) (block : Block) (k : List Cont) (outer own : Locals) (d left : ℕ)
     → move S (On (Give v) (Turn turns block (length outer) ∷ k) (record { me = me; locals = outer ++ own }) d left) ≡ Go (On (Turning turns block) k (record { me = me; locals = outer }) d left)
+
+-- the names of locals
+abbrev pub names_in : Locals → List NameId
+names_in locals = map (λ (b : NameId × Value). b.0) locals
+
+-- The names in scope are those that the text gives, whatever was run: those of the top level or of a method, and behind them those of
+-- each block round the place, outermost first.
+abbrev pub IsInScope : Script → List Cont → List NameId → Type 0
+IsInScope S [] names = names ≡ S.main_names
+IsInScope S (Frame saved ∷ k) names = (m : Method) × (names ≡ S.method_names m) × IsInScope S k (names_in saved.locals)
+IsInScope S (Turn turns block kept ∷ k) names = (outer : List NameId) × (names ≡ outer ++ S.block_names block.at) × (kept ≡ length outer) × IsInScope S k outer
+IsInScope S (c ∷ k) names = IsInScope S k names
+
+-- at each state of a run, until it ends
+abbrev pub KeepsScopes : Script → State → Type 0
+KeepsScopes S (On (Ended how) k sc d left) = Unit {0}
+KeepsScopes S (On c k sc d left) = IsInScope S k (names_in sc.locals)
+
+abbrev pub ScopesFollowTheText : Type 0
+ScopesFollowTheText = (S : Script) (N : ℕ) (b : List ℕ) (h : Private) (s : State) → Runs S N b h s → KeepsScopes S s
 
 -- the receiver of a call is evaluated before its arguments
 abbrev pub ReceiversComeFirst : Type 0

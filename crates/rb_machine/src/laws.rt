@@ -41,17 +41,20 @@ pub fn return_ends()
 {}
 
 /// A greater budget changes nothing that was done with a smaller one: an end that is not for want of steps stays with its bytes and
-/// its count, and what was shown is shown first.
+/// its count, and what was shown is shown first. With fewer steps than the count it ends for want of them, when all are used.
 pub fn budgets()
     ensures kept { law.MoreStepsChangeNothing }
     ensures front { law.MoreStepsShowMore }
+    ensures early { law.FewerStepsEndEarly }
+    ensures used { law.StepsAreUsedUp }
 {}
 
 /// Division rounds toward minus infinity: the quotient and the rest make up the dividend, and the rest is 0, or has the sign of the
-/// divisor and is smaller.
+/// divisor and is smaller; no other two numbers do.
 pub fn division()
     ensures whole { law.DividesBack }
     ensures rest { law.RestsAreSmall }
+    ensures one { law.DividesOneWay }
     ensures answered { law.DivisionsAnswer }
 {}
 
@@ -60,6 +63,12 @@ pub fn block_locals()
     ensures new { law.OwnLocalsAreNew }
     ensures given { law.ParametersAreGiven }
     ensures behind { law.IterationsLeaveOutside }
+{}
+
+/// The names in scope are at each state those that the text gives: those of the top level or the method, and those of the blocks round
+/// the place.
+pub fn scopes()
+    ensures { law.ScopesFollowTheText }
 {}
 
 /// An assignment changes one name, where it is innermost: one of the block's, or else one round it.

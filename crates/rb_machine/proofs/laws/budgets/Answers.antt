@@ -1,4 +1,5 @@
-use Rattle.rb_machine.proofs.Budgets.{more_steps_change_nothing, more_steps_show_more}
+use Rattle.rb_machine.proofs.Budgets.{more_steps_change_nothing, more_steps_show_more, fewer_steps_end_early}
+use Rattle.rb_machine.proofs.Scoping.{steps_are_used_up}
 use Rattle.rb_machine.proofs.laws.budgets.Goals as goal
 
 pub returns-clause-kept : goal.returns-clause-kept
@@ -6,3 +7,9 @@ returns-clause-kept c = more_steps_change_nothing
 
 pub returns-clause-front : goal.returns-clause-front
 returns-clause-front c = more_steps_show_more
+
+pub returns-clause-early : goal.returns-clause-early
+returns-clause-early c = fewer_steps_end_early
+
+pub returns-clause-used : goal.returns-clause-used
+returns-clause-used c = steps_are_used_up
