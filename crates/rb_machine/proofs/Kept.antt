@@ -32,7 +32,7 @@ use Rattle.rb_machine.specs.Call.{raised, ended, ask_of, named, texted, methods_
 use Rattle.rb_machine.specs.Begin.{begin, begin_call, begin_target, begin_return}
 use Rattle.rb_machine.specs.Give.{back, join, give_step, give, leave}
 use Rattle.rb_machine.specs.Move.{start_node, start_turn, turn, join_piece, max_depth, first_of_turn}
-use Rattle.rb_machine.specs.Laws.{names_in, IsInScope}
+use Rattle.rb_machine.specs.Laws.{names_in, AreInScope}
 
 -- ---- names
 
@@ -60,10 +60,10 @@ module _ (S : Script) where
   -- a state whose names are in scope; or an end, which has no steps left where it is for want of them
   abbrev pub Sound : State → Type 0
   Sound (On (Ended how) k sc d left) = how ≡ Steps → left ≡ 0
-  Sound (On c k sc d left) = IsInScope S k (names_in sc.locals)
+  Sound (On c k sc d left) = AreInScope S k (names_in sc.locals)
 
   abbrev Inside : List Cont → Scope → Type 0
-  Inside k sc = IsInScope S k (names_in sc.locals)
+  Inside k sc = AreInScope S k (names_in sc.locals)
 
   pub raised_sound : (fault : Fault) (at : Span) (left : ℕ) → Sound (raised fault at left)
   raised_sound fault at left e = absurd (cc)
@@ -138,7 +138,7 @@ module _ (S : Script) where
   decide_sound v place op.Modulo value at k sc d left h = h
 
   assigned_sound : (name : NameId) (v : Value) (k : List Cont) (sc : Scope) → Inside k sc → Inside k (with_locals sc (assign name v sc.locals))
-  assigned_sound name v k sc h = subst (λ names. IsInScope S k names) (sym (names_in-assign name v sc.locals)) h
+  assigned_sound name v k sc h = subst (λ names. AreInScope S k names) (sym (names_in-assign name v sc.locals)) h
 
   write_sound : (v : Value) (place : Place) (at : Span) (k : List Cont) (sc : Scope) (d left : ℕ) → Inside k sc → Sound (write_place S v place at k sc d left)
   write_sound v (OfLocal name) at k sc d left h = assigned_sound name v k sc h
@@ -179,7 +179,7 @@ module _ (S : Script) where
 
   -- the locals of an iteration go, and those round its block are left
   back_sound : (turns : Turns) (block : Block) (kept : ℕ) (k : List Cont) (sc : Scope) → Inside (Turn turns block kept ∷ k) sc → Inside k (back kept sc)
-  back_sound turns block kept k sc h = subst (λ names. IsInScope S k names) (sym (names_in-take h.0 (S.block_names block.at) sc.locals kept h.1 h.2)) h.3
+  back_sound turns block kept k sc h = subst (λ names. AreInScope S k names) (sym (names_in-take h.0 (S.block_names block.at) sc.locals kept h.1 h.2)) h.3
 
   pub give_sound : (v : Value) (c : Cont) (k : List Cont) (sc : Scope) (d left : ℕ) → Inside (c ∷ k) sc → Sound (give S v c k sc d left)
   give_sound v (Then step) k sc d left h = give_step_sound v step k sc d left h

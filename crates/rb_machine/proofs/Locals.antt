@@ -12,7 +12,7 @@ use Rattle.rb_model.specs.Values.{Value, Nil, Int, or_nil}
 use Rattle.rb_machine.specs.Scopes.{Script, Scope, Locals, or_else, found, look, assign, fresh, with_locals}
 use Rattle.rb_machine.specs.Control.{State, On, Cont, Turn, Following, Turning, Give, Counting}
 use Rattle.rb_machine.specs.Move.{Go, start_turn}
-use Rattle.rb_machine.specs.Laws.{own_at, OwnLocalsAreNew, ParametersAreGiven, AssignsOutside, AssignsOwn, AssignsOne, IterationsLeaveOutside}
+use Rattle.rb_machine.specs.Laws.{own_at, OwnLocalsAreNew, ParametersAreGiven, AssignsOutside, AssignsOwn, AssignsOne, OwnLocalsGo}
 
 -- ---- what is found
 
@@ -170,6 +170,5 @@ parameters_are_given S block v outer param names some same apart =
     look_inner param v outer (own_at S block (v ∷ []))
       (ap (λ ns. found param (fresh ns (take (length block.params) (v ∷ [])))) same ∙ given param names (length block.params) v some apart)
 
-pub iterations_leave_outside : IterationsLeaveOutside
-iterations_leave_outside S v me turns block k outer own d left =
-    ap (λ l. Go (On (Turning turns block) k (record { me = me; locals = l }) d left)) (take-append_seam outer own)
+pub own_locals_go : OwnLocalsGo
+own_locals_go me outer own kept e = ap (λ l. record { me = me; locals = l }) (ap (λ n. take n (outer ++ own)) (sym e) ∙ take-append_seam outer own)

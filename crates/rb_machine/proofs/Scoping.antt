@@ -1,18 +1,22 @@
 -- Each state of a run has the names of the text in scope, and a run that ends for want of steps has used them all.
 use Rattle.std.specs.Prelude.{nat_lt}
-use Rattle.std.proofs.Common.{◌≡◌, ℕ, ◌-◌, Bool, true, false, cond, List, [], ◌∷◌, length, Option, Some, None, refl, sym, ap, ◌∙◌, subst, arith}
+use Rattle.std.proofs.Common.{◌≡◌, ℕ, ◌-◌, Bool, true, false, cond, List, [], ◌∷◌, ◌++◌, length, take, drop, Option, Some, None, refl, sym, ap, ◌∙◌, subst, arith}
+use Rattle.std.proofs.lemmas.List.{drop-map, take-append-drop}
+use Rattle.std.proofs.Math.Seq.{drop-append_seam}
 use Rattle.rb_tree.specs.declared.span.Span.{Span}
+use Rattle.rb_tree.specs.declared.span.NameId.{NameId}
+use Rattle.rb_model.specs.Values.{Value}
 use Rattle.rb_tree.specs.declared.node.Piece.{out-Piece}
 use Rattle.rb_model.specs.Acts.{Act, Reply, Done}
 use Rattle.rb_model.specs.Acts as reply
 use Rattle.rb_model.specs.Ends.{End, Steps}
 use Rattle.rb_model.specs.Things.{Thing, Object, Elements, Pairs, Mutex, gives, put_reply, grown_reply, index_of, has_room, may_put, max_elements}
 use Rattle.rb_model.specs.Private.{Private}
-use Rattle.rb_machine.specs.Scopes.{Script, Scope}
+use Rattle.rb_machine.specs.Scopes.{Script, Scope, Locals}
 use Rattle.rb_machine.specs.Control.{State, On, Cont, Eval, Give, Leave, Following, Looping, Turning, Passing, Joining, Making, Calling, Showing, Ended}
 use Rattle.rb_machine.specs.Move.{Next, Go, Make, Ask, Show, Stop, move, replied, answered, left_in}
 use Rattle.rb_machine.specs.Alone.{Runs, begins, goes, makes, acts, shows, Alone}
-use Rattle.rb_machine.specs.Laws.{KeepsScopes, ScopesFollowTheText, StepsAreUsedUp, IsInScope, names_in}
+use Rattle.rb_machine.specs.Laws.{KeepsScopes, ScopesFollowTheText, IterationsLeaveTheRest, StepsAreUsedUp, AreInScope, names_in}
 use Rattle.rb_machine.proofs.Kept.{Sound, names_in-fresh, raised_sound, perform_sound, piece_sound, give_sound, leave_sound, node_sound, turn_sound}
 
 -- no act ends a thread
@@ -61,7 +65,7 @@ module _ (S : Script) where
   moved (On (Showing bytes) k sc d left) h = tt
   moved (On (Ended how) k sc d left) h = tt
 
-  answered_sound : (r : Reply) (at : Span) (k : List Cont) (sc : Scope) (d left : ℕ) → IsNoEnd r → IsInScope S k (names_in sc.locals) → Sound S (answered r at k sc d left)
+  answered_sound : (r : Reply) (at : Span) (k : List Cont) (sc : Scope) (d left : ℕ) → IsNoEnd r → AreInScope S k (names_in sc.locals) → Sound S (answered r at k sc d left)
   answered_sound (reply.Value v) at k sc d left plain h = h
   answered_sound (reply.Elements vs) at k sc d left plain h = h
   answered_sound (reply.Pairs ps) at k sc d left plain h = h
@@ -137,3 +141,12 @@ steps_are_used_up S N b n alone = all (left_in alone.last) (subst (UsedUp S alon
   where
     all : (left : ℕ) → left ≡ 0 → N - left ≡ n → n ≡ N
     all left z e = omega (arith, z, e)
+
+names_in-drop : (outer own : List NameId) (locals : Locals) (kept : ℕ) → names_in locals ≡ outer ++ own → kept ≡ length outer → names_in (drop kept locals) ≡ own
+names_in-drop outer own locals kept e h =
+    sym (drop-map (λ (b : NameId × Value). b.0) kept locals) ∙ (ap (drop kept) e ∙ (ap (λ n. drop n (outer ++ own)) h ∙ drop-append_seam outer own))
+
+pub iterations_leave_the_rest : IterationsLeaveTheRest
+iterations_leave_the_rest S N b h v turns block kept k sc d left run =
+    let inside = runs_sound S run in
+    (take kept sc.locals, drop kept sc.locals, sym (take-append-drop kept sc.locals), names_in-drop inside.0 (S.block_names block.at) sc.locals kept inside.1 inside.2, refl)

@@ -175,10 +175,9 @@ AssignsOne = (name other : NameId) (v : Value) (locals : Locals)
     → (is_some (found name locals) ≡ true → look name (assign name v locals) ≡ v)
     × ((other.0 ≡ name.0 → ⊥) → look other (assign name v locals) ≡ look other locals)
 
--- behind an iteration the locals are those round the block, with what they were given in it
-abbrev pub IterationsLeaveOutside : Type 0
-IterationsLeaveOutside = (S : Script) (v me : Value) (turns : Turns) (block : Block) (k : List Cont) (outer own : Locals) (d left : ℕ)
-    → move S (On (Give v) (Turn turns block (length outer) ∷ k) (record { me = me; locals = outer ++ own }) d left) ≡ Go (On (Turning turns block) k (record { me = me; locals = outer }) d left)
+-- the locals go back to those round the block, with the values that they have then
+abbrev pub OwnLocalsGo : Type 0
+OwnLocalsGo = (me : Value) (outer own : Locals) (kept : ℕ) → length outer ≡ kept → back kept (record { me = me; locals = outer ++ own }) ≡ record { me = me; locals = outer }
 
 -- the names of locals
 abbrev pub names_in : Locals → List NameId
@@ -186,19 +185,26 @@ names_in locals = map (λ (b : NameId × Value). b.0) locals
 
 -- The names in scope are those that the text gives, whatever was run: those of the top level or of a method, and behind them those of
 -- each block round the place, outermost first.
-abbrev pub IsInScope : Script → List Cont → List NameId → Type 0
-IsInScope S [] names = names ≡ S.main_names
-IsInScope S (Frame saved ∷ k) names = (m : Method) × (names ≡ S.method_names m) × IsInScope S k (names_in saved.locals)
-IsInScope S (Turn turns block kept ∷ k) names = (outer : List NameId) × (names ≡ outer ++ S.block_names block.at) × (kept ≡ length outer) × IsInScope S k outer
-IsInScope S (c ∷ k) names = IsInScope S k names
+abbrev pub AreInScope : Script → List Cont → List NameId → Type 0
+AreInScope S [] names = names ≡ S.main_names
+AreInScope S (Frame saved ∷ k) names = (m : Method) × (names ≡ S.method_names m) × AreInScope S k (names_in saved.locals)
+AreInScope S (Turn turns block kept ∷ k) names = (outer : List NameId) × (names ≡ outer ++ S.block_names block.at) × (kept ≡ length outer) × AreInScope S k outer
+AreInScope S (c ∷ k) names = AreInScope S k names
 
 -- at each state of a run, until it ends
 abbrev pub KeepsScopes : Script → State → Type 0
 KeepsScopes S (On (Ended how) k sc d left) = Unit {0}
-KeepsScopes S (On c k sc d left) = IsInScope S k (names_in sc.locals)
+KeepsScopes S (On c k sc d left) = AreInScope S k (names_in sc.locals)
 
 abbrev pub ScopesFollowTheText : Type 0
 ScopesFollowTheText = (S : Script) (N : ℕ) (b : List ℕ) (h : Private) (s : State) → Runs S N b h s → KeepsScopes S s
+
+-- At the end of an iteration the locals are those from round the block, and then its own; these go, and the others stay.
+abbrev pub IterationsLeaveTheRest : Type 0
+IterationsLeaveTheRest = (S : Script) (N : ℕ) (b : List ℕ) (h : Private) (v : Value) (turns : Turns) (block : Block) (kept : ℕ) (k : List Cont) (sc : Scope) (d left : ℕ)
+    → Runs S N b h (On (Give v) (Turn turns block kept ∷ k) sc d left)
+    → (outer : Locals) × (own : Locals) × (sc.locals ≡ outer ++ own) × (names_in own ≡ S.block_names block.at)
+    × (move S (On (Give v) (Turn turns block kept ∷ k) sc d left) ≡ Go (On (Turning turns block) k (with_locals sc outer) d left))
 
 -- the receiver of a call is evaluated before its arguments
 abbrev pub ReceiversComeFirst : Type 0

@@ -58,11 +58,12 @@ pub fn division()
     ensures answered { law.DivisionsAnswer }
 {}
 
-/// Each iteration of a block has its own locals new, and leaves those round the block alone.
+/// Each iteration of a block has its own locals new, and behind it they are gone.
 pub fn block_locals()
     ensures new { law.OwnLocalsAreNew }
     ensures given { law.ParametersAreGiven }
-    ensures behind { law.IterationsLeaveOutside }
+    ensures gone { law.OwnLocalsGo }
+    ensures behind { law.IterationsLeaveTheRest }
 {}
 
 /// The names in scope are at each state those that the text gives: those of the top level or the method, and those of the blocks round
