@@ -1,9 +1,9 @@
 -- A run with a budget of steps is the front of one with a greater budget.
-use Rattle.std.proofs.Common.{◌≡◌, ◌≤◌, ◌⊎◌, inl, inr, ℕ, zero, suc, ◌+◌, ◌-◌, Bool, true, false, cond, List, [], ◌∷◌, ◌++◌, Option, Some, None, refl, sym, ap, ◌∙◌, subst, arith}
+use Rattle.std.proofs.Common.{◌≡◌, ◌≤◌, ◌⊎◌, inl, inr, ℕ, zero, suc, ◌+◌, ◌-◌, Bool, true, false, cond, List, [], ◌∷◌, ◌++◌, Some, refl, sym, ap, ◌∙◌, subst, arith}
 use Rattle.std.specs.Prelude.{nat_lt, int_lt}
 use Rattle.rb_tree.specs.declared.node.Node.{Node, out-Node}
 use Rattle.rb_tree.specs.declared.node.Block.{Block}
-use Rattle.rb_tree.specs.declared.node.Piece.{Piece, out-Piece}
+use Rattle.rb_tree.specs.declared.node.Piece.{out-Piece}
 use Rattle.rb_tree.specs.Place.{place}
 use Rattle.rb_model.specs.declared.fault.Fault.TheVariants.{TooDeep}
 use Rattle.rb_model.specs.Values.{To, Reference}
@@ -16,7 +16,6 @@ use Rattle.rb_model.specs.Private.{Private, held, entered, changed}
 use Rattle.rb_machine.specs.Scopes.{Script, Scope}
 use Rattle.rb_machine.specs.Control.{State, On, Cont, Under, Turns, Counting, Eval, Give, Leave, Following, Looping, Turning, Passing, Joining, Making, Calling, Showing, Ended}
 use Rattle.rb_machine.specs.Call.{ended, raised}
-use Rattle.rb_machine.specs.Begin.{begin}
 use Rattle.rb_machine.specs.Follows.{next_thing}
 use Rattle.rb_machine.specs.Move.{Next, Go, Make, Ask, Show, Stop, move, replied, left_in, turn, start_node, start_turn, max_depth}
 use Rattle.rb_machine.specs.Alone.{Runs, begins, goes, makes, acts, shows, Alone}

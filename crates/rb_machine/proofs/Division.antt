@@ -1,5 +1,5 @@
 -- Division of integers, rounded toward minus infinity.
-use Rattle.std.proofs.Common.{◌≡◌, ◌<◌, ◌≤◌, ◌⊎◌, inl, inr, ℕ, zero, suc, ◌+◌, ◌-◌, ◌*◌, ◌/◌, ◌%◌, Bool, true, false, cond, refl, sym, ap, ◌∙◌, subst, arith, ℤ, pos, negsuc, ◌+ℤ◌, ◌-ℤ◌, ◌*ℤ◌, neg_ℤ, unsigned_abs, ◌<ℤ◌, ◌≤ℤ◌, div-add-mod', mod-lt}
+use Rattle.std.proofs.Common.{◌≡◌, ◌<◌, ◌≤◌, ◌⊎◌, inl, inr, ℕ, zero, suc, ◌+◌, ◌-◌, ◌*◌, ◌/◌, ◌%◌, Bool, true, false, cond, refl, sym, ap, ◌∙◌, arith, ℤ, pos, negsuc, ◌+ℤ◌, ◌-ℤ◌, ◌*ℤ◌, unsigned_abs, div-add-mod', mod-lt}
 use borrow.Author.Differences.{up, down, neg_is, same_in}
 use Rattle.std.proofs.lemmas.Bool.{cases_order}
 use Rattle.std.proofs.Math.Nat.{mul-le-mul_left}
@@ -74,14 +74,14 @@ not_zero_itself (pos (suc n)) h = not_zero n
 not_zero_itself (negsuc n) h = grind (arith, ints)
 
 pub divisions_answer : DivisionsAnswer
-divisions_answer names m n =
-    ( refl
-    , refl
-    , λ h.
-      ( ap (λ t. cond t (Raises ZeroDivision) (integer (quotient m n))) (not_zero_itself n h)
-      , ap (λ t. cond t (Raises ZeroDivision) (integer (modulo m n))) (not_zero_itself n h)
-      )
-    )
+divisions_answer names m n = (
+  refl,
+  refl,
+  λ h. (
+    ap (λ t. cond t (Raises ZeroDivision) (integer (quotient m n))) (not_zero_itself n h),
+    ap (λ t. cond t (Raises ZeroDivision) (integer (modulo m n))) (not_zero_itself n h),
+  ),
+)
 
 -- ---- one way
 

@@ -1,15 +1,15 @@
 -- Values of methods, and moves of the machine, by computation.
 use Rattle.std.proofs.Common.{◌≡◌, ℕ, List, [], ◌∷◌, Some, None, refl}
-use Rattle.std.specs.Prelude.{ℤ, pos, negsuc, codes}
+use Rattle.std.specs.Prelude.{pos, negsuc, codes}
 use Rattle.rb_model.specs.declared.fault.Fault.TheVariants.{NoMethod, ArgumentCount, TypeMismatch, ZeroDivision, IntegerOverflow}
 use Rattle.rb_tree.specs.declared.span.Span.{Span}
 use Rattle.rb_tree.specs.declared.node.Node.{Node}
-use Rattle.rb_model.specs.Values.{Value, Nil, False, True, Int, Sym, Str}
+use Rattle.rb_model.specs.Values.{Value, Nil, False, True, Int, Str}
 use Rattle.rb_model.specs.Things.{Elements}
 use Rattle.rb_machine.specs.Scopes.{Script, Text, Scope}
 use Rattle.rb_machine.specs.Control.{On, Cont, Then, Test, Again, Give, Following, Showing, Instead, Create, Break, Counting}
 use Rattle.rb_machine.specs.Texts.{escaped, puts_text, print_text, p_text}
-use Rattle.rb_machine.specs.Methods.{Answer, Gives, Raises, Loops, deed, quotient, modulo}
+use Rattle.rb_machine.specs.Methods.{Gives, Raises, Loops, deed, quotient, modulo}
 use Rattle.rb_machine.specs.Call.{print}
 use Rattle.rb_machine.specs.Give.{give, leave}
 

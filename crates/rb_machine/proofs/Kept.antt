@@ -1,5 +1,5 @@
 -- The names in scope follow the text of the script; and an end for want of steps has none left.
-use Rattle.std.proofs.Common.{◌≡◌, ◌<◌, ◌⊎◌, inl, inr, ℕ, zero, suc, ◌+◌, ◌-◌, Bool, true, false, cond, List, [], ◌∷◌, ◌++◌, map, take, Option, Some, None, length, refl, sym, ap, ◌∙◌, subst, arith}
+use Rattle.std.proofs.Common.{◌≡◌, ℕ, zero, suc, ◌+◌, Bool, true, false, cond, List, [], ◌∷◌, ◌++◌, take, Option, Some, None, length, refl, sym, ap, ◌∙◌, subst}
 use Rattle.std.specs.Prelude.{nat_lt, nat_eq, int_lt, codes, ◌==◌}
 use Rattle.std.specs.Option.{is_some}
 use Rattle.std.specs.Str.{bytes_eq}
@@ -10,7 +10,7 @@ use Rattle.rb_tree.specs.declared.span.NameId.{NameId}
 use Rattle.rb_tree.specs.declared.node.AssignOp.{AssignOp}
 use Rattle.rb_tree.specs.declared.node.AssignOp.TheVariants as op
 use Rattle.rb_tree.specs.declared.node.Node.{Node, out-Node}
-use Rattle.rb_tree.specs.declared.node.Piece.{Piece, out-Piece}
+use Rattle.rb_tree.specs.declared.node.Piece.{Piece}
 use Rattle.rb_tree.specs.declared.node.Target.{Target, out-Target}
 use Rattle.rb_tree.specs.declared.node.Block.{Block}
 use Rattle.rb_tree.specs.declared.node.Method.{Method}
@@ -22,13 +22,13 @@ use Rattle.rb_model.specs.declared.fault.Fault.{Fault}
 use Rattle.rb_model.specs.declared.fault.Fault.TheVariants.{TooDeep}
 use Rattle.rb_model.specs.Values.{Value, Nil, False, True, Int, Sym, Str, To, truthy}
 use Rattle.rb_model.specs.Acts.{Act, GetField, SetField}
-use Rattle.rb_model.specs.Ends.{End, Steps}
+use Rattle.rb_model.specs.Ends.{Steps}
 use Rattle.rb_machine.specs.Scopes.{Script, Text, Scope, Locals, text_of, found, assign, fresh, with_locals}
 use Rattle.rb_machine.specs.Control.{State, On, Cont, Then, Under, Test, Again, Turn, Frame, Step, AssignTo, FieldTo, GlobalTo, Rest, Choose, RightOfAnd, RightOfOr, Negate, ReturnOf, ReceiverOf, ReceiverToStore, Argument, Instead, Create, PieceOf, IndexedBy, MemberOf, IndexOf, ReadOf, RightOf, WriteTo}
-use Rattle.rb_machine.specs.Control.{Control, Eval, Give, Leave, Following, Looping, Turning, Passing, Joining, Making, Calling, Showing, Ended, Exit, Break, Next, Return, Aim, OnReceiver, ByName, Storing, Place, OfLocal, OfField, OfGlobal, OfElement, OfAttribute, Turns, Counting}
+use Rattle.rb_machine.specs.Control.{Ended, Exit, Break, Next, Return, Aim, OnReceiver, ByName, Storing, Place, OfLocal, OfField, OfGlobal, OfElement, OfAttribute, Turns, Counting}
 use Rattle.rb_machine.specs.Methods.{Answer, Gives, Raises, Loops, deed}
 use Rattle.rb_machine.specs.Texts.{max_bytes, shown, puts_text, print_text, p_text}
-use Rattle.rb_machine.specs.Call.{raised, ended, ask_of, named, texted, methods_of, params_of, invoked, top_level, own, last_value, enter, answered, invoke, operator, show, value_of_p, print, perform, read_place, decide, write_place}
+use Rattle.rb_machine.specs.Call.{raised, ask_of, named, texted, methods_of, params_of, invoked, top_level, own, last_value, enter, answered, invoke, operator, show, value_of_p, print, perform, read_place, decide, write_place}
 use Rattle.rb_machine.specs.Begin.{begin, begin_call, begin_target, begin_return}
 use Rattle.rb_machine.specs.Give.{back, join, give_step, give, leave}
 use Rattle.rb_machine.specs.Move.{start_node, start_turn, turn, join_piece, max_depth, first_of_turn}
@@ -239,11 +239,11 @@ module _ (S : Script) where
   turn_started : (turns : Turns) (block : Block) (k : List Cont) (sc : Scope) (d left : ℕ) → Inside k sc → Sound (start_turn S turns block k sc d left)
   turn_started turns block k sc d zero h = λ e. refl
   turn_started turns block k sc d (suc left) h =
-      let own_locals = fresh (S.block_names block.at) (take (length block.params) (first_of_turn turns)) in
-      ( names_in sc.locals
-      , map-append (λ (b : NameId × Value). b.0) sc.locals own_locals ∙ ap (λ l. names_in sc.locals ++ l) (names_in-fresh (S.block_names block.at) _)
-      , sym (length-map sc.locals (λ (b : NameId × Value). b.0))
-      , h
+      let own_locals = fresh (S.block_names block.at) (take (length block.params) (first_of_turn turns)) in (
+        names_in sc.locals,
+        map-append (λ (b : NameId × Value). b.0) sc.locals own_locals ∙ ap (λ l. names_in sc.locals ++ l) (names_in-fresh (S.block_names block.at) _),
+        sym (length-map sc.locals (λ (b : NameId × Value). b.0)),
+        h,
       )
 
   pub turn_sound : (turns : Turns) (block : Block) (k : List Cont) (sc : Scope) (d left : ℕ) → Inside k sc → Sound (turn S turns block k sc d left)

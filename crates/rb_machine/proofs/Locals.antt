@@ -1,16 +1,15 @@
 -- The locals of blocks and of what is round them.
-use Rattle.std.proofs.Common.{◌≡◌, ◌<◌, ◌≤◌, ◌⊎◌, inl, inr, ℕ, zero, suc, Bool, true, false, cond, List, [], ◌∷◌, ◌++◌, take, length, Option, Some, None, refl, sym, ap, ◌∙◌, subst, arith}
+use Rattle.std.proofs.Common.{◌≡◌, ◌<◌, ◌≤◌, ◌⊎◌, inl, inr, ℕ, zero, suc, Bool, true, false, cond, List, [], ◌∷◌, ◌++◌, take, length, Option, Some, None, refl, sym, ap, ◌∙◌, arith}
 use Rattle.std.specs.Prelude.{◌==◌, slice_get}
 use Rattle.std.specs.Option.{is_some}
-use Rattle.std.proofs.lemmas.Bool.{eq-eqb, eqb-true}
+use Rattle.std.proofs.lemmas.Bool.{eq-eqb}
 use Rattle.std.proofs.lemmas.Bool.Decides.{nat_tests}
 use Rattle.std.proofs.lemmas.List.{length-take}
 use Rattle.std.proofs.Math.Seq.{take-append_seam}
 use Rattle.rb_tree.specs.declared.span.NameId.{NameId}
-use Rattle.rb_tree.specs.declared.node.Block.{Block}
 use Rattle.rb_model.specs.Values.{Value, Nil, Int, or_nil}
-use Rattle.rb_machine.specs.Scopes.{Script, Scope, Locals, or_else, found, look, assign, fresh, with_locals}
-use Rattle.rb_machine.specs.Control.{State, On, Cont, Turn, Following, Turning, Give, Counting}
+use Rattle.rb_machine.specs.Scopes.{Locals, or_else, found, look, assign, fresh}
+use Rattle.rb_machine.specs.Control.{On, Give, Counting}
 use Rattle.rb_machine.specs.Move.{Go, start_turn}
 use Rattle.rb_machine.specs.Laws.{own_at, OwnLocalsAreNew, ParametersAreGiven, AssignsOutside, AssignsOwn, AssignsOne, OwnLocalsGo}
 
@@ -60,7 +59,7 @@ pub assigns_outside : AssignsOutside
 assigns_outside name v [] own e = assign_absent name v own e
 assigns_outside name v (b ∷ outer) own e =
     ap (λ s. cond s (b ∷ assign name v (outer ++ own)) (cond (b.0.0 == name.0) ((b.0, v) ∷ (outer ++ own)) (b ∷ (outer ++ own))))
-      (ap is_some (found-append name outer own ∙ ap (λ o. or_else o (found name outer)) e))
+    (ap is_some (found-append name outer own ∙ ap (λ o. or_else o (found name outer)) e))
     ∙ (ap (λ l. cond (is_some (found name outer)) (b ∷ l) (cond (b.0.0 == name.0) ((b.0, v) ∷ (outer ++ own)) (b ∷ (outer ++ own)))) (assigns_outside name v outer own e)
     ∙ cond-append (is_some (found name outer)) (b.0.0 == name.0) (b ∷ assign name v outer) ((b.0, v) ∷ outer) (b ∷ outer) own)
 
@@ -72,7 +71,7 @@ pub assigns_own : AssignsOwn
 assigns_own name v [] own e = refl
 assigns_own name v (b ∷ outer) own e =
     ap (λ s. cond s (b ∷ assign name v (outer ++ own)) (cond (b.0.0 == name.0) ((b.0, v) ∷ (outer ++ own)) (b ∷ (outer ++ own))))
-      (ap is_some (found-append name outer own) ∙ is_some-or_else (found name own) (found name outer) e)
+    (ap is_some (found-append name outer own) ∙ is_some-or_else (found name own) (found name outer) e)
     ∙ ap (λ l. b ∷ l) (assigns_own name v outer own e)
 
 found_assigned : (name : NameId) (v : Value) (locals : Locals) → is_some (found name locals) ≡ true → found name (assign name v locals) ≡ Some v
@@ -156,11 +155,11 @@ given param names (suc count) v some h =
 -- ---- iterations
 
 pub own_locals_are_new : OwnLocalsAreNew
-own_locals_are_new S next last answer block k sc d left e =
-    ( ap (λ t. Go (cond t (start_turn S (Counting next last answer) block k sc d (suc left)) (On (Give answer) k sc d (suc left)))) e
-    , λ i name h at. look_inner name Nil sc.locals (own_at S block (Int next ∷ []))
-        (nil_behind name (S.block_names block.at) (take (length block.params) (Int next ∷ [])) i at (few (length block.params) i (Int next ∷ []) h))
-    )
+own_locals_are_new S next last answer block k sc d left e = (
+  ap (λ t. Go (cond t (start_turn S (Counting next last answer) block k sc d (suc left)) (On (Give answer) k sc d (suc left)))) e,
+  λ i name h at. look_inner name Nil sc.locals (own_at S block (Int next ∷ []))
+      (nil_behind name (S.block_names block.at) (take (length block.params) (Int next ∷ [])) i at (few (length block.params) i (Int next ∷ []) h)),
+)
   where
     few : (count i : ℕ) (vs : List Value) → count ≤ i → length (take count vs) ≤ i
     few count i vs h = omega (arith, h, length-take count vs)
@@ -168,7 +167,7 @@ own_locals_are_new S next last answer block k sc d left e =
 pub parameters_are_given : ParametersAreGiven
 parameters_are_given S block v outer param names some same apart =
     look_inner param v outer (own_at S block (v ∷ []))
-      (ap (λ ns. found param (fresh ns (take (length block.params) (v ∷ [])))) same ∙ given param names (length block.params) v some apart)
+    (ap (λ ns. found param (fresh ns (take (length block.params) (v ∷ [])))) same ∙ given param names (length block.params) v some apart)
 
 pub own_locals_go : OwnLocalsGo
 own_locals_go me outer own kept e = ap (λ l. record { me = me; locals = l }) (ap (λ n. take n (outer ++ own)) (sym e) ∙ take-append_seam outer own)

@@ -1,5 +1,5 @@
 -- A script has one run: so many moves lead to one place.
-use Rattle.std.proofs.Common.{◌≡◌, ℕ, zero, suc, ◌+◌, ◌-◌, List, [], ◌∷◌, ◌++◌, Option, Some, None, refl, sym, ap, ◌∙◌, subst, arith}
+use Rattle.std.proofs.Common.{◌≡◌, ℕ, zero, suc, ◌+◌, ◌-◌, List, [], ◌++◌, Option, Some, None, refl, sym, ap, ◌∙◌, subst, arith}
 use Rattle.std.proofs.lemmas.List.{append-nil, append_assoc}
 use Rattle.rb_model.specs.Values.{To}
 use Rattle.rb_model.specs.Acts.{Done}
@@ -103,7 +103,7 @@ later_shows S N n zero =
 later_shows S N n (suc k) =
     let z : suc k + n ≡ suc (k + n) = omega arith in
     subst (λ m. Begins (advance S N n).bytes (advance S N m).bytes) (sym z)
-      (begins_through (advance S N n).bytes (advance S N (k + n)).bytes (one S N (advance S N (k + n))).bytes (later_shows S N n k) (after_shows (move S (advance S N (k + n)).state) (advance S N (k + n))))
+    (begins_through (advance S N n).bytes (advance S N (k + n)).bytes (one S N (advance S N (k + n))).bytes (later_shows S N n k) (after_shows (move S (advance S N (k + n)).state) (advance S N (k + n))))
 
 -- what a run has shown stands in front of what its script shows in the end
 pub front : (S : Script) (N : ℕ) (b b' : List ℕ) (h : Private) (s : State) (e : End) (n : ℕ) → Runs S N b h s → Alone S N b' e n → Begins b b'
@@ -127,8 +127,8 @@ pub has_one_run : HasOneRun
 has_one_run S N b b' e e' n n' p q =
     let m = reached S N p.run in
     let k = reached S N q.run in
-    let same = one_end S N m.0 k.0 _ _ e e' m.1 k.1 p.ends q.ends in
-    ( ap (λ (x : Point). x.bytes) same
-    , ap (λ o. or_this e o) (ap end_in (sym p.ends) ∙ (ap (λ (x : Point). end_in (move S x.state)) same ∙ ap end_in q.ends))
-    , sym p.counted ∙ (ap (λ (x : Point). N - left_in x.state) same ∙ q.counted)
+    let same = one_end S N m.0 k.0 _ _ e e' m.1 k.1 p.ends q.ends in (
+      ap (λ (x : Point). x.bytes) same,
+      ap (λ o. or_this e o) (ap end_in (sym p.ends) ∙ (ap (λ (x : Point). end_in (move S x.state)) same ∙ ap end_in q.ends)),
+      sym p.counted ∙ (ap (λ (x : Point). N - left_in x.state) same ∙ q.counted),
     )

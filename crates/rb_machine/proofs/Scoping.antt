@@ -9,13 +9,13 @@ use Rattle.rb_model.specs.Values.{Value}
 use Rattle.rb_tree.specs.declared.node.Piece.{out-Piece}
 use Rattle.rb_model.specs.Acts.{Act, Reply, Done}
 use Rattle.rb_model.specs.Acts as reply
-use Rattle.rb_model.specs.Ends.{End, Steps}
-use Rattle.rb_model.specs.Things.{Thing, Object, Elements, Pairs, Mutex, gives, put_reply, grown_reply, index_of, has_room, may_put, max_elements}
+use Rattle.rb_model.specs.Ends.{Steps}
+use Rattle.rb_model.specs.Things.{Thing, Object, Elements, Pairs, Mutex, gives, put_reply, index_of, has_room, may_put, max_elements}
 use Rattle.rb_model.specs.Private.{Private}
 use Rattle.rb_machine.specs.Scopes.{Script, Scope, Locals}
 use Rattle.rb_machine.specs.Control.{State, On, Cont, Eval, Give, Leave, Following, Looping, Turning, Passing, Joining, Making, Calling, Showing, Ended}
-use Rattle.rb_machine.specs.Move.{Next, Go, Make, Ask, Show, Stop, move, replied, answered, left_in}
-use Rattle.rb_machine.specs.Alone.{Runs, begins, goes, makes, acts, shows, Alone}
+use Rattle.rb_machine.specs.Move.{Next, Go, Stop, move, replied, answered, left_in}
+use Rattle.rb_machine.specs.Alone.{Runs, begins, goes, makes, acts, shows}
 use Rattle.rb_machine.specs.Laws.{KeepsScopes, ScopesFollowTheText, IterationsLeaveTheRest, StepsAreUsedUp, AreInScope, names_in}
 use Rattle.rb_machine.proofs.Kept.{Sound, names_in-fresh, raised_sound, perform_sound, piece_sound, give_sound, leave_sound, node_sound, turn_sound}
 

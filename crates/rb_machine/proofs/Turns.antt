@@ -1,10 +1,9 @@
 -- What is evaluated before what, and what is not evaluated.
-use Rattle.std.proofs.Common.{◌≡◌, ℕ, suc, Bool, true, false, cond, List, [], ◌∷◌, ◌++◌, Option, Some, refl, sym, ap, ◌∙◌, subst}
+use Rattle.std.proofs.Common.{ℕ, suc, cond, List, [], ◌∷◌, ◌++◌, refl, sym, ap, ◌∙◌, subst}
 use Rattle.std.proofs.lemmas.List.{append-nil, append_assoc}
-use Rattle.std.specs.Prelude.{nat_lt, ◌+◌}
+use Rattle.std.specs.Prelude.{◌+◌}
 use Rattle.rb_tree.specs.declared.span.Span.{Span}
 use Rattle.rb_tree.specs.declared.node.Node.{Node, out-Node}
-use Rattle.rb_tree.specs.Layer.{NodeLayer}
 use Rattle.rb_tree.specs.Place.{place}
 use Rattle.rb_model.specs.declared.fault.Fault.TheVariants.{TooDeep}
 use Rattle.rb_model.specs.Values.{Value}
@@ -12,7 +11,7 @@ use Rattle.rb_machine.specs.Scopes.{Script, Scope}
 use Rattle.rb_machine.specs.Control.{State, On, Cont, Then, Under, Aim, Argument, Eval, Give, Passing, WriteTo}
 use Rattle.rb_machine.specs.Call.{raised, perform}
 use Rattle.rb_machine.specs.Begin.{begin}
-use Rattle.rb_machine.specs.Move.{Go, max_depth}
+use Rattle.rb_machine.specs.Move.{Go}
 use Rattle.rb_machine.specs.Laws.{Quiet, stays, moves, Evaluates, nothing, first, ReceiversComeFirst, ArgumentsComeInTurn, ArgumentsComeOnce, OrGoesOnWhereFalse, AndGoesOnWhereTrue}
 
 -- one quiet way behind another
@@ -21,11 +20,11 @@ through (stays s) q = q
 through (moves s r t e p) q = moves s r _ e (through p q)
 
 pub receivers_come_first : ReceiversComeFirst
-receivers_come_first S n receiver name args block at k sc d left v e h =
-    ( ap (λ t. Go (cond t (begin S (out-Node n) (Under d ∷ k) sc (d + 1) left) (raised TooDeep (place (out-Node n)) (suc left)))) h
-      ∙ ap (λ f. Go (begin S f (Under d ∷ k) sc (d + 1) left)) e
-    , refl
-    )
+receivers_come_first S n receiver name args block at k sc d left v e h = (
+  ap (λ t. Go (cond t (begin S (out-Node n) (Under d ∷ k) sc (d + 1) left) (raised TooDeep (place (out-Node n)) (suc left)))) h
+      ∙ ap (λ f. Go (begin S f (Under d ∷ k) sc (d + 1) left)) e,
+  refl,
+)
 
 pub arguments_come_once : ArgumentsComeOnce
 arguments_come_once S aim done v n ns at k sc d left = (refl, refl)
@@ -36,24 +35,24 @@ in_turn {S} {d} (nothing sc left) aim done at k =
     moves _ _ _ refl (subst (λ vs. Quiet S (perform S aim done at k sc d left) (perform S aim vs at k sc d left)) (sym (append-nil done)) (stays _))
 in_turn {S} {d} (first n ns v vs sc sc' sc'' left left' left'' one rest) aim done at k =
     moves _ _ _ refl (through (one (Then (Argument aim done ns at) ∷ k))
-      (moves _ _ _ refl (subst (λ all. Quiet S (On (Passing aim (done ++ v ∷ []) ns at) k sc' d left') (perform S aim all at k sc'' d left'')) (append_assoc done (v ∷ []) vs)
-        (in_turn rest aim (done ++ v ∷ []) at k))))
+    (moves _ _ _ refl (subst (λ all. Quiet S (On (Passing aim (done ++ v ∷ []) ns at) k sc' d left') (perform S aim all at k sc'' d left'')) (append_assoc done (v ∷ []) vs)
+    (in_turn rest aim (done ++ v ∷ []) at k))))
 
 pub arguments_come_in_turn : ArgumentsComeInTurn
 arguments_come_in_turn S aim done vs ns at k sc sc' d left left' e = in_turn e aim done at k
 
 pub or_goes_on_where_false : OrGoesOnWhereFalse
-or_goes_on_where_false S v place right at k sc d left =
-    ( ap (λ t. Go (cond t (On (Give v) k sc d left) (On (Eval right) k sc d left)))
-    , ap (λ t. Go (cond t (On (Give v) k sc d left) (On (Eval right) k sc d left)))
-    , ap (λ t. Go (cond t (On (Give v) k sc d left) (On (Eval right) (Then (WriteTo place at) ∷ k) sc d left)))
-    , ap (λ t. Go (cond t (On (Give v) k sc d left) (On (Eval right) (Then (WriteTo place at) ∷ k) sc d left)))
-    )
+or_goes_on_where_false S v place right at k sc d left = (
+  ap (λ t. Go (cond t (On (Give v) k sc d left) (On (Eval right) k sc d left))),
+  ap (λ t. Go (cond t (On (Give v) k sc d left) (On (Eval right) k sc d left))),
+  ap (λ t. Go (cond t (On (Give v) k sc d left) (On (Eval right) (Then (WriteTo place at) ∷ k) sc d left))),
+  ap (λ t. Go (cond t (On (Give v) k sc d left) (On (Eval right) (Then (WriteTo place at) ∷ k) sc d left))),
+)
 
 pub and_goes_on_where_true : AndGoesOnWhereTrue
-and_goes_on_where_true S v place right at k sc d left =
-    ( ap (λ t. Go (cond t (On (Eval right) k sc d left) (On (Give v) k sc d left)))
-    , ap (λ t. Go (cond t (On (Eval right) k sc d left) (On (Give v) k sc d left)))
-    , ap (λ t. Go (cond t (On (Eval right) (Then (WriteTo place at) ∷ k) sc d left) (On (Give v) k sc d left)))
-    , ap (λ t. Go (cond t (On (Eval right) (Then (WriteTo place at) ∷ k) sc d left) (On (Give v) k sc d left)))
-    )
+and_goes_on_where_true S v place right at k sc d left = (
+  ap (λ t. Go (cond t (On (Eval right) k sc d left) (On (Give v) k sc d left))),
+  ap (λ t. Go (cond t (On (Eval right) k sc d left) (On (Give v) k sc d left))),
+  ap (λ t. Go (cond t (On (Eval right) (Then (WriteTo place at) ∷ k) sc d left) (On (Give v) k sc d left))),
+  ap (λ t. Go (cond t (On (Eval right) (Then (WriteTo place at) ∷ k) sc d left) (On (Give v) k sc d left))),
+)

@@ -152,7 +152,7 @@ own_at S block given = fresh (S.block_names block.at) (take (length block.params
 abbrev pub OwnLocalsAreNew : Type 0
 OwnLocalsAreNew = (S : Script) (next last : ℤ) (answer : Value) (block : Block) (k : List Cont) (sc : Scope) (d left : ℕ) → int_lt next last ≡ true
     → (move S (On (Turning (Counting next last answer) block) k sc d (suc left))
-      ≡ Go (On (Following Nil block.body) (Turn (Counting (next +ℤ pos 1) last answer) block (length sc.locals) ∷ k) (with_locals sc (sc.locals ++ own_at S block (Int next ∷ []))) d left))
+    ≡ Go (On (Following Nil block.body) (Turn (Counting (next +ℤ pos 1) last answer) block (length sc.locals) ∷ k) (with_locals sc (sc.locals ++ own_at S block (Int next ∷ []))) d left))
     × ((i : ℕ) (name : NameId) → length block.params ≤ i → slice_get (S.block_names block.at) i ≡ Some name → look name (sc.locals ++ own_at S block (Int next ∷ [])) ≡ Nil)
 
 -- the first parameter reads what the iteration is given, where no name of the block behind it is the same
