@@ -1,6 +1,6 @@
 // What values answer to calls of methods.
 
-ghost use Rattle.std.specs.Prelude.{◌≡◌, ℕ, List, [], ◌∷◌, Option, Some, None, IfOk, map, length};
+ghost use Rattle.std.specs.Prelude.{◌≡◌, ℕ, List, [], ◌∷◌, Option, Some, None, IfOk, map, neg_ℤ};
 ghost use Rattle.rb_model.specs.Values.{Int, Str, plain, truth};
 ghost use Rattle.rb_machine.specs.Methods.{Raises};
 ghost use Rattle.rb_machine.specs.Methods as table;
@@ -35,24 +35,24 @@ pub enum Deed {
 }
 
 /// Why a method that takes no block cannot be called so.
-fn misfit(count: usize, arity: usize, block: Option<u32>) -> Option<Fault>
-    ensures { result ≡ spec.misfit count arity None block }
+fn misfit(args: &[Value], arity: usize, block: Option<u32>) -> Option<Fault>
+    ensures { result ≡ spec.misfit (map plain args.now) arity None block }
 {
     match block {
         Some(_) => Some(Fault::NoMethod),
-        None if count != arity => Some(Fault::ArgumentCount),
+        None if args.len() != arity => Some(Fault::ArgumentCount),
         None => None,
     }
 }
 
 /// Why a method whose block takes at most one parameter cannot be called so.
-fn misfit_with_block(count: usize, arity: usize, block: Option<u32>) -> Option<Fault>
-    ensures { result ≡ spec.misfit count arity (Some 1) block }
+fn misfit_with_block(args: &[Value], arity: usize, block: Option<u32>) -> Option<Fault>
+    ensures { result ≡ spec.misfit (map plain args.now) arity (Some 1) block }
 {
     match block {
         None => Some(Fault::ArgumentCount),
         Some(params) if params > 1 => Some(Fault::ArgumentCount),
-        Some(_) if count != arity => Some(Fault::ArgumentCount),
+        Some(_) if args.len() != arity => Some(Fault::ArgumentCount),
         Some(_) => None,
     }
 }
@@ -92,13 +92,24 @@ fn given(answer: IntegerAnswer) -> Deed
     }
 }
 
+/// The one argument, where it is an integer.
+fn only_integer(args: &[Value]) -> Option<i64>
+    ensures { result ≡ spec.only_integer (map plain args.now) }
+{
+    let [Value::Int(n)] = args else {
+        return None;
+    };
+    Some(*n)
+}
+
 /// An operation on an integer and an argument.
+#[tactic(auto, using(crate::proofs::Table::on_integers_is))]
 fn operated(method: Builtin, m: i64, args: &[Value]) -> Deed
     ensures { spec.answer_of result ≡ table.on_integers (integers.operated method) (Int m) (map plain args.now) }
 {
-    match args {
-        [Value::Int(n)] => given(integer_operation(method, m, *n)),
-        _ => Deed::Raise(Fault::TypeMismatch),
+    match only_integer(args) {
+        Some(n) => given(integer_operation(method, m, n)),
+        None => Deed::Raise(Fault::TypeMismatch),
     }
 }
 
@@ -114,7 +125,7 @@ fn walk_up(m: i64, args: &[Value]) -> Deed
 
 /// An integer with the other sign.
 fn negated(m: i64) -> Deed
-    ensures { spec.answer_of result ≡ table.negated (Int m) [] }
+    ensures { spec.answer_of result ≡ table.integer (neg_ℤ m) }
 {
     match m.checked_neg() {
         Some(n) => Deed::Give(Value::Int(n)),
@@ -122,20 +133,35 @@ fn negated(m: i64) -> Deed
     }
 }
 
+/// Whether a method is an operation on two integers.
+fn is_operator(method: Builtin) -> bool
+    ensures { result ≡ spec.is_operator method }
+{
+    match method {
+        Builtin::Plus
+        | Builtin::Minus
+        | Builtin::Times
+        | Builtin::Over
+        | Builtin::Modulo
+        | Builtin::Less
+        | Builtin::AtMost
+        | Builtin::More
+        | Builtin::AtLeast => true,
+        _ => false,
+    }
+}
+
 /// What an integer answers to a method of integers.
 fn integer_deed(m: i64, method: Builtin, args: &[Value], block: Option<u32>) -> Deed
     ensures { spec.answer_of result ≡ spec.integer_answer m method (map plain args.now) block }
 {
+    if is_operator(method) {
+        return unless(misfit(args, 1, block), operated(method, m, args));
+    }
     match method {
-        Builtin::TimesLoop => unless(
-            misfit_with_block(args.len(), 0, block),
-            Deed::Walk(Loop::Times(m)),
-        ),
-        Builtin::Upto => unless(misfit_with_block(args.len(), 1, block), walk_up(m, args)),
-        Builtin::Negate => unless(misfit(args.len(), 0, block), negated(m)),
-        Builtin::Length | Builtin::Equal | Builtin::IsNil | Builtin::ToS | Builtin::Inspect => {
-            Deed::Raise(Fault::NoMethod)
-        }
-        _ => unless(misfit(args.len(), 1, block), operated(method, m, args)),
+        Builtin::TimesLoop => unless(misfit_with_block(args, 0, block), Deed::Walk(Loop::Times(m))),
+        Builtin::Upto => unless(misfit_with_block(args, 1, block), walk_up(m, args)),
+        Builtin::Negate => unless(misfit(args, 0, block), negated(m)),
+        _ => Deed::Raise(Fault::NoMethod),
     }
 }
