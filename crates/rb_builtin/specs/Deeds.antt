@@ -2,10 +2,11 @@
 use Rattle.std.specs.Prelude.{ℕ, ℤ, pos, ◌+ℤ◌, neg_ℤ, nat_eq, Bool, true, false, if◌then◌else◌, List, [], ◌∷◌, length, Option, Some, None}
 use Rattle.rb_model.specs.declared.fault.Fault.{Fault}
 use Rattle.rb_model.specs.declared.fault.Fault.TheVariants.{NoMethod, ArgumentCount}
-use Rattle.rb_model.specs.Values.{Value, Int, plain}
+use Rattle.rb_model.specs.Values.{Value, Int, Str, plain}
+use Rattle.rb_model.specs.Characters.{characters}
 use Rattle.rb_machine.specs.Scopes.{Text}
 use Rattle.rb_machine.specs.Control.{Turns, Counting}
-use Rattle.rb_machine.specs.Methods.{Answer, Gives, Raises, Loops, block_fault, integer, upto, on_integers}
+use Rattle.rb_machine.specs.Methods.{Answer, Gives, Raises, Loops, block_fault, integer, upto, on_integers, joined}
 use Rattle.rb_builtin.specs.declared.builtin.Builtin.{Builtin}
 use Rattle.rb_builtin.specs.declared.builtin.Builtin.TheVariants as builtin
 use Rattle.rb_builtin.specs.Integers.{operated}
@@ -66,3 +67,14 @@ other_answer m b args given = Raises NoMethod
 -- what integers answer to their methods, those of all values left out
 abbrev pub integer_answer : ℤ → Builtin → List Value → Option ℕ → Answer
 integer_answer m b args given = if is_operator b then by_misfit (misfit args 1 None given) (on_integers (operated b) (Int m) args) else other_answer m b args given
+
+-- the one argument, where it is a text
+abbrev pub only_text : List Value → Option Text
+only_text (Str bytes ∷ []) = Some bytes
+only_text args = None
+
+-- what texts answer to their methods, those of all values left out
+abbrev pub text_answer : Text → Builtin → List Value → Option ℕ → Answer
+text_answer s builtin.Plus args given = by_misfit (misfit args 1 None given) (joined (Str s) args)
+text_answer s builtin.Length args given = by_misfit (misfit args 0 None given) (Gives (Int (pos (characters s))))
+text_answer s b args given = Raises NoMethod

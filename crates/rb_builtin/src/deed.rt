@@ -1,7 +1,9 @@
 // What values answer to calls of methods.
 
 ghost use Rattle.std.specs.Prelude.{◌≡◌, ℕ, List, [], ◌∷◌, Option, Some, None, IfOk, map, neg_ℤ};
-ghost use Rattle.rb_model.specs.Values.{Int, Str, plain, truth};
+ghost use Rattle.std.specs.Option.{option_map};
+ghost use Rattle.std.specs.Borrow.{Bor};
+ghost use Rattle.rb_model.specs.Values.{Int, Str, plain, truth, same};
 ghost use Rattle.rb_machine.specs.Methods.{Raises};
 ghost use Rattle.rb_machine.specs.Methods as table;
 ghost use Rattle.rb_builtin.specs.Integers as integers;
@@ -163,5 +165,85 @@ fn integer_deed(m: i64, method: Builtin, args: &[Value], block: Option<u32>) -> 
         Builtin::Upto => unless(misfit_with_block(args, 1, block), walk_up(m, args)),
         Builtin::Negate => unless(misfit(args, 0, block), negated(m)),
         _ => Deed::Raise(Fault::NoMethod),
+    }
+}
+
+/// A text as a value, where it is not too long.
+fn text(alloc: Global, bytes: Vec<u8>) -> Result<Deed, AllocError>
+    ensures { IfOk result (λ d. spec.answer_of d ≡ table.text bytes.items) }
+{
+    if bytes.len() > MAX_BYTES {
+        return Ok(Deed::Raise(Fault::TextTooLong));
+    }
+    Ok(Deed::Give(Value::Str(SharedText::from_vec(alloc, bytes)?)))
+}
+
+/// The one argument, where it is a text.
+fn only_text(args: &[Value]) -> Option<&SharedText>
+    ensures { option_map (λ (b : Bor (List ℕ)). b.now) result ≡ spec.only_text (map plain args.now) }
+{
+    let [Value::Str(text)] = args else {
+        return None;
+    };
+    Some(text)
+}
+
+/// A text, and an argument that is one behind it.
+#[tactic(auto, using(crate::proofs::Table::joined_is))]
+fn joined(alloc: Global, first: &SharedText, args: &[Value]) -> Result<Deed, AllocError>
+    ensures { IfOk result (λ d. spec.answer_of d ≡ table.joined (Str first.now) (map plain args.now)) }
+{
+    let Some(second) = only_text(args) else {
+        return Ok(Deed::Raise(Fault::TypeMismatch));
+    };
+    let first = first.as_slice();
+    let second = second.as_slice();
+    if first.len() > MAX_BYTES || second.len() > MAX_BYTES - first.len() {
+        return Ok(Deed::Raise(Fault::TextTooLong));
+    }
+    let mut bytes = Vec::with_capacity(alloc, first.len() + second.len())?;
+    bytes.extend_from_slice(first)?;
+    bytes.extend_from_slice(second)?;
+    text(alloc, bytes)
+}
+
+/// What a text answers to a method of texts.
+fn text_deed(
+    alloc: Global,
+    receiver: &SharedText,
+    method: Builtin,
+    args: &[Value],
+    block: Option<u32>,
+) -> Result<Deed, AllocError>
+    ensures { IfOk result (λ d. spec.answer_of d ≡ spec.text_answer receiver.now method (map plain args.now) block) }
+{
+    match method {
+        Builtin::Plus => match misfit(args, 1, block) {
+            Some(fault) => Ok(Deed::Raise(fault)),
+            None => joined(alloc, receiver, args),
+        },
+        Builtin::Length => {
+            let count = Deed::Give(Value::Int(receiver.characters()));
+            Ok(unless(misfit(args, 0, block), count))
+        }
+        _ => Ok(Deed::Raise(Fault::NoMethod)),
+    }
+}
+
+/// Whether two values are one and the same.
+fn is_same(a: &Value, b: &Value) -> bool
+    ensures { result ≡ same (plain a.now) (plain b.now) }
+{
+    match (a, b) {
+        (Value::Nil, Value::Nil) => true,
+        (Value::False, Value::False) => true,
+        (Value::True, Value::True) => true,
+        (Value::Int(m), Value::Int(n)) => *m == *n,
+        (Value::Sym(m), Value::Sym(n)) => m.0 == n.0,
+        (Value::Str(s), Value::Str(t)) => s.as_slice() == t.as_slice(),
+        (Value::Ref(r), Value::Ref(s)) => {
+            r.id.thread == s.id.thread && r.id.serial == s.id.serial
+        }
+        _ => false,
     }
 }
