@@ -2,11 +2,12 @@
 use Rattle.std.specs.Prelude.{ℕ, ℤ, pos, ◌+ℤ◌, neg_ℤ, nat_eq, Bool, true, false, if◌then◌else◌, List, [], ◌∷◌, length, Option, Some, None}
 use Rattle.rb_model.specs.declared.fault.Fault.{Fault}
 use Rattle.rb_model.specs.declared.fault.Fault.TheVariants.{NoMethod, ArgumentCount}
-use Rattle.rb_model.specs.Values.{Value, Int, Str, plain}
+use Rattle.rb_model.specs.Values.{Value, Nil, Int, Str, plain, truth, same}
 use Rattle.rb_model.specs.Characters.{characters}
 use Rattle.rb_machine.specs.Scopes.{Text}
+use Rattle.rb_machine.specs.Texts.{shown, inspected}
 use Rattle.rb_machine.specs.Control.{Turns, Counting}
-use Rattle.rb_machine.specs.Methods.{Answer, Gives, Raises, Loops, block_fault, integer, upto, on_integers, joined}
+use Rattle.rb_machine.specs.Methods.{Answer, Gives, Raises, Loops, block_fault, integer, upto, on_integers, joined, equal, text}
 use Rattle.rb_builtin.specs.declared.builtin.Builtin.{Builtin}
 use Rattle.rb_builtin.specs.declared.builtin.Builtin.TheVariants as builtin
 use Rattle.rb_builtin.specs.Integers.{operated}
@@ -26,7 +27,7 @@ answer_of (held.Give v) = Gives (plain v)
 answer_of (held.Raise fault) = Raises fault
 answer_of (held.Walk loop) = Loops (turns_of loop)
 
-abbrev fault_or_count : Option Fault → Bool → Option Fault
+abbrev pub fault_or_count : Option Fault → Bool → Option Fault
 fault_or_count (Some fault) counts = Some fault
 fault_or_count None counts = if counts then None else Some ArgumentCount
 
@@ -78,3 +79,17 @@ abbrev pub text_answer : Text → Builtin → List Value → Option ℕ → Answ
 text_answer s builtin.Plus args given = by_misfit (misfit args 1 None given) (joined (Str s) args)
 text_answer s builtin.Length args given = by_misfit (misfit args 0 None given) (Gives (Int (pos (characters s))))
 text_answer s b args given = Raises NoMethod
+
+-- what values answer to methods that only some have
+abbrev pub own_answer : Value → Builtin → List Value → Option ℕ → Answer
+own_answer (Int m) b args given = integer_answer m b args given
+own_answer (Str s) b args given = text_answer s b args given
+own_answer v b args given = Raises NoMethod
+
+-- what values answer to methods by their numbers
+abbrev pub answer_by_number : List Text → Value → Builtin → List Value → Option ℕ → Answer
+answer_by_number names v builtin.Equal args given = by_misfit (misfit args 1 None given) (equal v args)
+answer_by_number names v builtin.IsNil args given = by_misfit (misfit args 0 None given) (Gives (truth (same v Nil)))
+answer_by_number names v builtin.ToS args given = by_misfit (misfit args 0 None given) (text (shown names v))
+answer_by_number names v builtin.Inspect args given = by_misfit (misfit args 0 None given) (text (inspected names v))
+answer_by_number names v b args given = own_answer v b args given

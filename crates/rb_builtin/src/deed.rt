@@ -3,15 +3,17 @@
 ghost use Rattle.std.specs.Prelude.{◌≡◌, ℕ, List, [], ◌∷◌, Option, Some, None, IfOk, map, neg_ℤ};
 ghost use Rattle.std.specs.Option.{option_map};
 ghost use Rattle.std.specs.Borrow.{Bor};
-ghost use Rattle.rb_model.specs.Values.{Int, Str, plain, truth, same};
+ghost use Rattle.rb_model.specs.Values.{Nil, Int, Str, plain, truth, same};
 ghost use Rattle.rb_machine.specs.Methods.{Raises};
 ghost use Rattle.rb_machine.specs.Methods as table;
+ghost use Rattle.rb_machine.specs.Texts.{shown, inspected};
+ghost use Rattle.rb_builtin.specs.Names as numbers;
 ghost use Rattle.rb_builtin.specs.Integers as integers;
 ghost use Rattle.rb_builtin.specs.Deeds as spec;
 
 use crate::builtin::Builtin;
 use crate::integer::{IntegerAnswer, integer_operation};
-use rb_model::{Fault, SharedText, Value};
+use rb_model::{Fault, SharedText, Sort, Value};
 use rb_render::{MAX_BYTES, add_inspected, add_shown};
 use rb_tree::Names;
 use std::alloc::{AllocError, Global};
@@ -60,7 +62,7 @@ fn misfit_with_block(args: &[Value], arity: usize, block: Option<u32>) -> Option
 }
 
 /// The truth value of a test.
-fn truth(holds: bool) -> Deed
+fn truth_of(holds: bool) -> Deed
     ensures { spec.answer_of result ≡ table.Gives (truth holds) }
 {
     if holds {
@@ -245,5 +247,129 @@ fn is_same(a: &Value, b: &Value) -> bool
             r.id.thread == s.id.thread && r.id.serial == s.id.serial
         }
         _ => false,
+    }
+}
+
+/// Whether two values may be compared: two arrays, and two hashes, may not unless they are one.
+fn may_compare(a: &Value, b: &Value) -> bool
+    ensures { result ≡ table.may_compare (plain a.now) (plain b.now) }
+{
+    let (Value::Ref(r), Value::Ref(s)) = (a, b) else {
+        return true;
+    };
+    match (r.sort, s.sort) {
+        (Sort::List, Sort::List) | (Sort::Pairs, Sort::Pairs) => false,
+        _ => true,
+    }
+}
+
+/// Whether a value is the argument.
+fn equal(receiver: &Value, args: &[Value]) -> Deed
+    ensures { spec.answer_of result ≡ table.equal (plain receiver.now) (map plain args.now) }
+{
+    let [other] = args else {
+        return Deed::Raise(Fault::ArgumentCount);
+    };
+    let is_equal = is_same(receiver, other);
+    if is_equal || may_compare(receiver, other) {
+        truth_of(is_equal)
+    } else {
+        Deed::Raise(Fault::NoMethod)
+    }
+}
+
+/// The text of a value. That of a text is itself, and no bytes are copied.
+fn shown(alloc: Global, names: &Names, receiver: &Value) -> Result<Deed, AllocError>
+    ensures { IfOk result (λ d. spec.answer_of d ≡ table.text (shown names.now (plain receiver.now))) }
+{
+    let Value::Str(bytes) = receiver else {
+        let mut out = Vec::new(alloc);
+        add_shown(alloc, &mut out, names, receiver)?;
+        return text(alloc, out);
+    };
+    if bytes.as_slice().len() > MAX_BYTES {
+        return Ok(Deed::Raise(Fault::TextTooLong));
+    }
+    Ok(Deed::Give(Value::Str(bytes.share()?)))
+}
+
+/// The inspected form of a value.
+fn inspected(alloc: Global, names: &Names, receiver: &Value) -> Result<Deed, AllocError>
+    ensures { IfOk result (λ d. spec.answer_of d ≡ table.text (inspected names.now (plain receiver.now))) }
+{
+    let mut out = Vec::new(alloc);
+    add_inspected(alloc, &mut out, names, receiver)?;
+    text(alloc, out)
+}
+
+/// Whether a value is nil.
+fn is_nil(value: &Value) -> bool
+    ensures { result ≡ same (plain value.now) Nil }
+{
+    match value {
+        Value::Nil => true,
+        _ => false,
+    }
+}
+
+/// What a value answers to a method that only some values have.
+fn own_deed(
+    alloc: Global,
+    receiver: &Value,
+    method: Builtin,
+    args: &[Value],
+    block: Option<u32>,
+) -> Result<Deed, AllocError>
+    ensures { IfOk result (λ d. spec.answer_of d ≡ spec.own_answer (plain receiver.now) method (map plain args.now) block) }
+{
+    match receiver {
+        Value::Int(m) => Ok(integer_deed(*m, method, args, block)),
+        Value::Str(text) => text_deed(alloc, text, method, args, block),
+        _ => Ok(Deed::Raise(Fault::NoMethod)),
+    }
+}
+
+/// What a value answers to a method.
+fn deed_by_number(
+    alloc: Global,
+    names: &Names,
+    receiver: &Value,
+    method: Builtin,
+    args: &[Value],
+    block: Option<u32>,
+) -> Result<Deed, AllocError>
+    ensures { IfOk result (λ d. spec.answer_of d ≡ spec.answer_by_number names.now (plain receiver.now) method (map plain args.now) block) }
+{
+    match method {
+        Builtin::Equal => Ok(unless(misfit(args, 1, block), equal(receiver, args))),
+        Builtin::IsNil => Ok(unless(misfit(args, 0, block), truth_of(is_nil(receiver)))),
+        Builtin::ToS => match misfit(args, 0, block) {
+            Some(fault) => Ok(Deed::Raise(fault)),
+            None => shown(alloc, names, receiver),
+        },
+        Builtin::Inspect => match misfit(args, 0, block) {
+            Some(fault) => Ok(Deed::Raise(fault)),
+            None => inspected(alloc, names, receiver),
+        },
+        _ => own_deed(alloc, receiver, method, args, block),
+    }
+}
+
+/// What a value answers to the call of a method, whose number `builtin_of` gives for its name, with arguments and, where a block is
+/// given, the count of its parameters. It is what the table of methods says.
+pub fn deed_of(
+    alloc: Global,
+    names: &Names,
+    receiver: &Value,
+    method: Option<Builtin>,
+    args: &[Value],
+    block: Option<u32>,
+) -> Result<Deed, AllocError>
+    ensures { IfOk result (λ d. (name : List ℕ) → numbers.builtin_of name ≡ method
+        → spec.answer_of d ≡ table.deed names.now (plain receiver.now) name (map plain args.now) block) }
+{
+    match method {
+        Some(method) => deed_by_number(alloc, names, receiver, method, args, block),
+        None => Ok(Deed::Raise(Fault::NoMethod)),
     }
 }

@@ -7,5 +7,5 @@ mod deed;
 mod integer;
 
 pub use builtin::{Builtin, builtin_of};
-pub use deed::{Deed, Loop};
+pub use deed::{Deed, Loop, deed_of};
 pub use integer::{IntegerAnswer, integer_operation};
