@@ -163,7 +163,10 @@ fn integer_deed(m: i64, method: Builtin, args: &[Value], block: Option<u32>) -> 
         return unless(misfit(args, 1, block), operated(method, m, args));
     }
     match method {
-        Builtin::TimesLoop => unless(misfit_with_block(args, 0, block), Deed::Walk(Loop::Times(m))),
+        Builtin::TimesLoop => unless(
+            misfit_with_block(args, 0, block),
+            Deed::Walk(Loop::Times(m)),
+        ),
         Builtin::Upto => unless(misfit_with_block(args, 1, block), walk_up(m, args)),
         Builtin::Negate => unless(misfit(args, 0, block), negated(m)),
         _ => Deed::Raise(Fault::NoMethod),

@@ -5,6 +5,8 @@
 mod builtin;
 mod deed;
 mod integer;
+#[cfg(test)]
+mod tests;
 
 pub use builtin::{Builtin, builtin_of};
 pub use deed::{Deed, Loop, deed_of};
