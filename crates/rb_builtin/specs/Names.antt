@@ -1,5 +1,5 @@
 -- The numbers of built-in methods.
-use Rattle.std.specs.Prelude.{ℕ, List, Option, Some, None, if◌then◌else◌, codes}
+use Rattle.std.specs.Prelude.{ℕ, Bool, true, false, List, Option, Some, None, if◌then◌else◌, codes}
 use Rattle.std.specs.Str.{bytes_eq}
 use Rattle.rb_machine.specs.Scopes.{Text}
 use Rattle.rb_builtin.specs.declared.builtin.Builtin.{Builtin}
@@ -46,3 +46,9 @@ builtin_of name =
     if bytes_eq name (codes "upto") then Some builtin.Upto else (
     if bytes_eq name (codes "length") then Some builtin.Length else (
     None)))))))))))))))))
+
+-- whether two numbers, or none, are the same
+abbrev pub same_number : Option Builtin → Option Builtin → Bool
+same_number None None = true
+same_number (Some a) (Some b) = bytes_eq (name_of a) (name_of b)
+same_number a b = false

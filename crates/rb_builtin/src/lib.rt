@@ -5,7 +5,9 @@
 mod builtin;
 mod deed;
 mod integer;
+#[cfg(test)]
+mod tests;
 
 pub use builtin::{Builtin, builtin_of};
-pub use deed::{Deed, Loop};
+pub use deed::{Deed, Loop, deed_of};
 pub use integer::{IntegerAnswer, integer_operation};

@@ -94,12 +94,12 @@ count_characters (Str bytes) args = Gives (Int (pos (characters bytes)))
 count_characters v args = Raises NoMethod
 
 -- two arrays, and two hashes, that are not one and the same cannot be compared
-abbrev is_compared : Sort → Sort → Bool
+abbrev pub is_compared : Sort → Sort → Bool
 is_compared sort.List sort.List = false
 is_compared sort.Pairs sort.Pairs = false
 is_compared a b = true
 
-abbrev may_compare : Value → Value → Bool
+abbrev pub may_compare : Value → Value → Bool
 may_compare (To a) (To b) = is_compared a.sort b.sort
 may_compare v w = true
 

@@ -1,6 +1,6 @@
 // Texts of values.
 
-ghost use Rattle.std.specs.Prelude.{◌≡◌, IfOk};
+ghost use Rattle.std.specs.Prelude.{◌≡◌, IfOk, pos};
 ghost use Rattle.rb_model.specs.Characters as spec;
 ghost use Rattle.rb_model.specs.Characters.{characters};
 
@@ -12,7 +12,7 @@ use std::sync::Arc;
 #[derive(Drop)]
 struct Counted {
     bytes: Vec<u8>,
-    characters: u64,
+    characters: i64,
 }
 
 /// An immutable text that many values may own at once. Contracts see it as its bytes. The characters are counted once, when it
@@ -23,7 +23,7 @@ pub struct SharedText {
 }
 
 impl Model for SharedText {
-    ghost use Rattle.std.specs.Prelude.{◌≡◌, List, ℕ};
+    ghost use Rattle.std.specs.Prelude.{◌≡◌, List, ℕ, pos};
     ghost use Rattle.std.specs.Coded.{coded_list, coded_ℕ};
     ghost use Rattle.rb_model.specs.Characters.{characters};
 
@@ -33,7 +33,7 @@ impl Model for SharedText {
 
     ghost view = { λ t. t.inner.value.bytes.items };
 
-    ghost invariant = { λ t. t.inner.value.characters ≡ characters t.inner.value.bytes.items };
+    ghost invariant = { λ t. t.inner.value.characters ≡ pos (characters t.inner.value.bytes.items) };
 }
 
 /// How many characters a text has.
@@ -55,7 +55,10 @@ impl SharedText {
     pub fn from_vec(alloc: Global, bytes: Vec<u8>) -> Result<SharedText, AllocError>
         ensures { IfOk result (λ text. text ≡ bytes.items) }
     {
-        let characters = count(bytes.as_slice());
+        // More than can be counted are more than fit into memory.
+        let Ok(characters) = i64::try_from(count(bytes.as_slice())) else {
+            return Err(AllocError);
+        };
         Ok(SharedText {
             inner: Arc::new(alloc, Counted { bytes, characters })?,
         })
@@ -76,8 +79,8 @@ impl SharedText {
     }
 
     /// How many characters it has.
-    pub fn characters(&self) -> u64
-        ensures { result ≡ characters self.now }
+    pub fn characters(&self) -> i64
+        ensures { result ≡ pos (characters self.now) }
     {
         self.inner.characters
     }

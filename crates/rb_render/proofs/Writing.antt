@@ -13,8 +13,8 @@ use Rattle.rb_render.specs.Forms.{written, part, parts, is_blank}
 pub parts_grow : (names : List Text) (f : Form) (n : ℕ) (vs : List Held) → length (parts names f (map plain (take n vs))) ≤ length (parts names f (map plain vs))
 parts_grow names f n vs =
     let whole : parts names f (map plain vs) ≡ parts names f (map plain (take n vs)) ++ parts names f (map plain (drop n vs)) =
-      ap (λ xs. parts names f (map plain xs)) (sym (take-append-drop n vs))
-      ∙ (ap (parts names f) (map-append plain (take n vs) (drop n vs)) ∙ flat_map-append (part names f) (map plain (take n vs)) (map plain (drop n vs))) in
+    ap (λ xs. parts names f (map plain xs)) (sym (take-append-drop n vs))
+    ∙ (ap (parts names f) (map-append plain (take n vs) (drop n vs)) ∙ flat_map-append (part names f) (map plain (take n vs)) (map plain (drop n vs))) in
     let counted = ap length whole ∙ length-append (parts names f (map plain (take n vs))) (parts names f (map plain (drop n vs))) in
     omega (arith, counted)
 

@@ -1,12 +1,10 @@
 //! The texts of values: those that a program shows, those that `inspect` gives, and what `puts`, `print` and `p` write.
 #![tactic(auto)]
 
-
+mod show;
 #[cfg(test)]
 mod tests;
-mod show;
 mod text;
-
 
 pub use show::{Form, MAX_BYTES, RenderFault, render};
 pub use text::{add_inspected, add_shown, name_text};

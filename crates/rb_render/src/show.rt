@@ -52,7 +52,12 @@ fn ends_line(bytes: &[u8]) -> bool
 }
 
 /// Adds the line of a value: its text, and a line feed unless that ends with one.
-fn add_line(alloc: Global, out: &mut Vec<u8>, names: &Names, value: &Value) -> Result<(), AllocError>
+fn add_line(
+    alloc: Global,
+    out: &mut Vec<u8>,
+    names: &Names,
+    value: &Value,
+) -> Result<(), AllocError>
     ensures { OnOk result (out.new.items ≡ out.old.items ++ line_of (shown names.now (plain value.now))) }
 {
     let start = out.len();
@@ -64,7 +69,13 @@ fn add_line(alloc: Global, out: &mut Vec<u8>, names: &Names, value: &Value) -> R
 }
 
 /// Adds what a call writes of one value.
-fn add_part(alloc: Global, out: &mut Vec<u8>, names: &Names, form: Form, value: &Value) -> Result<(), AllocError>
+fn add_part(
+    alloc: Global,
+    out: &mut Vec<u8>,
+    names: &Names,
+    form: Form,
+    value: &Value,
+) -> Result<(), AllocError>
     ensures { OnOk result (out.new.items ≡ out.old.items ++ spec.part names.now form (plain value.now)) }
 {
     match form {

@@ -37,7 +37,12 @@ fn add_integer(alloc: Global, out: &mut Vec<u8>, n: i64) -> Result<(), AllocErro
 }
 
 /// Adds the text of a value, as `puts`, `print`, `to_s` and the code in a text give it.
-pub fn add_shown(alloc: Global, out: &mut Vec<u8>, names: &Names, value: &Value) -> Result<(), AllocError>
+pub fn add_shown(
+    alloc: Global,
+    out: &mut Vec<u8>,
+    names: &Names,
+    value: &Value,
+) -> Result<(), AllocError>
     ensures { OnOk result (out.new.items ≡ out.old.items ++ spec.shown names.now (plain value.now)) }
 {
     match value {
@@ -91,7 +96,12 @@ fn add_escaped(out: &mut Vec<u8>, bytes: &[u8]) -> Result<(), AllocError>
 }
 
 /// Adds the inspected form of a value, as `p` and `inspect` give it.
-pub fn add_inspected(alloc: Global, out: &mut Vec<u8>, names: &Names, value: &Value) -> Result<(), AllocError>
+pub fn add_inspected(
+    alloc: Global,
+    out: &mut Vec<u8>,
+    names: &Names,
+    value: &Value,
+) -> Result<(), AllocError>
     ensures { OnOk result (out.new.items ≡ out.old.items ++ spec.inspected names.now (plain value.now)) }
 {
     match value {

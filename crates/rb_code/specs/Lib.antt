@@ -1,0 +1,4 @@
+pub mod Erase
+pub mod Layout
+pub mod Resolved
+pub mod Stands

@@ -1,0 +1,108 @@
+-- Where the numbers of a resolved tree are right for a script.
+use Rattle.std.specs.Prelude.{ℕ, suc, ◌+◌, Bool, true, false, ◌&&◌, ◌||◌, not, ◌==◌, nat_lt, nat_le, is_none, List, [], ◌∷◌, ◌++◌, length, map, position, Option, Some, None, codes}
+use Rattle.std.specs.List.{list_all}
+use Rattle.std.specs.Str.{bytes_eq}
+use Rattle.rb_tree.specs.declared.span.NameId.{NameId}
+use Rattle.rb_tree.specs.declared.node.Method.{Method}
+use Rattle.rb_machine.specs.Scopes.{Script, text_of}
+use Rattle.rb_builtin.specs.declared.builtin.Builtin.{Builtin}
+use Rattle.rb_builtin.specs.Names.{builtin_of, same_number}
+use Rattle.rb_render.specs.declared.show.Form.{Form}
+use Rattle.rb_render.specs.declared.show.Form.TheVariants as form
+use Rattle.rb_code.specs.declared.code.Code.{Code, fold-Code}
+use Rattle.rb_code.specs.declared.code.CodePiece.{CodePiece, fold-CodePiece}
+use Rattle.rb_code.specs.declared.code.CodeBlock.{CodeBlock, fold-CodeBlock}
+use Rattle.rb_code.specs.declared.code.Code.TheOpen.{Code-F, CodePiece-F, CodeBlock-F}
+use Rattle.rb_code.specs.declared.code.Code.TheOpen as code
+use Rattle.rb_code.specs.declared.scripted.CodeMethod.{CodeMethod}
+use Rattle.rb_code.specs.declared.scripted.CodeScript.{CodeScript}
+use Rattle.rb_code.specs.Layout.{is_at, has_slot}
+use Rattle.rb_code.specs.Erase.{erase, erase_method}
+
+-- whether code is right where these names are in scope, in a frame of this size
+abbrev pub Fits : Type 0
+Fits = List NameId → ℕ → Bool
+
+abbrev pub every : List Fits → Fits
+every [] names size = true
+every (f ∷ fs) names size = f names size && every fs names size
+
+abbrev pub if_some : Option Fits → Fits
+if_some None names size = true
+if_some (Some f) names size = f names size
+
+-- the texts of the methods that print
+abbrev pub form_text : Form → List ℕ
+form_text form.Puts = codes "puts"
+form_text form.Print = codes "print"
+form_text form.Inspect = codes "p"
+
+-- `p` of several values makes an array, which is not built yet
+abbrev pub form_takes : Form → ℕ → Bool
+form_takes form.Inspect count = nat_le count 1
+form_takes other count = true
+
+module _ (S : Script) where
+  abbrev pub has_name : NameId → Method → Bool
+  has_name name m = m.name.0 == name.0
+
+  -- the number of the top-level method of a name
+  abbrev pub function_of : NameId → Option ℕ
+  function_of name = position (has_name name) S.program.functions
+
+  abbrev pub has_number : Option Builtin → NameId → Bool
+  has_number number name = same_number (builtin_of (text_of S name)) number
+
+  abbrev pub piece_step : CodePiece-F Fits Fits Fits → Fits
+  piece_step (code.Text text) names size = true
+  piece_step (code.Code c) names size = c names size
+
+  -- a block's own names lie behind those round it
+  abbrev pub block_step : CodeBlock-F Fits Fits Fits → Fits
+  block_step b names size =
+      let own = S.block_names b.at in
+      (b.from == length names) && ((b.count == length own) && (nat_le (length names + length own) size && every b.body (names ++ own) size))
+
+  abbrev pub node_step : Code-F Fits Fits Fits → Fits
+  node_step (code.Str pieces at) names size = every pieces names size
+  node_step (code.Local slot name at) names size = has_slot name names slot
+  node_step (code.SetLocal slot name value at) names size = has_slot name names slot && value names size
+  node_step (code.UpdateLocal slot name op value at) names size = has_slot name names slot && value names size
+  node_step (code.UpdateElement receiver index op value at) names size = receiver names size && (index names size && value names size)
+  node_step (code.UpdateAttribute receiver name op value at) names size = receiver names size && value names size
+  node_step (code.Store receiver name args at) names size = receiver names size && every args names size
+  node_step (code.Operate number name left right at) names size = has_number number name && (left names size && right names size)
+  node_step (code.Send number name receiver args at) names size = has_number number name && (receiver names size && every args names size)
+  node_step (code.Walk number name receiver args block at) names size = has_number number name && (receiver names size && (every args names size && block names size))
+  node_step (code.Function number name args at) names size = is_at (function_of name) number && every args names size
+  node_step (code.Print form name args at) names size =
+      is_none (function_of name) && (bytes_eq (text_of S name) (form_text form) && (form_takes form (length args) && every args names size))
+  node_step (code.And left right at) names size = left names size && right names size
+  node_step (code.Or left right at) names size = left names size && right names size
+  node_step (code.Not value at) names size = value names size
+  node_step (code.If condition first second at) names size = condition names size && (every first names size && every second names size)
+  node_step (code.While condition body at) names size = condition names size && every body names size
+  node_step (code.Return value at) names size = if_some value names size
+  node_step leaf names size = true
+
+  -- whether the numbers of code are right
+  unfoldable pub fits : Code → Fits
+  fits = fold-Code Fits Fits Fits node_step piece_step block_step
+
+  unfoldable pub piece_fits : CodePiece → Fits
+  piece_fits = fold-CodePiece Fits Fits Fits node_step piece_step block_step
+
+  unfoldable pub block_fits : CodeBlock → Fits
+  block_fits = fold-CodeBlock Fits Fits Fits node_step piece_step block_step
+
+  abbrev pub body_fits : List Code → Fits
+  body_fits body = every (map fits body)
+
+  -- a method's frame has a slot for each of its names, and its body is right in it
+  abbrev pub method_fits : CodeMethod → Bool
+  method_fits m =
+      let names = S.method_names (erase_method m) in
+      nat_le (length names) m.size && body_fits m.body names m.size
+
+  abbrev pub script_fits : CodeScript → Bool
+  script_fits c = list_all method_fits c.functions && (nat_le (length S.main_names) c.main_size && body_fits c.main S.main_names c.main_size)

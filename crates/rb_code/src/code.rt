@@ -1,0 +1,67 @@
+// The nodes of the resolved tree.
+
+use rb_builtin::Builtin;
+use rb_render::Form;
+use rb_tree::{AssignOp, Boxed, Items, NameId, Param, Span, Text};
+
+/// The block of a call. Its own locals lie in the slots from `from` on, its parameters first, within the frame of the method round it.
+#[cycle(code)]
+#[derive(Drop)]
+pub struct CodeBlock {
+    pub params: Items<Param>,
+    /// The first slot of its own.
+    pub from: u32,
+    /// How many locals are its own.
+    pub count: u32,
+    pub body: Items<Code>,
+    pub at: Span,
+}
+
+/// A part of a text: bytes as they are, or code whose value is put in.
+#[cycle(code)]
+#[derive(Drop)]
+pub enum CodePiece {
+    Text(Text),
+    Code(Code),
+}
+
+/// A node of the resolved tree. A name stands beside each number that was found for it.
+#[cycle(code)]
+#[derive(Drop)]
+pub enum Code {
+    Nil(Span),
+    False(Span),
+    True(Span),
+    Int(i64, Span),
+    /// A symbol.
+    Sym(NameId, Span),
+    /// A text.
+    Str(Items<CodePiece>, Span),
+    /// A local, by its slot.
+    Local(u32, NameId, Span),
+    SetLocal(u32, NameId, Boxed<Code>, Span),
+    /// An assignment with an operator to a local, to an element, and to an attribute.
+    UpdateLocal(u32, NameId, AssignOp, Boxed<Code>, Span),
+    UpdateElement(Boxed<Code>, Boxed<Code>, AssignOp, Boxed<Code>, Span),
+    UpdateAttribute(Boxed<Code>, NameId, AssignOp, Boxed<Code>, Span),
+    /// An assignment by the call of a method.
+    Store(Boxed<Code>, NameId, Items<Code>, Span),
+    /// A call with one argument and without a block.
+    Operate(Option<Builtin>, NameId, Boxed<Code>, Boxed<Code>, Span),
+    /// A call with a receiver, without a block.
+    Send(Option<Builtin>, NameId, Boxed<Code>, Items<Code>, Span),
+    /// A call with a receiver and a block.
+    Walk(Option<Builtin>, NameId, Boxed<Code>, Items<Code>, Boxed<CodeBlock>, Span),
+    /// A call of a top-level method, by its number.
+    Function(u32, NameId, Items<Code>, Span),
+    /// A call of `puts`, `print` or `p`.
+    Print(Form, NameId, Items<Code>, Span),
+    And(Boxed<Code>, Boxed<Code>, Span),
+    Or(Boxed<Code>, Boxed<Code>, Span),
+    Not(Boxed<Code>, Span),
+    If(Boxed<Code>, Items<Code>, Items<Code>, Span),
+    While(Boxed<Code>, Items<Code>, Span),
+    Return(Option<Boxed<Code>>, Span),
+    Break(Span),
+    Next(Span),
+}
