@@ -24,18 +24,31 @@ use Rattle.rb_machine.proofs.Uniform.{longer, either, begin_uniform, give_unifor
 use Rattle.rb_machine.proofs.Once.{Begins, front, has_one_run}
 
 -- what comes next, with more steps left
-abbrev next_longer : ℕ → Next → Next
+abbrev pub next_longer : ℕ → Next → Next
 next_longer j (Go s) = Go (longer j s)
 next_longer j want = want
 
 -- the state at which the steps are used up
-abbrev spent : State
+abbrev pub spent : State
 spent = ended Steps zero
 
+-- a node or an iteration is to begin, and no step is left
+abbrev pub Lacks : State → Type 0
+Lacks (On (Eval n) k sc d left) = left ≡ 0
+Lacks (On (Turning (Counting next last answer) block) k sc d left) = (left ≡ 0) × (int_lt next last ≡ true)
+Lacks s = ⊥
+
+module _ (S : Script) where
+  lacks_spent : (s : State) → Lacks s → move S s ≡ Go spent
+  lacks_spent (On (Eval n) k sc d left) h = ap (λ l. Go (start_node S n k sc d l)) h
+  lacks_spent (On (Turning (Counting next last answer) block) k sc d left) h =
+      ap (λ l. Go (turn S (Counting next last answer) block k sc d l)) h.0 ∙ ap (λ b. Go (cond b spent (On (Give answer) k sc d 0))) h.1
+  lacks_spent other h = absurd h
+
 module _ (S : Script) (j : ℕ) where
-  -- a state goes on as it does with more steps, or its steps are used up
-  abbrev Keeps : State → Next → Type 0
-  Keeps s next = (move S (longer j s) ≡ next_longer j next) ⊎ (next ≡ Go spent)
+  -- a state goes on as it does with more steps, or it lacks one
+  abbrev pub Keeps : State → Next → Type 0
+  Keeps s next = (move S (longer j s) ≡ next_longer j next) ⊎ Lacks s
 
   one_step : (left : ℕ) → suc left + j ≡ suc (left + j)
   one_step left = omega arith
@@ -54,21 +67,20 @@ module _ (S : Script) (j : ℕ) where
 
   -- another iteration, where one begins
   another : (b : Bool) (turns : Turns) (block : Block) (answer : State) (k : List Cont) (sc : Scope) (d left : ℕ)
-      → (cond b (start_turn S turns block k sc d (left + j)) (longer j answer) ≡ longer j (cond b (start_turn S turns block k sc d left) answer))
-      ⊎ (cond b (start_turn S turns block k sc d left) answer ≡ spent)
+      → (cond b (start_turn S turns block k sc d (left + j)) (longer j answer) ≡ longer j (cond b (start_turn S turns block k sc d left) answer)) ⊎ ((left ≡ 0) × (b ≡ true))
   another false turns block answer k sc d left = inl refl
-  another true turns block answer k sc d zero = inr refl
+  another true turns block answer k sc d zero = inr (refl, refl)
   another true turns block answer k sc d (suc left) = inl (turn_started turns block k sc d left)
 
-  lifted : {s t u : State} → (s ≡ longer j t) ⊎ (t ≡ u) → (Go s ≡ next_longer j (Go t)) ⊎ (Go t ≡ Go u)
-  lifted (inl e) = inl (ap Go e)
-  lifted (inr e) = inr (ap Go e)
+  lifted : {X : Type 0} (s t : State) → (s ≡ longer j t) ⊎ X → (Go s ≡ next_longer j (Go t)) ⊎ X
+  lifted s t (inl e) = inl (ap Go e)
+  lifted s t (inr x) = inr x
 
   turn_keeps : (turns : Turns) (block : Block) (k : List Cont) (sc : Scope) (d left : ℕ) → Keeps (On (Turning turns block) k sc d left) (Go (turn S turns block k sc d left))
   turn_keeps (Counting next last answer) block k sc d left =
-      lifted (another (int_lt next last) (Counting next last answer) block (On (Give answer) k sc d left) k sc d left)
+      lifted _ _ (another (int_lt next last) (Counting next last answer) block (On (Give answer) k sc d left) k sc d left)
 
-  keeps : (s : State) → Keeps s (move S s)
+  pub keeps : (s : State) → Keeps s (move S s)
   keeps (On (Eval n) k sc d left) = node_keeps n k sc d left
   keeps (On (Give v) [] sc d left) = inl refl
   keeps (On (Give v) (c ∷ k) sc d left) = inl (ap Go (give_uniform S v c k sc d j left))
@@ -104,27 +116,27 @@ module _ (S : Script) (N j : ℕ) where
 
   goes_longer : (b : List ℕ) (h : Private) (s s' : State) → move S s ≡ Go s' → Keeps S j s (Go s') → Longer b h s → Longer b h s'
   goes_longer b h s s' e (inl keep) (inl run) = inl (goes b h (longer j s) (longer j s') run keep)
-  goes_longer b h s s' e (inr out) (inl run) = inr (go_is S j s' spent out, longer j s, run)
+  goes_longer b h s s' e (inr lacks) (inl run) = inr (go_is S j s' spent (sym e ∙ lacks_spent S s lacks), longer j s, run)
   goes_longer b h s s' e keep (inr out) = let wrong : Stop Steps ≡ Go s' = ap (move S) (sym out.0) ∙ e in absurd (cc)
 
   makes_longer : (b : List ℕ) (h : Private) (s : State) (thing : Thing) → move S s ≡ Make thing → Keeps S j s (Make thing) → Longer b h s
       → Longer b (entered h thing) (replied s (reply.Value (To (next_thing h thing))))
   makes_longer b h s thing e (inl keep) (inl run) =
       inl (subst (λ t. Runs S (N + j) b (entered h thing) t) (replied_longer j s _) (makes b h (longer j s) thing run keep))
-  makes_longer b h s thing e (inr out) run = absurd (cc)
+  makes_longer b h s thing e (inr lacks) run = let wrong : Make thing ≡ Go spent = sym e ∙ lacks_spent S s lacks in absurd (cc)
   makes_longer b h s thing e keep (inr out) = let wrong : Stop Steps ≡ Make thing = ap (move S) (sym out.0) ∙ e in absurd (cc)
 
   acts_longer : (b : List ℕ) (h : Private) (s : State) (r : Reference) (act : Act) (thing : Thing) → move S s ≡ Ask r act → held h r.id ≡ Some thing → Keeps S j s (Ask r act) → Longer b h s
       → Longer b (changed h r.id (becomes thing act)) (replied s (gives thing act))
   acts_longer b h s r act thing e f (inl keep) (inl run) =
       inl (subst (λ t. Runs S (N + j) b (changed h r.id (becomes thing act)) t) (replied_longer j s (gives thing act)) (acts b h (longer j s) r act thing run keep f))
-  acts_longer b h s r act thing e f (inr out) run = absurd (cc)
+  acts_longer b h s r act thing e f (inr lacks) run = let wrong : Ask r act ≡ Go spent = sym e ∙ lacks_spent S s lacks in absurd (cc)
   acts_longer b h s r act thing e f keep (inr out) = let wrong : Stop Steps ≡ Ask r act = ap (move S) (sym out.0) ∙ e in absurd (cc)
 
   shows_longer : (b : List ℕ) (h : Private) (s : State) (bytes : List ℕ) → move S s ≡ Show bytes → Keeps S j s (Show bytes) → Longer b h s → Longer (b ++ bytes) h (replied s Done)
   shows_longer b h s bytes e (inl keep) (inl run) =
       inl (subst (λ t. Runs S (N + j) (b ++ bytes) h t) (replied_longer j s Done) (shows b h (longer j s) bytes run keep))
-  shows_longer b h s bytes e (inr out) run = absurd (cc)
+  shows_longer b h s bytes e (inr lacks) run = let wrong : Show bytes ≡ Go spent = sym e ∙ lacks_spent S s lacks in absurd (cc)
   shows_longer b h s bytes e keep (inr out) = let wrong : Stop Steps ≡ Show bytes = ap (move S) (sym out.0) ∙ e in absurd (cc)
 
   runs_longer : {b : List ℕ} {h : Private} {s : State} → Runs S N b h s → Longer b h s
@@ -140,7 +152,7 @@ module _ (S : Script) (N j : ℕ) where
   ends_longer : (b : List ℕ) (h : Private) (s : State) (e : End) (n : ℕ) → (e ≡ Steps → ⊥) → move S s ≡ Stop e → N - left_in s ≡ n → Keeps S j s (Stop e) → Longer b h s → Alone S (N + j) b e n
   ends_longer b h s e n not_spent stops counted (inl keep) (inl run) =
       record { store = h; last = longer j s; run = run; ends = keep; counted = counted_longer s ∙ counted }
-  ends_longer b h s e n not_spent stops counted (inr out) run = absurd (cc)
+  ends_longer b h s e n not_spent stops counted (inr lacks) run = let wrong : Stop e ≡ Go spent = sym stops ∙ lacks_spent S s lacks in absurd (cc)
   ends_longer b h s e n not_spent stops counted keep (inr out) =
       let wrong : Stop Steps ≡ Stop e = ap (move S) (sym out.0) ∙ stops in absurd (not_spent (stop_is e Steps (sym wrong)))
     where

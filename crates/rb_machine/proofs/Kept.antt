@@ -51,7 +51,7 @@ names_in-assign name v [] = refl
 names_in-assign name v (b ∷ bs) =
     names_in-cond (is_some (found name bs)) (b.0.0 == name.0) (b ∷ assign name v bs) ((b.0, v) ∷ bs) (b ∷ bs) (names_in (b ∷ bs)) (ap (λ l. b.0 ∷ l) (names_in-assign name v bs)) refl refl
 
-names_in-take : (outer own : List NameId) (locals : Locals) (kept : ℕ) → names_in locals ≡ outer ++ own → kept ≡ length outer → names_in (take kept locals) ≡ outer
+pub names_in-take : (outer own : List NameId) (locals : Locals) (kept : ℕ) → names_in locals ≡ outer ++ own → kept ≡ length outer → names_in (take kept locals) ≡ outer
 names_in-take outer own locals kept e h = sym (take-map (λ (b : NameId × Value). b.0) kept locals) ∙ (ap (take kept) e ∙ (ap (λ n. take n (outer ++ own)) h ∙ take-append_seam outer own))
 
 -- ---- states

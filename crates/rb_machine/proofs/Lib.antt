@@ -5,6 +5,7 @@ pub mod Exits
 pub mod Once
 pub mod Finishing
 pub mod Uniform
+pub mod Enough
 pub mod Scoping
 pub mod Kept
 pub mod Locals

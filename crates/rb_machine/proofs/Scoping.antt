@@ -1,7 +1,7 @@
 -- Each state of a run has the names of the text in scope, and a run that ends for want of steps has used them all.
 use Rattle.std.specs.Prelude.{nat_lt}
 use Rattle.std.proofs.Common.{◌≡◌, ℕ, ◌-◌, Bool, true, false, cond, List, [], ◌∷◌, ◌++◌, length, take, drop, Option, Some, None, refl, sym, ap, ◌∙◌, subst, arith}
-use Rattle.std.proofs.lemmas.List.{drop-map, take-append-drop}
+use Rattle.std.proofs.lemmas.List.{drop-map, length-map, take-append-drop}
 use Rattle.std.proofs.Math.Seq.{drop-append_seam}
 use Rattle.rb_tree.specs.declared.span.Span.{Span}
 use Rattle.rb_tree.specs.declared.span.NameId.{NameId}
@@ -17,7 +17,7 @@ use Rattle.rb_machine.specs.Control.{State, On, Cont, Eval, Give, Leave, Followi
 use Rattle.rb_machine.specs.Move.{Next, Go, Stop, move, replied, answered, left_in}
 use Rattle.rb_machine.specs.Alone.{Runs, begins, goes, makes, acts, shows}
 use Rattle.rb_machine.specs.Laws.{KeepsScopes, ScopesFollowTheText, IterationsLeaveTheRest, StepsAreUsedUp, AreInScope, names_in}
-use Rattle.rb_machine.proofs.Kept.{Sound, names_in-fresh, raised_sound, perform_sound, piece_sound, give_sound, leave_sound, node_sound, turn_sound}
+use Rattle.rb_machine.proofs.Kept.{Sound, names_in-fresh, names_in-take, raised_sound, perform_sound, piece_sound, give_sound, leave_sound, node_sound, turn_sound}
 
 -- no act ends a thread
 abbrev IsNoEnd : Reply → Type 0
@@ -149,4 +149,12 @@ names_in-drop outer own locals kept e h =
 pub iterations_leave_the_rest : IterationsLeaveTheRest
 iterations_leave_the_rest S N b h v turns block kept k sc d left run =
     let inside = runs_sound S run in
-    (take kept sc.locals, drop kept sc.locals, sym (take-append-drop kept sc.locals), names_in-drop inside.0 (S.block_names block.at) sc.locals kept inside.1 inside.2, refl)
+    let outside = names_in-take inside.0 (S.block_names block.at) sc.locals kept inside.1 inside.2 in
+    (
+      take kept sc.locals,
+      drop kept sc.locals,
+      sym (take-append-drop kept sc.locals),
+      sym (length-map (take kept sc.locals) (λ (b : NameId × Value). b.0)) ∙ (ap length outside ∙ sym inside.2),
+      names_in-drop inside.0 (S.block_names block.at) sc.locals kept inside.1 inside.2,
+      refl,
+    )

@@ -8,11 +8,11 @@ use Rattle.rb_tree.specs.declared.node.Node.TheOpen as node
 use Rattle.rb_tree.specs.declared.node.Block.{Block}
 use Rattle.rb_tree.specs.declared.node.Method.{Method}
 use Rattle.rb_tree.specs.declared.node.AssignOp.TheVariants.{OrElse, AndThen}
-use Rattle.rb_model.specs.declared.fault.Fault.TheVariants.{ZeroDivision}
+use Rattle.rb_model.specs.declared.fault.Fault.TheVariants.{TooDeep, ZeroDivision}
 use Rattle.rb_model.specs.Values.{Value, Nil, Int, Reference, truthy}
 use Rattle.rb_model.specs.Acts.{Act, Reply}
 use Rattle.rb_model.specs.Private.{Private, held}
-use Rattle.rb_model.specs.Ends.{End, Steps}
+use Rattle.rb_model.specs.Ends.{End, Steps, Raised}
 use Rattle.rb_machine.specs.Scopes.{Script, Scope, Text, text_of, Locals, with_locals, found, look, assign, fresh}
 use Rattle.rb_machine.specs.Control.{State, On, Eval, Give, Leave, Following, Looping, Turning, Passing, Break, Next, Return, Turns, Counting, Cont, Then, Under, Test, Again, Turn, Frame, Aim, OnReceiver, Place, Argument, ReceiverOf, RightOfAnd, RightOfOr, ReadOf, WriteTo, Ended}
 use Rattle.rb_machine.specs.Methods.{deed, integer, Raises, quotient, modulo}
@@ -57,6 +57,10 @@ FewerStepsEndEarly = (S : Script) (N M : ℕ) (b b' : List ℕ) (e e' : End) (n 
 -- a script that ends for want of steps has begun all that it may
 abbrev pub StepsAreUsedUp : Type 0
 StepsAreUsedUp = (S : Script) (N : ℕ) (b : List ℕ) (n : ℕ) → Alone S N b Steps n → n ≡ N
+
+-- As many steps as a script took are enough for it; but where it ended too deep, one node more was to begin, which took no step.
+abbrev pub StepsTakenAreEnough : Type 0
+StepsTakenAreEnough = (S : Script) (N : ℕ) (b : List ℕ) (e : End) (n : ℕ) → ((at : Span) → e ≡ Raised TooDeep at → ⊥) → Alone S N b e n → Alone S n b e n
 
 -- whether a node or an iteration of a block begins
 abbrev pub begins_step : State → Bool
@@ -199,11 +203,12 @@ KeepsScopes S (On c k sc d left) = AreInScope S k (names_in sc.locals)
 abbrev pub ScopesFollowTheText : Type 0
 ScopesFollowTheText = (S : Script) (N : ℕ) (b : List ℕ) (h : Private) (s : State) → Runs S N b h s → KeepsScopes S s
 
--- At the end of an iteration the locals are those from round the block, and then its own; these go, and the others stay.
+-- At the end of an iteration the locals are as many as there were round the block, and then its own; these go, and the others stay with
+-- the values that they have.
 abbrev pub IterationsLeaveTheRest : Type 0
 IterationsLeaveTheRest = (S : Script) (N : ℕ) (b : List ℕ) (h : Private) (v : Value) (turns : Turns) (block : Block) (kept : ℕ) (k : List Cont) (sc : Scope) (d left : ℕ)
     → Runs S N b h (On (Give v) (Turn turns block kept ∷ k) sc d left)
-    → (outer : Locals) × (own : Locals) × (sc.locals ≡ outer ++ own) × (names_in own ≡ S.block_names block.at)
+    → (outer : Locals) × (own : Locals) × (sc.locals ≡ outer ++ own) × (length outer ≡ kept) × (names_in own ≡ S.block_names block.at)
     × (move S (On (Give v) (Turn turns block kept ∷ k) sc d left) ≡ Go (On (Turning turns block) k (with_locals sc outer) d left))
 
 -- the receiver of a call is evaluated before its arguments
@@ -225,7 +230,8 @@ abbrev pub ArgumentsComeInTurn : Type 0
 ArgumentsComeInTurn = (S : Script) (aim : Aim) (done vs : List Value) (ns : List Node) (at : Span) (k : List Cont) (sc sc' : Scope) (d left left' : ℕ)
     → Evaluates S d ns vs sc left sc' left' → Quiet S (On (Passing aim done ns at) k sc d left) (perform S aim (done ++ vs) at k sc' d left')
 
--- an argument that is left waits while another is evaluated, whatever that does: its value goes behind those before it
+-- the first argument that is left is evaluated while the others wait, and its value goes behind those before it, whatever was done
+-- meanwhile
 abbrev pub ArgumentsComeOnce : Type 0
 ArgumentsComeOnce = (S : Script) (aim : Aim) (done : List Value) (v : Value) (n : Node) (ns : List Node) (at : Span) (k : List Cont) (sc : Scope) (d left : ℕ)
     → (move S (On (Passing aim done (n ∷ ns) at) k sc d left) ≡ Go (On (Eval n) (Then (Argument aim done ns at) ∷ k) sc d left))

@@ -40,11 +40,13 @@ pub fn return_ends()
     ensures { law.ReturnEndsMethods }
 {}
 
-/// A greater budget changes nothing that was done with a smaller one: an end that is not for want of steps stays with its bytes and
-/// its count, and what was shown is shown first. With fewer steps than the count it ends for want of them, when all are used.
+/// A greater budget changes nothing that was done with a smaller one: an end that is not for want of steps stays, with its bytes and
+/// its count, and what was shown is shown first. As many steps as were begun are enough; with fewer a script ends for want of them, and
+/// then it has begun all that it may.
 pub fn budgets()
     ensures kept { law.MoreStepsChangeNothing }
     ensures front { law.MoreStepsShowMore }
+    ensures enough { law.StepsTakenAreEnough }
     ensures early { law.FewerStepsEndEarly }
     ensures used { law.StepsAreUsedUp }
 {}
