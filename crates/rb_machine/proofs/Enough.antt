@@ -1,19 +1,18 @@
 -- As many steps as a run took are enough for it.
-use Rattle.std.proofs.Common.{◌≡◌, ◌<◌, ◌≤◌, ◌⊎◌, inl, inr, ℕ, zero, suc, ◌+◌, ◌-◌, Bool, true, false, cond, List, [], ◌∷◌, ◌++◌, Option, Some, None, refl, sym, ap, ◌∙◌, subst, arith}
+use Rattle.std.proofs.Common.{◌≡◌, ◌≤◌, ◌⊎◌, inl, inr, ℕ, zero, suc, ◌+◌, ◌-◌, Bool, true, false, cond, List, ◌∷◌, ◌++◌, Some, refl, sym, ap, ◌∙◌, subst, arith}
 use Rattle.std.specs.Prelude.{nat_lt, int_lt}
 use Rattle.rb_tree.specs.declared.span.Span.{Span}
-use Rattle.rb_tree.specs.declared.node.Node.{Node, out-Node}
-use Rattle.rb_tree.specs.declared.node.Block.{Block}
+use Rattle.rb_tree.specs.declared.node.Node.{out-Node}
 use Rattle.rb_tree.specs.Place.{place}
 use Rattle.rb_model.specs.declared.fault.Fault.TheVariants.{TooDeep}
 use Rattle.rb_model.specs.Values.{To, Reference}
 use Rattle.rb_model.specs.Acts.{Act, Reply, Done}
 use Rattle.rb_model.specs.Acts as reply
-use Rattle.rb_model.specs.Ends.{End, Steps, Raised}
+use Rattle.rb_model.specs.Ends.{End, Raised}
 use Rattle.rb_model.specs.Things.{Thing, gives, becomes}
 use Rattle.rb_model.specs.Private.{Private, held, entered, changed}
-use Rattle.rb_machine.specs.Scopes.{Script, Scope}
-use Rattle.rb_machine.specs.Control.{State, On, Cont, Under, Turns, Counting, Eval, Give, Turning}
+use Rattle.rb_machine.specs.Scopes.{Script}
+use Rattle.rb_machine.specs.Control.{State, On, Under, Counting, Eval, Give, Turning}
 use Rattle.rb_machine.specs.Call.{raised}
 use Rattle.rb_machine.specs.Begin.{begin}
 use Rattle.rb_machine.specs.Follows.{next_thing}
@@ -69,10 +68,10 @@ module _ (S : Script) (j : ℕ) where
   lacks_ends : (s t : State) → Lacks s → move S (longer (suc j) s) ≡ Go t → suc j ≤ left_in t → IsTooDeep S t
   lacks_ends (On (Eval n) k sc d left) t h e small =
       too_deep_or (nat_lt d max_depth) (place (out-Node n)) (begin S (out-Node n) (Under d ∷ k) sc (d + 1) j) t
-        (go_is _ t (ap (λ l. Go (start_node S n k sc d l)) (sym (at_more left h)) ∙ e)) (begin_left S (out-Node n) (Under d ∷ k) sc (d + 1) j) small
+      (go_is _ t (ap (λ l. Go (start_node S n k sc d l)) (sym (at_more left h)) ∙ e)) (begin_left S (out-Node n) (Under d ∷ k) sc (d + 1) j) small
   lacks_ends (On (Turning (Counting next last answer) block) k sc d left) t h e small =
       absurd (took_one (int_lt next last) (start_turn S (Counting next last answer) block k sc d (suc j)) (On (Give answer) k sc d (suc j)) t h.1
-        (go_is _ t (ap (λ l. Go (turn S (Counting next last answer) block k sc d l)) (sym (at_more left h.0)) ∙ e)) refl small)
+      (go_is _ t (ap (λ l. Go (turn S (Counting next last answer) block k sc d l)) (sym (at_more left h.0)) ∙ e)) refl small)
   lacks_ends other t h e small = absurd h
 
   lacks_goes : (s : State) (want : Next) → Lacks s → move S (longer (suc j) s) ≡ want → IsWanted want → ⊥

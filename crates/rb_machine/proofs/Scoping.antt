@@ -149,8 +149,7 @@ names_in-drop outer own locals kept e h =
 pub iterations_leave_the_rest : IterationsLeaveTheRest
 iterations_leave_the_rest S N b h v turns block kept k sc d left run =
     let inside = runs_sound S run in
-    let outside = names_in-take inside.0 (S.block_names block.at) sc.locals kept inside.1 inside.2 in
-    (
+    let outside = names_in-take inside.0 (S.block_names block.at) sc.locals kept inside.1 inside.2 in (
       take kept sc.locals,
       drop kept sc.locals,
       sym (take-append-drop kept sc.locals),
