@@ -5,6 +5,8 @@ pub mod Exits
 pub mod Once
 pub mod Finishing
 pub mod Uniform
+pub mod Ways
+pub mod Context
 pub mod Enough
 pub mod Scoping
 pub mod Kept

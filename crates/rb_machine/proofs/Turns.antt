@@ -12,12 +12,8 @@ use Rattle.rb_machine.specs.Control.{State, On, Cont, Then, Under, Aim, Argument
 use Rattle.rb_machine.specs.Call.{raised, perform}
 use Rattle.rb_machine.specs.Begin.{begin}
 use Rattle.rb_machine.specs.Move.{Go}
-use Rattle.rb_machine.specs.Laws.{Quiet, stays, moves, Evaluates, nothing, first, ReceiversComeFirst, ArgumentsComeInTurn, ArgumentsComeOnce, OrGoesOnWhereFalse, AndGoesOnWhereTrue}
-
--- one quiet way behind another
-pub through : {S : Script} {s t u : State} → Quiet S s t → Quiet S t u → Quiet S s u
-through (stays s) q = q
-through (moves s r t e p) q = moves s r _ e (through p q)
+use Rattle.rb_machine.specs.Laws.{Way, arrives, goes, Evaluates, nothing, first, ReceiversComeFirst, ArgumentsComeInTurn, ArgumentsComeOnce, OrGoesOnWhereFalse, AndGoesOnWhereTrue}
+use Rattle.rb_machine.proofs.Ways.{through, context_changes_nothing}
 
 pub receivers_come_first : ReceiversComeFirst
 receivers_come_first S n receiver name args block at k sc d left v e h = (
@@ -30,13 +26,13 @@ pub arguments_come_once : ArgumentsComeOnce
 arguments_come_once S aim done v n ns at k sc d left = (refl, refl)
 
 in_turn : {S : Script} {d : ℕ} {ns : List Node} {vs : List Value} {sc sc' : Scope} {left left' : ℕ} → Evaluates S d ns vs sc left sc' left'
-    → (aim : Aim) (done : List Value) (at : Span) (k : List Cont) → Quiet S (On (Passing aim done ns at) k sc d left) (perform S aim (done ++ vs) at k sc' d left')
+    → (aim : Aim) (done : List Value) (at : Span) (k : List Cont) → Way S (On (Passing aim done ns at) k sc d left) (perform S aim (done ++ vs) at k sc' d left')
 in_turn {S} {d} (nothing sc left) aim done at k =
-    moves _ _ _ refl (subst (λ vs. Quiet S (perform S aim done at k sc d left) (perform S aim vs at k sc d left)) (sym (append-nil done)) (stays _))
+    goes _ _ _ refl (subst (λ vs. Way S (perform S aim done at k sc d left) (perform S aim vs at k sc d left)) (sym (append-nil done)) (arrives _))
 in_turn {S} {d} (first n ns v vs sc sc' sc'' left left' left'' one rest) aim done at k =
-    moves _ _ _ refl (through (one (Then (Argument aim done ns at) ∷ k))
-    (moves _ _ _ refl (subst (λ all. Quiet S (On (Passing aim (done ++ v ∷ []) ns at) k sc' d left') (perform S aim all at k sc'' d left'')) (append_assoc done (v ∷ []) vs)
-    (in_turn rest aim (done ++ v ∷ []) at k))))
+    let argument = Then (Argument aim done ns at) ∷ k in
+    let arrived = subst (λ all. Way S (On (Passing aim (done ++ v ∷ []) ns at) k sc' d left') (perform S aim all at k sc'' d left'')) (append_assoc done (v ∷ []) vs) (in_turn rest aim (done ++ v ∷ []) at k) in
+    goes _ _ _ refl (through (context_changes_nothing S (Eval n) (Give v) [] [] argument sc sc' d d left left' tt one) (goes _ _ _ refl arrived))
 
 pub arguments_come_in_turn : ArgumentsComeInTurn
 arguments_come_in_turn S aim done vs ns at k sc sc' d left left' e = in_turn e aim done at k

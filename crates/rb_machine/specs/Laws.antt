@@ -14,11 +14,11 @@ use Rattle.rb_model.specs.Acts.{Act, Reply}
 use Rattle.rb_model.specs.Private.{Private, held}
 use Rattle.rb_model.specs.Ends.{End, Steps, Raised}
 use Rattle.rb_machine.specs.Scopes.{Script, Scope, Text, text_of, Locals, with_locals, found, look, assign, fresh}
-use Rattle.rb_machine.specs.Control.{State, On, Eval, Give, Leave, Following, Looping, Turning, Passing, Break, Next, Return, Turns, Counting, Cont, Then, Under, Test, Again, Turn, Frame, Aim, OnReceiver, Place, Argument, ReceiverOf, RightOfAnd, RightOfOr, ReadOf, WriteTo, Ended}
+use Rattle.rb_machine.specs.Control.{Control, State, On, Eval, Give, Leave, Following, Looping, Turning, Passing, Break, Next, Return, Turns, Counting, Cont, Then, Under, Test, Again, Turn, Frame, Aim, OnReceiver, Place, Argument, ReceiverOf, RightOfAnd, RightOfOr, ReadOf, WriteTo, Ended}
 use Rattle.rb_machine.specs.Methods.{deed, integer, Raises, quotient, modulo}
 use Rattle.rb_machine.specs.Call.{perform}
 use Rattle.rb_machine.specs.Give.{back}
-use Rattle.rb_machine.specs.Move.{Go, Ask, move, replied, left_in, IsWant, max_depth}
+use Rattle.rb_machine.specs.Move.{Next as Coming, Go, Ask, Stop, move, replied, left_in, IsWant, max_depth}
 use Rattle.rb_machine.specs.Alone.{Runs, Alone}
 
 -- from a state to another by silent moves
@@ -218,17 +218,38 @@ ReceiversComeFirst = (S : Script) (n receiver : Node) (name : NameId) (args : Li
     → (move S (On (Eval n) k sc d (suc left)) ≡ Go (On (Eval receiver) (Then (ReceiverOf (text_of S name) args block at) ∷ Under d ∷ k) sc (d + 1) left))
     × (move S (On (Give v) (Then (ReceiverOf (text_of S name) args block at) ∷ k) sc d left) ≡ Go (On (Passing (OnReceiver v (text_of S name) block) [] args at) k sc d left))
 
--- nodes that give these values silently, one after the other from the left, from a scope and so many steps left to others
+-- what is asked and answered: a want that is no end
+abbrev pub IsAsked : Coming → Type 0
+IsAsked (Go s) = ⊥
+IsAsked (Stop how) = ⊥
+IsAsked want = Unit {0}
+
+-- from a state to another by moves and by replies, whatever these say
+pub data Way (S : Script) : State → State → Type 0 where
+  arrives : (s : State) → Way S s s
+  goes : (s t u : State) → move S s ≡ Go t → Way S t u → Way S s u
+  gets : (s u : State) (r : Reply) → IsAsked (move S s) → Way S (replied s r) u → Way S s u
+
+abbrev pub IsAlive : Control → Type 0
+IsAlive (Ended how) = ⊥
+IsAlive c = Unit {0}
+
+-- What the machine does is the same whatever waits behind it: so what a part of a script means is that part's alone.
+abbrev pub ContextChangesNothing : Type 0
+ContextChangesNothing = (S : Script) (c c' : Control) (inner inner' k : List Cont) (sc sc' : Scope) (d d' left left' : ℕ) → IsAlive c'
+    → Way S (On c inner sc d left) (On c' inner' sc' d' left') → Way S (On c (inner ++ k) sc d left) (On c' (inner' ++ k) sc' d' left')
+
+-- nodes that give these values, one after the other from the left, from a scope and so many steps left to others
 pub data Evaluates (S : Script) (d : ℕ) : List Node → List Value → Scope → ℕ → Scope → ℕ → Type 0 where
   nothing : (sc : Scope) (left : ℕ) → Evaluates S d [] [] sc left sc left
   first : (n : Node) (ns : List Node) (v : Value) (vs : List Value) (sc sc' sc'' : Scope) (left left' left'' : ℕ)
-      → ((k : List Cont) → Quiet S (On (Eval n) k sc d left) (On (Give v) k sc' d left')) → Evaluates S d ns vs sc' left' sc'' left''
+      → Way S (On (Eval n) [] sc d left) (On (Give v) [] sc' d left') → Evaluates S d ns vs sc' left' sc'' left''
       → Evaluates S d (n ∷ ns) (v ∷ vs) sc left sc'' left''
 
--- the arguments are evaluated one after the other from the left, and then the call is made with their values
+-- the arguments are evaluated one after the other from the left, whatever they do, and then the call is made with their values
 abbrev pub ArgumentsComeInTurn : Type 0
 ArgumentsComeInTurn = (S : Script) (aim : Aim) (done vs : List Value) (ns : List Node) (at : Span) (k : List Cont) (sc sc' : Scope) (d left left' : ℕ)
-    → Evaluates S d ns vs sc left sc' left' → Quiet S (On (Passing aim done ns at) k sc d left) (perform S aim (done ++ vs) at k sc' d left')
+    → Evaluates S d ns vs sc left sc' left' → Way S (On (Passing aim done ns at) k sc d left) (perform S aim (done ++ vs) at k sc' d left')
 
 -- the first argument that is left is evaluated while the others wait, and its value goes behind those before it, whatever was done
 -- meanwhile

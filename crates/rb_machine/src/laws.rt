@@ -81,6 +81,11 @@ pub fn assignments()
     ensures outside { law.AssignsOutside }
 {}
 
+/// What a part of a script does is its own: the machine does the same whatever waits behind that part, until it gives a value or is left.
+pub fn any_context()
+    ensures { law.ContextChangesNothing }
+{}
+
 /// The receiver comes first, then the arguments, each once and from the left, and then the call.
 pub fn calls_in_turn()
     ensures receiver { law.ReceiversComeFirst }
