@@ -1,5 +1,5 @@
 -- What the machine does is the same whatever waits behind what it is at.
-use Rattle.std.proofs.Common.{◌≡◌, ℕ, ◌+◌, Bool, true, false, cond, List, [], ◌∷◌, ◌++◌, Option, Some, None, length, refl}
+use Rattle.std.proofs.Common.{◌≡◌, ℕ, Bool, true, false, cond, List, [], ◌∷◌, ◌++◌, Option, Some, None, length, refl}
 use Rattle.std.specs.Prelude.{nat_lt, nat_eq, codes}
 use Rattle.std.specs.Str.{bytes_eq}
 use Rattle.rb_tree.specs.declared.span.Span.{Span}

@@ -8,7 +8,7 @@ use Rattle.rb_tree.specs.Place.{place}
 use Rattle.rb_model.specs.declared.fault.Fault.TheVariants.{TooDeep}
 use Rattle.rb_model.specs.Values.{Value}
 use Rattle.rb_machine.specs.Scopes.{Script, Scope}
-use Rattle.rb_machine.specs.Control.{State, On, Cont, Then, Under, Aim, Argument, Eval, Give, Passing, WriteTo}
+use Rattle.rb_machine.specs.Control.{On, Cont, Then, Under, Aim, Argument, Eval, Give, Passing, WriteTo}
 use Rattle.rb_machine.specs.Call.{raised, perform}
 use Rattle.rb_machine.specs.Begin.{begin}
 use Rattle.rb_machine.specs.Move.{Go}

@@ -1,19 +1,14 @@
 -- The same way behind anything that waits.
-use Rattle.std.proofs.Common.{◌≡◌, ◌⊎◌, inl, inr, ℕ, Bool, true, false, cond, List, [], ◌∷◌, ◌++◌, Option, Some, None, refl, sym, ap, ◌∙◌, subst, length}
+use Rattle.std.proofs.Common.{◌≡◌, ◌⊎◌, inl, inr, ℕ, List, [], ◌∷◌, ◌++◌, refl, sym, ap, subst}
 use Rattle.std.specs.Prelude.{nat_lt, int_lt, zero, suc, ◌+◌}
 use Rattle.rb_tree.specs.declared.node.Node.{Node, out-Node}
 use Rattle.rb_tree.specs.declared.node.Block.{Block}
-use Rattle.rb_tree.specs.declared.node.Piece.{Piece, out-Piece}
-use Rattle.rb_tree.specs.Place.{place}
-use Rattle.rb_model.specs.declared.fault.Fault.TheVariants.{TooDeep}
-use Rattle.rb_model.specs.Values.{Value, Nil}
-use Rattle.rb_model.specs.Acts.{Reply}
+use Rattle.rb_tree.specs.declared.node.Piece.{out-Piece}
+use Rattle.rb_model.specs.Values.{Nil}
 use Rattle.rb_model.specs.Ends as ending
 use Rattle.rb_machine.specs.Scopes.{Script, Scope}
 use Rattle.rb_machine.specs.Control.{Control, State, On, Cont, Under, Turns, Counting, Eval, Give, Leave, Following, Looping, Turning, Passing, Joining, Making, Calling, Showing, Ended}
-use Rattle.rb_machine.specs.Call.{raised}
-use Rattle.rb_machine.specs.Begin.{begin}
-use Rattle.rb_machine.specs.Move.{Next, Go, Make, Ask, Show, Stop, move, replied, turn, start_node, start_turn, max_depth}
+use Rattle.rb_machine.specs.Move.{Next, Go, Make, Ask, Show, Stop, move, turn, start_node, start_turn, max_depth}
 use Rattle.rb_machine.specs.Laws.{Way, arrives, goes, gets, IsAsked, IsAlive, ContextChangesNothing}
 use Rattle.rb_machine.proofs.Context.{onto, either, begin_local, give_local, leave_local, perform_local, piece_local, replied_local}
 
