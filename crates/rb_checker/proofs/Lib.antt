@@ -6,3 +6,6 @@ pub mod Firsts
 pub mod Added
 pub mod Placing
 pub mod Repeating
+pub mod Knowing
+pub mod UsesMore
+pub mod ParamsMore

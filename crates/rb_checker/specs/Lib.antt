@@ -13,3 +13,4 @@ pub mod Settled
 pub mod Texts
 pub mod Misplaced
 pub mod Check
+pub mod Walked

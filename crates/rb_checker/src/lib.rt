@@ -7,10 +7,13 @@ mod event;
 mod fault;
 mod first;
 mod gather;
+mod locals;
 mod misplaced;
+mod params;
 mod repeated;
 mod rules;
 mod sets;
+mod walking;
 #[cfg(test)]
 mod tests;
 
