@@ -8,4 +8,5 @@ pub mod Placing
 pub mod Repeating
 pub mod Knowing
 pub mod UsesMore
+pub mod CrowdMore
 pub mod ParamsMore

@@ -14,3 +14,4 @@ pub mod Texts
 pub mod Misplaced
 pub mod Check
 pub mod Walked
+pub mod Crowded

@@ -3,6 +3,7 @@
 #![tactic(auto)]
 
 mod bodies;
+mod crowds;
 mod event;
 mod fault;
 mod first;
