@@ -5,7 +5,7 @@ use Rattle.std.proofs.lemmas.Bool.Decides.{nat_tests}
 use Rattle.rb_checker.specs.declared.locals.Local.{Local}
 use Rattle.rb_checker.specs.Locals.{same_scope, same_local}
 
-swapped : (m n : ℕ) → (m == n) ≡ (n == m)
+pub swapped : (m n : ℕ) → (m == n) ≡ (n == m)
 swapped m n = grind (arith, nat_tests)
 
 same_scope_swapped : (a b : Option ℕ) → same_scope a b ≡ same_scope b a

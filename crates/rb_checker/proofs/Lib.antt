@@ -9,4 +9,6 @@ pub mod Repeating
 pub mod Knowing
 pub mod UsesMore
 pub mod CrowdMore
+pub mod Holding
+pub mod Reversed
 pub mod ParamsMore

@@ -15,3 +15,4 @@ pub mod Misplaced
 pub mod Check
 pub mod Walked
 pub mod Crowded
+pub mod Assigned

@@ -14,6 +14,7 @@ mod params;
 mod repeated;
 mod rules;
 mod sets;
+mod settling;
 mod walking;
 #[cfg(test)]
 mod tests;
