@@ -52,3 +52,7 @@ end_of ends v = unwrap_or (map.get_by (λ (k : Local). same_local v k) ends) 0
 abbrev pub start_behind : Option ℕ → Bool → ℕ → Option ℕ
 start_behind (Some before) here uses = Some before
 start_behind None here uses = if here then Some uses else None
+
+-- whether a use assigns a local
+abbrev pub assigns_as : Local → Use → Bool
+assigns_as v u = assigns u.usage && same_local v u.local

@@ -125,3 +125,66 @@ fn note_end(
     }
     Ok(())
 }
+
+/// Where the locals of a text are assigned, and where its threads start.
+#[derive(Drop)]
+pub(crate) struct Assignments {
+    /// How many uses of locals there are.
+    pub uses: usize,
+    /// The locals.
+    pub known: HashSet<Local>,
+    /// Behind how many uses the last assignment to a local stands.
+    pub ends: HashMap<Local, usize>,
+    /// How many uses stand before the first start of a thread at a place.
+    pub starts: HashMap<u32, usize>,
+    /// What stands round the assignments to a local.
+    pub held: HashSet<Held>,
+}
+
+impl Assignments {
+    /// Notes an assignment to a local. What stands round it is given, the innermost last.
+    fn note_assignment(
+        &mut self,
+        local: Local,
+        round: &[(Around, Span)],
+    ) -> Result<(), AllocError>
+        ensures uses { self.new.uses ≡ self.old.uses }
+        ensures known { OnOk result ((v : Named) → contains_by (λ (k : Named). same_local v k) self.new.known ≡ (same_local v local || contains_by (λ (k : Named). same_local v k) self.old.known)) }
+        ensures ends { OnOk result ((v : Named) → spec.end_of self.new.ends v ≡ (if same_local v local then self.old.uses else spec.end_of self.old.ends v)) }
+        ensures starts { self.new.starts ≡ self.old.starts }
+        ensures held { OnOk result ((v : Named) (e : Enclosing × Place) → spec.has_held self.new.held v e ≡ ((same_local v local && holds (reverse round.now) e) || spec.has_held self.old.held v e)) }
+    {
+        add_local(&mut self.known, local)?;
+        note_end(&mut self.ends, local, self.uses)?;
+        note_round(&mut self.held, local, round)
+    }
+
+    /// Notes an event, which uses this local. What stands round it is given, the innermost last.
+    fn note(
+        &mut self,
+        round: &[(Around, Span)],
+        event: &Event,
+        used: Option<Used>,
+    ) -> Result<(), AllocError>
+        requires { self.old.uses + 1 < 2 ^ 64 }
+        ensures counted { OnOk result (self.new.uses ≤ self.old.uses + 1) }
+        ensures uses { OnOk result (self.new.uses ≡ self.old.uses + length (uses_as used (reverse round.now) event.now.at)) }
+        ensures known { OnOk result ((v : Named) → contains_by (λ (k : Named). same_local v k) self.new.known
+            ≡ (list_any (λ (u : Use). spec.assigns_as v u) (uses_as used (reverse round.now) event.now.at) || contains_by (λ (k : Named). same_local v k) self.old.known)) }
+        ensures ends { OnOk result ((v : Named) → spec.end_of self.new.ends v
+            ≡ (if list_any (λ (u : Use). spec.assigns_as v u) (uses_as used (reverse round.now) event.now.at) then self.new.uses else spec.end_of self.old.ends v)) }
+        ensures starts { OnOk result ((place : ℕ) → map.get nat_eq self.new.starts place ≡ spec.start_behind (map.get nat_eq self.old.starts place) (starts_at place event.now.sight event.now.at) self.old.uses) }
+        ensures held { OnOk result ((v : Named) (e : Enclosing × Place) → spec.has_held self.new.held v e
+            ≡ (list_any (λ (u : Use). spec.assigns_as v u && holds u.round e) (uses_as used (reverse round.now) event.now.at) || spec.has_held self.old.held v e)) }
+    {
+        note_start(&mut self.starts, self.uses, event)?;
+        let Some(used) = used else {
+            return Ok(());
+        };
+        self.uses += 1;
+        if !used.usage.assigns() {
+            return Ok(());
+        }
+        self.note_assignment(used.local, round)
+    }
+}
