@@ -11,4 +11,5 @@ pub mod UsesMore
 pub mod CrowdMore
 pub mod Holding
 pub mod Reversed
+pub mod Noting
 pub mod ParamsMore

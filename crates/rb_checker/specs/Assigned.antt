@@ -15,7 +15,9 @@ use Rattle.rb_checker.specs.declared.settling.Held.{Held}
 use Rattle.rb_checker.specs.declared.settling.Enclosure.{Enclosure}
 use Rattle.rb_checker.specs.declared.settling.Enclosure.TheVariants as enclosure
 use Rattle.rb_checker.specs.Around.{Open}
-use Rattle.rb_checker.specs.Locals.{Use, assigns, same_local}
+use Rattle.rb_checker.specs.declared.settling.Assignments.{Assignments}
+use Rattle.rb_checker.specs.Locals.{Use, assigns, same_local, starts_at, uses_from, uses_behind_start}
+use Rattle.rb_checker.specs.Settled.{holds}
 
 -- the enclosures that may hold both an assignment and the start of a thread
 abbrev pub enclosure_of : Around → Option Enclosure
@@ -56,3 +58,18 @@ start_behind None here uses = if here then Some uses else None
 -- whether a use assigns a local
 abbrev pub assigns_as : Local → Use → Bool
 assigns_as v u = assigns u.usage && same_local v u.local
+
+-- the uses behind a start that stands behind so many of them
+abbrev pub behind_start : Option ℕ → List Use → List Use
+behind_start None uses = []
+behind_start (Some before) uses = drop before uses
+
+-- what is noted of a text
+pub record IsNoted (a : Assignments) (text : List (Open × Event)) : Type 0 where
+  pub uses : a.uses ≡ length (uses_from [] text)
+  pub known : (v : Local) → contains_by (λ (k : Local). same_local v k) a.known ≡ list_any (assigns_as v) (uses_from [] text)
+  pub ends : (v : Local) (m : ℕ) → list_any (assigns_as v) (drop m (uses_from [] text)) ≡ nat_lt m (end_of a.ends v)
+  pub starts : (place : ℕ) → uses_behind_start place [] text ≡ behind_start (map.get nat_eq a.starts place) (uses_from [] text)
+  pub found : (place : ℕ) → is_some (map.get nat_eq a.starts place) ≡ list_any (λ (p : Open × Event). starts_at place p.1.sight p.1.at) text
+  pub low : (place : ℕ) → unwrap_or (map.get nat_eq a.starts place) 0 ≤ length (uses_from [] text)
+  pub held : (v : Local) (e : Around × Span) → has_held a.held v e ≡ list_any (λ (u : Use). assigns_as v u && holds u.round e) (uses_from [] text)

@@ -188,3 +188,32 @@ impl Assignments {
         self.note_assignment(used.local, round)
     }
 }
+
+impl Assignments {
+    /// Before the first event.
+    fn none(alloc: Global) -> Assignments
+        ensures { spec.IsNoted result [] }
+    {
+        Assignments {
+            uses: 0,
+            known: HashSet::new(alloc),
+            ends: HashMap::new(alloc),
+            starts: HashMap::new(alloc),
+            held: HashSet::new(alloc),
+        }
+    }
+
+    /// Notes the events of a text.
+    pub(crate) fn new(alloc: Global, events: &[Event]) -> Result<Assignments, AllocError>
+        ensures { IfOk result (λ it. spec.IsNoted it (placed [] events.now)) }
+    {
+        let mut walk = Walk::new(alloc);
+        let mut noted = Assignments::none(alloc);
+        'events: for event in events {
+            let used = walk.used_at(event);
+            noted.note(walk.round.as_slice(), event, used)?;
+            walk.go_on(event, used)?;
+        }
+        Ok(noted)
+    }
+}
