@@ -12,4 +12,5 @@ pub mod CrowdMore
 pub mod Holding
 pub mod Reversed
 pub mod Noting
+pub mod Settles
 pub mod ParamsMore

@@ -1,12 +1,17 @@
 -- The uses of locals in a text, with one more event behind it.
 use Rattle.std.proofs.Common.{◌≡◌, List, [], ◌∷◌, ◌++◌, Option, reverse, refl, sym, ap, subst, ◌∙◌, append_assoc, append-nil}
+use Rattle.std.specs.List.{flat_map}
+use Rattle.std.proofs.lemmas.Grind.{flat_map-append}
 use Rattle.rb_checker.specs.declared.event.Event.{Event}
+use Rattle.rb_checker.specs.declared.fault.CheckFault.{CheckFault}
 use Rattle.rb_checker.specs.declared.locals.Local.{Local}
 use Rattle.rb_checker.specs.declared.locals.Used.{Used}
 use Rattle.rb_checker.specs.declared.walking.Walk.{Walk}
 use Rattle.rb_checker.specs.Around.{Open, behind, behind_all, placed}
 use Rattle.rb_checker.specs.Locals.{Use, use_of, known_behind, uses_from, uses_in}
 use Rattle.rb_checker.specs.Walked.{Knows, Walked, uses_as, known_after}
+use Rattle.rb_checker.specs.Fault.{first_of, first_of_two}
+use Rattle.rb_checker.proofs.Firsts.{first_of_both}
 use Rattle.rb_checker.proofs.Placing.{behind_all-more, placed-more}
 
 pub known_after-more : (known : List Local) (ps : List (Open × Event)) (p : Open × Event) → known_after known (ps ++ p ∷ []) ≡ known_behind (known_after known ps) (use_of (known_after known ps) p.0 p.1.sight p.1.at)
@@ -53,3 +58,15 @@ uses_more walk events more e used is w uses =
 -- a walk before the first event
 pub none_walked : (walk : Walk) → walk.round.items ≡ [] → Knows walk.known [] → Walked walk []
 none_walked walk round known = record { round = ap reverse round; known = known }
+
+-- the first fault of uses, with those of one more event
+pub first_used : (judge : Use → List CheckFault) (walk : Walk) (round : Open) (events more : List Event) (e : Event) (used : Option Used) (found next new : Option CheckFault)
+    → more ≡ events ++ e ∷ [] → round ≡ walk.round.items → Walked walk events
+    → use_of (known_by events) (reverse walk.round.items) e.sight e.at ≡ uses_as used (reverse walk.round.items) e.at
+    → found ≡ first_of (flat_map judge (uses_in events)) → next ≡ first_of (flat_map judge (uses_as used (reverse round) e.at)) → new ≡ first_of_two found next
+    → new ≡ first_of (flat_map judge (uses_in more))
+first_used judge walk round events more e used found next new is stands w uses f n h =
+    let now = uses_as used (reverse walk.round.items) e.at in
+    first_of_both (flat_map judge (uses_in events)) (flat_map judge now) (flat_map judge (uses_in more)) found next new
+    (ap (flat_map judge) (uses_more walk events more e used is w uses) ∙ flat_map-append judge (uses_in events) now)
+    f (n ∙ ap (λ (r : Open). first_of (flat_map judge (uses_as used (reverse r) e.at))) stands) h

@@ -16,3 +16,4 @@ pub mod Check
 pub mod Walked
 pub mod Crowded
 pub mod Assigned
+pub mod Settling

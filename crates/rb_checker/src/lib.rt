@@ -15,6 +15,7 @@ mod repeated;
 mod rules;
 mod sets;
 mod settling;
+mod unsettled;
 mod walking;
 #[cfg(test)]
 mod tests;

@@ -48,8 +48,15 @@ fn add_held(set: &mut HashSet<Held>, key: Held) -> Result<(), AllocError>
     Ok(())
 }
 
+/// Whether a key is in a set.
+pub(crate) fn is_key(set: &HashSet<Held>, key: Held) -> bool
+    ensures { result ≡ contains_by (λ (k : Key). spec.same_held key k) set.now }
+{
+    set.contains(&key)
+}
+
 /// The enclosure that this is, where it is one.
-fn enclosure_of(around: Around) -> Option<Enclosure>
+pub(crate) fn enclosure_of(around: Around) -> Option<Enclosure>
     ensures { result ≡ spec.enclosure_of around }
 {
     match around {
