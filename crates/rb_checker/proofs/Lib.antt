@@ -13,4 +13,5 @@ pub mod Holding
 pub mod Reversed
 pub mod Noting
 pub mod Settles
+pub mod Finding
 pub mod ParamsMore

@@ -10,8 +10,10 @@ pub mod Twice
 pub mod Crowd
 pub mod Locals
 pub mod Settled
+pub mod Findings
 pub mod Texts
 pub mod Misplaced
+pub mod Scripts
 pub mod Check
 pub mod Walked
 pub mod Crowded

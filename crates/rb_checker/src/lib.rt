@@ -7,9 +7,9 @@ mod crowds;
 mod event;
 mod fault;
 mod first;
+mod found;
 mod gather;
 mod locals;
-mod misplaced;
 mod params;
 mod repeated;
 mod rules;
@@ -17,11 +17,12 @@ mod sets;
 mod settling;
 mod unsettled;
 mod walking;
+mod whole;
 #[cfg(test)]
 mod tests;
+mod texts;
 
 pub use bodies::Bodies;
 pub use event::{Around, Event, Sight};
 pub use fault::CheckFault;
-pub use misplaced::find_misplaced;
-pub use repeated::find_repeated;
+pub use whole::{CheckError, check};
