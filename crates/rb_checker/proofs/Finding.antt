@@ -51,3 +51,12 @@ module _ {A : Type 0} where
   variables_more g events xs more x start old new is o n =
       n ∙ ap (λ us. us ++ flat_map g (events x)) o ∙ append_assoc start (flat_map g (flat_map events xs)) (flat_map g (events x))
       ∙ ap (λ us. start ++ us) (sym (ap (flat_map g) (flat_map-more events xs more x is) ∙ flat_map-append g (flat_map events xs) (events x)))
+
+-- variables of three texts, one behind the other
+pub uses_of_three : (g : Event → Uses) (xs ys zs : List Event) (start a b c : Uses) → a ≡ start ++ flat_map g xs → b ≡ a ++ flat_map g ys → c ≡ b ++ flat_map g zs
+    → c ≡ start ++ flat_map g (xs ++ (ys ++ zs))
+uses_of_three g xs ys zs start a b c x y z =
+    z ∙ ap (λ us. us ++ flat_map g zs) (y ∙ ap (λ us. us ++ flat_map g ys) x) ∙ ap (λ us. us ++ flat_map g zs) (append_assoc start (flat_map g xs) (flat_map g ys))
+    ∙ append_assoc start (flat_map g xs ++ flat_map g ys) (flat_map g zs)
+    ∙ ap (λ us. start ++ us)
+    (append_assoc (flat_map g xs) (flat_map g ys) (flat_map g zs) ∙ ap (λ us. flat_map g xs ++ us) (sym (flat_map-append g ys zs)) ∙ sym (flat_map-append g xs (ys ++ zs)))

@@ -14,4 +14,5 @@ pub mod Reversed
 pub mod Noting
 pub mod Settles
 pub mod Finding
+pub mod Scripting
 pub mod ParamsMore
