@@ -25,6 +25,7 @@ crowded_behind-append limit before (u ∷ us) vs = by (is_among u.0 before) (cro
   where
     here : List CheckFault
     here = if nat_le limit (length before) then fault.TooManyFields u.1 ∷ [] else []
+
     by : (there : Bool) → crowded_behind limit before (us ++ vs) ≡ crowded_behind limit before us ++ crowded_behind limit (seen_behind before us) vs
         → crowded_behind limit (u.0 ∷ before) (us ++ vs) ≡ crowded_behind limit (u.0 ∷ before) us ++ crowded_behind limit (seen_behind (u.0 ∷ before) us) vs
         → cond there (crowded_behind limit before (us ++ vs)) (here ++ crowded_behind limit (u.0 ∷ before) (us ++ vs))

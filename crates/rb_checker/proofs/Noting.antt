@@ -72,6 +72,7 @@ ends_more v us (Some used) round at m old new count o is n = by (assigns_as v th
   where
     this : Use
     this = record { usage = used.usage; local = used.local; at = at; round = round }
+
     by : (passes : Bool) → assigns_as v this ≡ passes → new ≡ cond (passes || false) count old → list_any (assigns_as v) (drop m (us ++ this ∷ [])) ≡ nat_lt m new
     by true h n = passes_last (assigns_as v) us this m h ∙ ap (nat_lt m) (sym (n ∙ is))
     by false h n = fails_last (assigns_as v) us this m h ∙ o ∙ ap (nat_lt m) (sym n)
@@ -95,10 +96,13 @@ behind_start-more place known (q ∷ ps) p =
   where
     after : List Local
     after = known_behind known (use_of known q.0 q.1.sight q.1.at)
+
     rest : Bool
     rest = list_any (λ (r : Open × Event). starts_at place r.1.sight r.1.at) ps
+
     last : List Use
     last = use_of (known_after after ps) p.0 p.1.sight p.1.at
+
     by : (here : Bool) → starts_at place q.1.sight q.1.at ≡ here
         → uses_behind_start place after (ps ++ p ∷ []) ≡ cond rest (uses_behind_start place after ps ++ last) []
         → cond here (uses_from known (ps ++ p ∷ [])) (uses_behind_start place after (ps ++ p ∷ []))
@@ -185,6 +189,7 @@ none_noted a uses known ends starts held = record {
   where
     none_behind : (m : ℕ) → false ≡ nat_lt m 0
     none_behind m = grind (arith, nat_tests)
+
     none_held : (x : Option Enclosure) (v : Local) (at : Span)
         → (elim x [ None ↦ false | Some e ↦ contains_by (λ (k : Held). same_held (record { local = v; enclosure = e; from = at.from }) k) a.held ]) ≡ false
     none_held None v at = refl
@@ -203,6 +208,6 @@ pub noted_at : (old new : Assignments) (walk : Walk) (round : Open) (events more
 noted_at old new walk round events more e used is stands w noted uses counted known ends starts held =
     let text = placed [] events in
     let here : use_of (known_after [] text) (reverse round) e.sight e.at ≡ uses_as used (reverse round) e.at =
-        subst (λ (r : Open). use_of (known_after [] text) r e.sight e.at ≡ uses_as used r e.at) (ap reverse (sym stands)) uses in
+    subst (λ (r : Open). use_of (known_after [] text) r e.sight e.at ≡ uses_as used r e.at) (ap reverse (sym stands)) uses in
     subst (IsNoted new) (ap (λ (r : Open). text ++ (r, e) ∷ []) (ap reverse stands ∙ w.round) ∙ sym (ap (placed []) is ∙ placed-more [] events e))
     (noted_more old new text (text ++ (reverse round, e) ∷ []) (reverse round, e) used refl noted here counted known ends starts held)

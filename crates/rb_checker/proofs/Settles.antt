@@ -36,6 +36,7 @@ not_of_name known name (scope ∷ outer) v h = by (list_any (same_local this) kn
   where
     this : Local
     this = record { name = name.0; scope = scope }
+
     by : (there : Bool) → (elim (known_in known name outer) [ None ↦ false | Some local ↦ same_local local v ]) ≡ false
         → (elim (cond there (Some this) (known_in known name outer)) [ None ↦ false | Some local ↦ same_local local v ]) ≡ false
     by true rest = ap (λ b. b && same_scope scope v.scope) h
@@ -53,6 +54,7 @@ in_value_is known v ((around.Value name, at) ∷ outer) =
     by_same : (same : Bool) → (same || spec.in_value_of known v outer) ≡ cond same true (spec.in_value_of known v outer)
     by_same true = refl
     by_same false = refl
+
     by : (o : Option Local) → ((elim o [ None ↦ false | Some local ↦ same_local local v ]) || spec.in_value_of known v outer)
         ≡ (elim o [ None ↦ spec.in_value_of known v outer | Some local ↦ cond (same_local local v) true (spec.in_value_of known v outer) ])
     by None = refl
@@ -140,7 +142,7 @@ module _ (a : Assignments) (text : List (Open × Event)) (noted : IsNoted a text
   held_is v ys =
       any-filter (λ (u : Use). assigns u.usage && same_local u.local v) (λ (u : Use). list_any (holds u.round) ys) us
       ∙ any_by (λ (u : Use). (assigns u.usage && same_local u.local v) && list_any (holds u.round) ys) (λ (u : Use). assigns_as v u && list_any (holds u.round) ys) us
-        (λ u. ap (λ b. b && list_any (holds u.round) ys) (assigns_is v u))
+      (λ u. ap (λ b. b && list_any (holds u.round) ys) (assigns_is v u))
       ∙ any_swapped (assigns_as v) (λ (u : Use) (y : Around × Span). holds u.round y) us ys
       ∙ any_by (λ (y : Around × Span). list_any (λ (u : Use). assigns_as v u && holds u.round y) us) (has_held a.held v) ys (λ y. sym (noted.held v y))
 
@@ -172,6 +174,7 @@ module _ (a : Assignments) (text : List (Open × Event)) (noted : IsNoted a text
       by_parts : (late all starts : Bool) → all ≡ starts → ((not late && true) && all) ≡ (not late && starts)
       by_parts true all starts e = refl
       by_parts false all starts e = e
+
       by : (opened : Bool) → list_any (has_held a.held v) (cond opened [] ((around.Thread, at) ∷ within v.scope outer)) ≡ false
           → (list_any (has_held a.held v) (within v.scope outer) ≡ false → spec.is_settled_for_all text v outer ≡ quick.starts_behind a v outer)
           → cond opened true (spec.is_settled text v at.from outer && spec.is_settled_for_all text v outer) ≡ cond opened true (not (quick.is_assigned_behind a v at.from) && quick.starts_behind a v outer)
@@ -193,8 +196,10 @@ module _ (a : Assignments) (text : List (Open × Event)) (noted : IsNoted a text
     where
       held : Bool
       held = list_any (has_held a.held v) (within v.scope outer)
+
       value : Bool
       value = quick.in_value_of (locals_in us) v outer
+
       by_parts : (h k late starts all : Bool) → (h ≡ false → k ≡ false → all ≡ starts) → (not h && (not k && (not late && starts))) ≡ ((not late && (not h && not k)) && all)
       by_parts true k true starts all e = refl
       by_parts true k false starts all e = refl
@@ -202,6 +207,7 @@ module _ (a : Assignments) (text : List (Open × Event)) (noted : IsNoted a text
       by_parts false true false starts all e = refl
       by_parts false false true starts all e = refl
       by_parts false false false starts all e = sym (e refl refl)
+
       by : (opened : Bool)
           → cond opened true (not held && (not value && cond opened true (not (quick.is_assigned_behind a v at.from) && quick.starts_behind a v outer)))
           ≡ cond opened true (spec.is_settled text v at.from outer && spec.is_settled_for_all text v outer)

@@ -49,7 +49,7 @@ module _ (names : List Text) (functions classes : List NameId) where
     -- those of a class have its instance variables too
     abbrev pub class_faults : Class → Faults
     class_faults c = record (methods_faults (method_of (names_of c.methods)) c.methods) {
-      fields = crowded max_fields (fields_in (flat_map (method_events body_of) c.methods))
+      fields = crowded max_fields (fields_in (flat_map (method_events body_of) c.methods));
     }
 
 -- the events of a class

@@ -35,10 +35,7 @@ fn add_field(uses: &mut Vec<(NameId, Span)>, event: &Event) -> Result<(), AllocE
 }
 
 /// Adds the instance variables of a text, each where it stands.
-pub(crate) fn add_fields(
-    uses: &mut Vec<(NameId, Span)>,
-    events: &[Event],
-) -> Result<(), AllocError>
+pub(crate) fn add_fields(uses: &mut Vec<(NameId, Span)>, events: &[Event]) -> Result<(), AllocError>
     ensures { OnOk result (uses.new.items ≡ uses.old.items ++ spec.fields_in events.now) }
 {
     'events: for event in events {

@@ -15,14 +15,12 @@ mod repeated;
 mod rules;
 mod sets;
 mod settling;
-mod unsettled;
-mod walking;
-mod whole;
 #[cfg(test)]
 mod tests;
 mod texts;
+mod unsettled;
+mod walking;
+mod whole;
 
-pub use bodies::Bodies;
-pub use event::{Around, Event, Sight};
 pub use fault::CheckFault;
 pub use whole::{CheckError, check};

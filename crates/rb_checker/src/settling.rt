@@ -120,11 +120,7 @@ fn note_start(
 }
 
 /// Notes behind how many uses of locals a local is assigned.
-fn note_end(
-    ends: &mut HashMap<Local, usize>,
-    local: Local,
-    uses: usize,
-) -> Result<(), AllocError>
+fn note_end(ends: &mut HashMap<Local, usize>, local: Local, uses: usize) -> Result<(), AllocError>
     ensures { OnOk result ((v : Named) → spec.end_of ends.new v ≡ (if same_local v local then uses else spec.end_of ends.old v)) }
 {
     if let Err(_) = ends.insert(local, uses) {
@@ -150,11 +146,7 @@ pub(crate) struct Assignments {
 
 impl Assignments {
     /// Notes an assignment to a local. What stands round it is given, the innermost last.
-    fn note_assignment(
-        &mut self,
-        local: Local,
-        round: &[(Around, Span)],
-    ) -> Result<(), AllocError>
+    fn note_assignment(&mut self, local: Local, round: &[(Around, Span)]) -> Result<(), AllocError>
         ensures uses { self.new.uses ≡ self.old.uses }
         ensures known { OnOk result ((v : Named) → contains_by (λ (k : Named). same_local v k) self.new.known ≡ (same_local v local || contains_by (λ (k : Named). same_local v k) self.old.known)) }
         ensures ends { OnOk result ((v : Named) → spec.end_of self.new.ends v ≡ (if same_local v local then self.old.uses else spec.end_of self.old.ends v)) }

@@ -64,12 +64,7 @@ fn is_held(set: &HashSet<Held>, local: Local, round: &[(Around, Span)]) -> bool
 }
 
 /// Whether the value of an assignment to this name, where these stand round, is one to a local.
-fn is_value_of(
-    known: &HashSet<Local>,
-    local: Local,
-    name: NameId,
-    round: &[(Around, Span)],
-) -> bool
+fn is_value_of(known: &HashSet<Local>, local: Local, name: NameId, round: &[(Around, Span)]) -> bool
     ensures { (locals : List Named) → Knows known.now locals → result ≡ quick.is_value_of locals local name (reverse round.now) }
 {
     if name.0 != local.name {

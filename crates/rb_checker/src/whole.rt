@@ -59,8 +59,7 @@ fn found_in_texts(
         in_method: false,
     };
     let in_classes = texts.in_classes(program.classes.as_slice(), variables)?;
-    let in_functions =
-        texts.in_methods(top_level_method, program.functions.as_slice(), variables)?;
+    let in_functions = texts.in_methods(top_level_method, program.functions.as_slice(), variables)?;
     let in_main = texts.in_text(top_level, &[], program.main.as_slice(), variables)?;
     Ok(in_classes.and(in_functions.and(in_main)))
 }

@@ -27,11 +27,11 @@ returns c =
     let of_functions : Faults = spec.methods_faults p.names functions classes bodies rule.top_level_method p.functions in
     let of_main : Faults = spec.text_faults p.names functions classes rule.top_level (events_in bodies [] p.main) in
     let in_classes = c.in_ok-in_classes.ensures.found functions classes bodies (record { has_functions = has_functions; has_classes = has_classes; tells = tells })
-        ∙ ap (λ cs. firsts (gathered (spec.class_faults p.names functions classes bodies) cs)) c.as_slice-4.ensures in
+    ∙ ap (λ cs. firsts (gathered (spec.class_faults p.names functions classes bodies) cs)) c.as_slice-4.ensures in
     let in_functions = c.in_ok-in_functions.ensures.found functions classes bodies rule.top_level_method (record { has_functions = has_functions; has_classes = has_classes; tells = tells })
-        (record { methods = (refl, refl); in_method = refl }) ∙ ap (λ ms. firsts (spec.methods_faults p.names functions classes bodies rule.top_level_method ms)) c.as_slice-5.ensures in
+    (record { methods = (refl, refl); in_method = refl }) ∙ ap (λ ms. firsts (spec.methods_faults p.names functions classes bodies rule.top_level_method ms)) c.as_slice-5.ensures in
     let in_main = c.in_ok-in_main.ensures.found functions classes bodies rule.top_level (record { has_functions = has_functions; has_classes = has_classes; tells = tells })
-        (record { methods = (refl, refl); in_method = refl }) ∙ ap (λ ns. firsts (spec.text_faults p.names functions classes rule.top_level (events_in bodies [] ns))) c.as_slice-6.ensures in
+    (record { methods = (refl, refl); in_method = refl }) ∙ ap (λ ns. firsts (spec.text_faults p.names functions classes rule.top_level (events_in bodies [] ns))) c.as_slice-6.ensures in
     record {
       found = c.and-2.ensures of_classes (joined of_functions of_main) in_classes (c.and.ensures of_functions of_main in_functions in_main);
       globals = uses_of_three (λ (e : Event). global_use e.sight e.at) (flat_map (spec.class_events bodies) p.classes) (flat_map (spec.method_events bodies) p.functions) (events_in bodies [] p.main)

@@ -21,10 +21,10 @@ returns c =
     record {
       found = λ functions classes b g.
           let found = c.in_ok-found.ensures.found functions classes b owner g (record { methods = (holds, refl); in_method = refl })
-              ∙ ap (λ ms. firsts (spec.methods_faults names functions classes b owner ms)) c.as_slice-2.ensures in
+          ∙ ap (λ ms. firsts (spec.methods_faults names functions classes b owner ms)) c.as_slice-2.ensures in
           let fields = c.as_slice-3.ensures.value ∙ c.in_ok-found.ensures.fields functions classes b g
-              ∙ ap (λ us. us ++ fields_in (flat_map (spec.method_events b) c.as_slice-2.result.now)) c.clear.ensures.items
-              ∙ ap (λ ms. fields_in (flat_map (spec.method_events b) ms)) c.as_slice-2.ensures in
+          ∙ ap (λ us. us ++ fields_in (flat_map (spec.method_events b) c.as_slice-2.result.now)) c.clear.ensures.items
+          ∙ ap (λ ms. fields_in (flat_map (spec.method_events b) ms)) c.as_slice-2.ensures in
           found_is c.with_fields.result (spec.class_faults names functions classes b class)
           (c.with_fields.ensures.misplaced ∙ ap (λ (f : Found). f.misplaced) found) (c.with_fields.ensures.params ∙ ap (λ (f : Found). f.params) found)
           (c.with_fields.ensures.unsettled ∙ ap (λ (f : Found). f.unsettled) found)
