@@ -29,6 +29,11 @@ uses_from-more known (q ∷ ps) p =
 abbrev pub known_by : List Event → List Local
 known_by events = known_after [] (placed [] events)
 
+-- the uses, with those of one more event
+pub uses_next : (events more : List Event) (e : Event) → more ≡ events ++ e ∷ []
+    → uses_in more ≡ uses_in events ++ use_of (known_by events) (behind_all [] events) e.sight e.at
+uses_next events more e is = ap (uses_from []) (ap (placed []) is ∙ placed-more [] events e) ∙ uses_from-more [] (placed [] events) (behind_all [] events, e)
+
 -- what an event uses, by what a walk says of it
 used_here : (walk : Walk) (events : List Event) (e : Event) (used : Option Used) → Walked walk events
     → use_of (known_by events) (reverse walk.round.items) e.sight e.at ≡ uses_as used (reverse walk.round.items) e.at
@@ -52,8 +57,7 @@ pub uses_more : (walk : Walk) (events more : List Event) (e : Event) (used : Opt
     → use_of (known_by events) (reverse walk.round.items) e.sight e.at ≡ uses_as used (reverse walk.round.items) e.at
     → uses_in more ≡ uses_in events ++ uses_as used (reverse walk.round.items) e.at
 uses_more walk events more e used is w uses =
-    ap (uses_from []) (ap (placed []) is ∙ placed-more [] events e) ∙ uses_from-more [] (placed [] events) (behind_all [] events, e)
-    ∙ ap (λ us. uses_in events ++ us) (used_here walk events e used w uses)
+    uses_next events more e is ∙ ap (λ us. uses_in events ++ us) (used_here walk events e used w uses)
 
 -- a walk before the first event
 pub none_walked : (walk : Walk) → walk.round.items ≡ [] → Knows walk.known [] → Walked walk []

@@ -70,6 +70,11 @@ use_of known round (sight.Reads name) at = elim (known_in known name (scopes_of 
 ]
 use_of known round other at = []
 
+-- what an event says of a parameter
+abbrev pub param_of : Open → Sight → Span → List Use
+param_of round (sight.Param name) at = (record { usage = usage.Param; local = record { name = name.0; scope = innermost (scopes_of round) }; at = at; round = round }) ∷ []
+param_of round other at = []
+
 -- the locals that are known behind a use
 abbrev pub known_behind : List Local → List Use → List Local
 known_behind known [] = known

@@ -7,6 +7,7 @@ use Rattle.std.specs.declared.hash.BuildHasherDefault.{BuildHasherDefault}
 use Rattle.rb_tree.specs.declared.span.Span.{Span}
 use Rattle.rb_checker.specs.declared.event.Event.{Event}
 use Rattle.rb_checker.specs.declared.locals.Local.{Local}
+use Rattle.rb_checker.specs.declared.locals.Usage.TheVariants as usage
 use Rattle.rb_checker.specs.declared.locals.Used.{Used}
 use Rattle.rb_checker.specs.declared.walking.Walk.{Walk}
 use Rattle.rb_checker.specs.Around.{Open, behind_all, placed}
@@ -24,6 +25,11 @@ Knows set known = (v : Local) → contains_by (λ (k : Local). same_local v k) s
 abbrev pub uses_as : Option Used → Open → Span → List Use
 uses_as None round at = []
 uses_as (Some u) round at = (record { usage = u.usage; local = u.local; at = at; round = round }) ∷ []
+
+-- a parameter at a place
+abbrev pub params_as : Option Local → Open → Span → List Use
+params_as None round at = []
+params_as (Some local) round at = (record { usage = usage.Param; local = local; at = at; round = round }) ∷ []
 
 -- the locals that are known behind a text
 abbrev pub known_after : List Local → List (Open × Event) → List Local

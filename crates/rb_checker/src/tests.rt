@@ -28,6 +28,11 @@ fn at(from: u32) -> Span {
     Span { from, to: from }
 }
 
+/// A place so many bytes behind another.
+fn behind(from: u32, bytes: u32) -> Span {
+    at(from.saturating_add(bytes))
+}
+
 fn one(alloc: Global, node: Node) -> Result<Items<Node>, AllocError> {
     let mut nodes = Items::new(alloc);
     nodes.push(node)?;

@@ -14,7 +14,7 @@ use std::alloc::{AllocError, Global};
 use std::collections::HashSet;
 
 /// The innermost scope. What stands round is given, the innermost last.
-fn innermost_scope(round: &[(Around, Span)]) -> Option<u32>
+pub(crate) fn innermost_scope(round: &[(Around, Span)]) -> Option<u32>
     ensures { result ≡ spec.innermost (spec.scopes_of (reverse round.now)) }
 {
     let [outer @ .., (innermost, at)] = round else {

@@ -1,6 +1,6 @@
 // Locals of outside that threads use, by example.
 
-use super::{NAME, OTHER, at, body, boxed, fault_in, one, params, script, thread};
+use super::{NAME, OTHER, at, behind, body, boxed, fault_in, one, params, script, thread};
 use crate::CheckFault;
 use rb_tree::{Block, Boxed, Items, Node};
 use std::alloc::{AllocError, Global};
@@ -8,7 +8,7 @@ use std::test::Fail;
 
 /// `x = 1`, with the mark at the place.
 fn assigned(alloc: Global, from: u32) -> Result<Node, AllocError> {
-    let value = boxed(alloc, Node::Int(1, at(from + 2)))?;
+    let value = boxed(alloc, Node::Int(1, behind(from, 2)))?;
     Ok(Node::SetLocal(NAME, value, at(from)))
 }
 
@@ -20,13 +20,13 @@ fn two(alloc: Global, first: Node, second: Node) -> Result<Items<Node>, AllocErr
 
 /// `while true; .. end`
 fn looped(alloc: Global, nodes: Items<Node>, from: u32) -> Result<Node, AllocError> {
-    Ok(Node::While(boxed(alloc, Node::True(at(from + 6)))?, nodes, at(from)))
+    Ok(Node::While(boxed(alloc, Node::True(behind(from, 6)))?, nodes, at(from)))
 }
 
 /// `3.times { |y| .. }`, with the block at the place.
 fn repeated(alloc: Global, nodes: Items<Node>, from: u32) -> Result<Node, AllocError> {
     let block = Block {
-        params: params(alloc, &[(OTHER, from + 3)])?,
+        params: params(alloc, &[(OTHER, from.saturating_add(3))])?,
         body: nodes,
         at: at(from),
     };

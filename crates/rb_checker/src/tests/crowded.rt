@@ -1,6 +1,6 @@
 // How many variables and classes there may be, by example.
 
-use super::{BAR, OTHER, at, class, fault_in, method, script};
+use super::{BAR, OTHER, at, behind, class, fault_in, method, script};
 use crate::CheckFault;
 use rb_tree::{Class, Items, NameId, Node, Program};
 use std::alloc::{AllocError, Global};
@@ -10,7 +10,7 @@ use std::test::Fail;
 fn fields(alloc: Global, count: u32) -> Result<Items<Node>, AllocError> {
     let mut nodes = Items::new(alloc);
     for number in 0..count {
-        nodes.push(Node::Field(NameId(number), at(100 + number)))?;
+        nodes.push(Node::Field(NameId(number), behind(100, number)))?;
     }
     Ok(nodes)
 }
@@ -62,7 +62,7 @@ fn a_script_has_256_global_variables(rt: HostRuntime) -> Result<(), Fail> {
     ] {
         let mut main = Items::new(alloc);
         for number in 0..count {
-            main.push(Node::Global(NameId(number), at(100 + number)))?;
+            main.push(Node::Global(NameId(number), behind(100, number)))?;
         }
         assert_eq!(rt; fault_in(alloc, &script(alloc, main)?)?, expected);
     }
@@ -73,9 +73,11 @@ fn a_script_has_256_global_variables(rt: HostRuntime) -> Result<(), Fail> {
 fn classes(alloc: Global, count: u32) -> Result<Program, Fail> {
     let mut program = script(alloc, Items::new(alloc))?;
     for number in 0..count {
-        program
-            .classes
-            .push(class(NameId(number), Items::new(alloc), 100 + number))?;
+        program.classes.push(class(
+            NameId(number),
+            Items::new(alloc),
+            number.saturating_add(100),
+        ))?;
     }
     Ok(program)
 }

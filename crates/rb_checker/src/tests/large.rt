@@ -1,6 +1,6 @@
 // Large programs, which are checked in little time.
 
-use super::{NAME, OTHER, at, body, boxed, fault_in, method, one, script, thread};
+use super::{NAME, OTHER, at, behind, body, boxed, fault_in, method, one, script, thread};
 use crate::CheckFault;
 use rb_tree::{Block, Boxed, Items, NameId, Node};
 use std::alloc::{AllocError, Global};
@@ -11,7 +11,7 @@ fn uses(alloc: Global, count: u32, from: u32) -> Result<Items<Node>, AllocError>
     let value = boxed(alloc, Node::Int(1, at(from)))?;
     let mut nodes = one(alloc, Node::SetLocal(NAME, value, at(from)))?;
     for number in 1..count {
-        nodes.push(Node::Local(NAME, at(from + number)))?;
+        nodes.push(Node::Local(NAME, behind(from, number)))?;
     }
     Ok(nodes)
 }
@@ -64,7 +64,7 @@ fn many_captures_deep_inside(rt: HostRuntime) -> Result<(), Fail> {
     let mut program = script(alloc, main)?;
     let mut block = body(alloc, Node::Local(NAME, at(600)), 510)?;
     for number in 1..100_000 {
-        block.body.push(Node::Local(NAME, at(600 + number)))?;
+        block.body.push(Node::Local(NAME, behind(600, number)))?;
     }
     program.bodies.push(block)?;
     assert_eq!(rt; fault_in(alloc, &program)?, None);

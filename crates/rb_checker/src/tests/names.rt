@@ -1,8 +1,8 @@
 // What a script may call, make, leave and define, by example.
 
 use super::{
-    BAR, NAME, OTHER, UNKNOWN, at, body, boxed, call, class, fault_in, method, one, params, script,
-    thread,
+    BAR, NAME, OTHER, UNKNOWN, at, behind, body, boxed, call, class, fault_in, method, one, params,
+    script, thread,
 };
 use crate::CheckFault;
 use rb_tree::{Block, Boxed, Items, Node, Program};
@@ -212,8 +212,12 @@ fn block_of_three(alloc: Global, from: u32) -> Result<Node, AllocError> {
 fn a_block_names_each_parameter_once(rt: HostRuntime) -> Result<(), Fail> {
     let alloc = rt.alloc();
     for (stand, from) in PLACES {
-        let found = fault_at(alloc, stand, block_of_three(alloc, from + 20)?)?;
-        assert_eq!(rt; found, Some(CheckFault::TwiceDefined(at(from + 20))));
+        let found = fault_at(
+            alloc,
+            stand,
+            block_of_three(alloc, from.saturating_add(20))?,
+        )?;
+        assert_eq!(rt; found, Some(CheckFault::TwiceDefined(behind(from, 20))));
     }
     Ok(())
 }

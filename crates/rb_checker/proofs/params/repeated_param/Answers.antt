@@ -1,19 +1,17 @@
-use Rattle.std.proofs.Common.{◌≡◌, ap, refl, [], take, ◌+◌, ◌∙◌, reverse, subst, sym}
-use Rattle.std.specs.HashSet.{contains_by}
+use Rattle.std.proofs.Common.{ap, refl, sym, subst, [], take, reverse, ◌+◌, ◌∙◌}
 use Rattle.std.specs.List.{list_any}
 use Rattle.std.proofs.lemmas.List.{take_more, take_all}
-use Rattle.rb_checker.specs.declared.locals.Local.{Local}
 use Rattle.rb_checker.specs.Fault.{first_of}
 use Rattle.rb_checker.specs.Locals.{same_local, uses_in}
-use Rattle.rb_checker.specs.Twice.{params_of, params_twice}
-use Rattle.rb_checker.specs.Walked.{Knows, uses_as}
+use Rattle.rb_checker.specs.Twice.{params_behind, params_of, params_twice}
+use Rattle.rb_checker.specs.Walked.{Knows}
 use Rattle.rb_checker.proofs.ParamsMore.{params_more, first_param}
-use Rattle.rb_checker.proofs.UsesMore.{known_by, none_walked, walked_more, uses_more}
+use Rattle.rb_checker.proofs.Placing.{stack_more}
 use Rattle.rb_checker.proofs.params.repeated_param.Goals as goal
 
 pub events-init : goal.events-init
 events-init c = record {
-  walked = none_walked c.new-walk.result c.new-walk.ensures.round c.new-walk.ensures.known;
+  round = ap reverse c.new-round.ensures.items;
   before = λ v. ap (list_any (same_local v)) c.new-params.ensures.empty;
   first = refl;
 }
@@ -22,16 +20,15 @@ pub events-preserved : goal.events-preserved
 events-preserved c =
     let events = c.args.events.now in
     let i = c.events.event-index in
-    let walk = c.events.walk in
-    let w = c.events.invariant.walked in
-    let used = c.used_at-used.result in
-    let uses = c.used_at-used.ensures (known_by (take i events)) w.known in
-    let is = uses_more walk (take i events) (take (i + 1) events) _ used (take_more events i _ c.events-test.true) w uses in
+    let before = params_of [] (uses_in (take i events)) in
+    let stands = ap reverse c.as_slice.ensures.value ∙ c.events.invariant.round in
     record {
-      walked = walked_more walk c.go_on.new.self (take i events) (take (i + 1) events) _ used (take_more events i _ c.events-test.true) w uses c.in_ok-go_on.ensures.round c.in_ok-go_on.ensures.known;
-      before = params_more (uses_in (take i events)) (uses_in (take (i + 1) events)) _ c.see_param.new.params is (c.in_ok-next.ensures.kept (params_of [] (uses_in (take i events))) (reverse walk.round.items) c.events.invariant.before);
-      first = first_param (uses_in (take i events)) (uses_in (take (i + 1) events)) _ c.events.found c.in_ok-next.next c.first_of_two-found.result is c.events.invariant.first
-          (c.in_ok-next.ensures.fault (params_of [] (uses_in (take i events))) (reverse walk.round.items) c.events.invariant.before) c.first_of_two-found.ensures;
+      round = stack_more events i _ (reverse c.events.round.items) (reverse c.go_behind.new.round.items) c.events-test.true c.events.invariant.round c.in_ok-go_behind.ensures;
+      before = params_more (take i events) (take (i + 1) events) _ (reverse c.as_slice.result.now) c.see_param.new.params (take_more events i _ c.events-test.true) stands
+          (subst (λ us. Knows c.see_param.new.params (params_of before us)) (sym c.param_at-param.ensures) (c.in_ok-next.ensures.kept before (reverse c.as_slice.result.now) c.events.invariant.before));
+      first = first_param (take i events) (take (i + 1) events) _ (reverse c.as_slice.result.now) c.events.found c.in_ok-next.next c.first_of_two-found.result
+          (take_more events i _ c.events-test.true) stands c.events.invariant.first (c.in_ok-next.ensures.fault before (reverse c.as_slice.result.now) c.events.invariant.before
+          ∙ ap (λ us. first_of (params_behind before us)) (sym c.param_at-param.ensures)) c.first_of_two-found.ensures;
     }
 
 pub returns : goal.returns
