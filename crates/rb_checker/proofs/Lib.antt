@@ -15,4 +15,5 @@ pub mod Noting
 pub mod Settles
 pub mod Finding
 pub mod Scripting
+pub mod Threadless
 pub mod ParamsMore
