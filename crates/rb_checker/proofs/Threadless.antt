@@ -8,7 +8,6 @@ use Rattle.rb_tree.specs.declared.span.Span.{Span}
 use Rattle.rb_checker.specs.declared.event.Event.{Event}
 use Rattle.rb_checker.specs.declared.event.Sight.{Sight}
 use Rattle.rb_checker.specs.declared.event.Sight.TheVariants as sight
-use Rattle.rb_checker.specs.declared.event.Around.{Around}
 use Rattle.rb_checker.specs.declared.event.Around.TheVariants as around
 use Rattle.rb_checker.specs.declared.fault.CheckFault.{CheckFault}
 use Rattle.rb_checker.specs.declared.fault.CheckFault.TheVariants as fault

@@ -1,5 +1,5 @@
 -- Whether a local is settled, by what is noted of its text.
-use Rattle.std.specs.Prelude.{ℕ, Bool, true, false, not, ◌&&◌, ◌||◌, nat_eq, nat_lt, List, [], ◌∷◌, Option, Some, None, if◌then◌else◌}
+use Rattle.std.specs.Prelude.{ℕ, Bool, true, false, not, ◌&&◌, ◌||◌, nat_eq, nat_lt, List, [], ◌∷◌, Some, None, if◌then◌else◌}
 use Rattle.std.specs.HashMap as map
 use Rattle.std.specs.List.{list_any}
 use Rattle.rb_tree.specs.declared.span.Span.{Span}
