@@ -3,19 +3,24 @@
 #![tactic(auto)]
 
 mod bodies;
+mod crowds;
 mod event;
 mod fault;
 mod first;
+mod found;
 mod gather;
-mod misplaced;
+mod locals;
+mod params;
 mod repeated;
 mod rules;
 mod sets;
+mod settling;
 #[cfg(test)]
 mod tests;
+mod texts;
+mod unsettled;
+mod walking;
+mod whole;
 
-pub use bodies::Bodies;
-pub use event::{Around, Event, Sight};
 pub use fault::CheckFault;
-pub use misplaced::find_misplaced;
-pub use repeated::find_repeated;
+pub use whole::{CheckError, check};
