@@ -16,3 +16,5 @@ pub mod Settles
 pub mod Finding
 pub mod Scripting
 pub mod ParamsMore
+pub mod Makes
+pub mod Making
