@@ -1,0 +1,1 @@
+// Programs and the slots, sizes and numbers that they are resolved to.
