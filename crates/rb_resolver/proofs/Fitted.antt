@@ -1,6 +1,7 @@
 -- Where code is right, by its parts.
 use Rattle.std.proofs.Common.{◌≡◌, ℕ, ◌+◌, ◌<◌, ◌≤◌, Bool, true, false, cond, List, [], ◌∷◌, ◌++◌, length, map, take, get_or, Option, Some, None, refl, sym, ap, ◌∙◌, eq-eqb, rules, arith}
 use Rattle.std.specs.Prelude.{◌&&◌, ◌==◌, nat_le}
+use Rattle.std.specs.List.{list_all}
 use Rattle.std.specs.Option.{option_map}
 use Rattle.std.proofs.lemmas.Bool.Decides.{nat_tests}
 use Rattle.std.proofs.lemmas.List.{take_more, take_at, map-append}
@@ -70,6 +71,9 @@ module _ (S : Script) (names : List NameId) (size : ℕ) where
   pub return_fits : (value : Option Code) (at : Span) → if_some (option_map (fits S) value) names size ≡ true → fits S (is.Return value at) names size ≡ true
   return_fits value at v = fits-return S names size value at ∙ v
 
+pub within : (m n : ℕ) → m ≤ n → nat_le m n ≡ true
+within m n h = grind (arith, nat_tests, h)
+
 -- a block stands for its parts
 pub erase_block-parts : (b : CodeBlock) → erase_block b ≡ record { params = b.params; body = map erase b.body; at = b.at }
 unfolding erase erase_block
@@ -84,10 +88,6 @@ pub block_is_right : (S : Script) (names : List NameId) (size : ℕ) (b : CodeBl
     → every (map (fits S) b.body) (names ++ S.block_names b.at) size ≡ true → block_fits S b names size ≡ true
 block_is_right S names size b from count room body =
     block_fits-parts S names size b ∙ both _ _ (eq-eqb b.from (length names) from) (both _ _ (eq-eqb b.count (length (S.block_names b.at)) count) (both _ _ (within (length names + length (S.block_names b.at)) size room) body))
-  where
-    within : (m n : ℕ) → m ≤ n → nat_le m n ≡ true
-    within m n h = grind (arith, nat_tests, h)
-
 -- lists with one more element
 module _ {A B : Type 0} where
   pub map_pushed : (f : A → B) (xs new : List A) (x : A) (ys : List B) (y : B) (i : ℕ) → new ≡ xs ++ x ∷ [] → map f xs ≡ take i ys → f x ≡ y → i < length ys → y ≡ get_or ys i y → map f new ≡ take (i + 1) ys
@@ -119,3 +119,10 @@ block_of b source params body at =
 -- the names in scope, once those of a block are taken off
 pub names_left : (old own inside new : List NameId) (from : ℕ) → from ≡ length old → inside ≡ old ++ own → new ≡ take from inside → new ≡ old
 names_left old own inside new from is all n = n ∙ ap (take from) all ∙ take_at old own from (sym is)
+
+pub all_pushed : {A : Type 0} (p : A → Bool) (xs new : List A) (x : A) → new ≡ xs ++ x ∷ [] → list_all p xs ≡ true → p x ≡ true → list_all p new ≡ true
+all_pushed {A = A} p xs new x is old h = ap (list_all p) is ∙ more xs old
+  where
+    more : (xs : List A) → list_all p xs ≡ true → list_all p (xs ++ x ∷ []) ≡ true
+    more [] old = both _ _ h refl
+    more (y ∷ ys) old = both _ _ (conjunction _ _ old) (more ys (conjunction_rest _ _ old))
