@@ -1,12 +1,12 @@
 -- The rows of the table, by the numbers of methods.
 use Rattle.std.proofs.Common.{◌≡◌, ℕ, Bool, true, false, cond, List, [], ◌∷◌, ◌++◌, Option, Some, None, length, refl, sym, ap, ◌∙◌}
-use Rattle.std.specs.Prelude.{ℤ, pos, neg_ℤ, nat_eq, codes}
+use Rattle.std.specs.Prelude.{ℤ, pos, neg_ℤ, nat_eq}
 use Rattle.std.specs.Str.{bytes_eq}
 use Rattle.std.proofs.lemmas.Slice.Eq.{bytes_eq-Decides}
 use Rattle.rb_model.specs.declared.fault.Fault.{Fault}
-use Rattle.rb_model.specs.declared.fault.Fault.TheVariants.{NoMethod, ArgumentCount, TypeMismatch}
+use Rattle.rb_model.specs.declared.fault.Fault.TheVariants.{TypeMismatch}
 use Rattle.rb_model.specs.Characters.{characters}
-use Rattle.rb_model.specs.Values.{Value, Nil, False, True, Int, Sym, Str, To, truth, same}
+use Rattle.rb_model.specs.Values.{Value, Nil, False, True, Int, Sym, Str, To}
 use Rattle.rb_machine.specs.Scopes.{Text}
 use Rattle.rb_machine.specs.Control.{Counting}
 use Rattle.rb_machine.specs.Texts.{shown, inspected}

@@ -1,5 +1,5 @@
 -- What operations on two integers answer.
-use Rattle.std.specs.Prelude.{ℕ, ℤ, ◌+ℤ◌, ◌-ℤ◌, ◌*ℤ◌, int_lt, int_le, Bool, true, false, List, [], ◌∷◌, Option, Some, None}
+use Rattle.std.specs.Prelude.{ℤ, ◌+ℤ◌, ◌-ℤ◌, ◌*ℤ◌, int_lt, int_le, Option, Some, None}
 use Rattle.std.specs.Ordering.{int_eq}
 use Rattle.rb_model.specs.declared.fault.Fault.TheVariants.{NoMethod, ZeroDivision, IntegerOverflow}
 use Rattle.rb_model.specs.Values.{Value, truth}

@@ -1,7 +1,6 @@
 -- Variables that are too many, one use more behind others.
 use Rattle.std.proofs.Common.{◌≡◌, ℕ, Bool, true, false, cond, List, [], ◌∷◌, ◌++◌, length, Option, refl, sym, ap, ◌∙◌, append_assoc}
 use Rattle.std.specs.Prelude.{nat_le, if◌then◌else◌}
-use Rattle.rb_tree.specs.declared.span.Span.{Span}
 use Rattle.rb_tree.specs.declared.span.NameId.{NameId}
 use Rattle.rb_checker.specs.declared.fault.CheckFault.{CheckFault}
 use Rattle.rb_checker.specs.declared.fault.CheckFault.TheVariants as fault

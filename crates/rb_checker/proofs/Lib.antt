@@ -15,6 +15,7 @@ pub mod Noting
 pub mod Settles
 pub mod Finding
 pub mod Scripting
+pub mod Threadless
 pub mod ParamsMore
 pub mod Makes
 pub mod Making

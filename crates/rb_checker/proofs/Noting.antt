@@ -1,5 +1,5 @@
 -- What is noted of a text, with one more event behind it.
-use Rattle.std.proofs.Common.{◌≡◌, ℕ, zero, suc, ◌+◌, ◌≤◌, Bool, true, false, cond, List, [], ◌∷◌, ◌++◌, Option, Some, None, length, drop, refl, sym, ap, subst, ◌∙◌, reverse, arith, append-nil, append_assoc, length-append}
+use Rattle.std.proofs.Common.{◌≡◌, ℕ, zero, suc, ◌+◌, ◌≤◌, Bool, true, false, cond, List, [], ◌∷◌, ◌++◌, Option, Some, None, length, drop, refl, sym, ap, subst, ◌∙◌, reverse, arith, append-nil, length-append}
 use Rattle.std.specs.Prelude.{◌||◌, ◌&&◌, nat_lt, nat_eq, unwrap_or, is_some}
 use Rattle.std.specs.HashMap as map
 use Rattle.std.specs.HashSet.{contains_by}

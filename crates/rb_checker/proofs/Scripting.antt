@@ -1,12 +1,11 @@
 -- The faults of the texts of a script, by its classes, its methods and its top level.
-use Rattle.std.proofs.Common.{◌≡◌, List, [], ◌∷◌, ◌++◌, Option, map, refl, sym, ap, ◌∙◌, append-nil}
+use Rattle.std.proofs.Common.{◌≡◌, List, [], ◌∷◌, ◌++◌, map, refl, sym, ap, ◌∙◌, append-nil}
 use Rattle.std.specs.List.{flat_map}
 use Rattle.std.proofs.lemmas.Grind.{flat_map-append}
 use Rattle.rb_tree.specs.declared.node.Method.{Method}
 use Rattle.rb_tree.specs.declared.node.Class.{Class}
 use Rattle.rb_tree.specs.declared.node.Program.{Program}
 use Rattle.rb_checker.specs.declared.event.Event.{Event}
-use Rattle.rb_checker.specs.declared.fault.CheckFault.{CheckFault}
 use Rattle.rb_checker.specs.Around.{placed}
 use Rattle.rb_checker.specs.Check.{texts, class_fields}
 use Rattle.rb_checker.specs.Events.{events_in, bodies_from}

@@ -1,8 +1,7 @@
 -- A local is settled where what is noted of its text says so.
-use Rattle.std.proofs.Common.{◌≡◌, ℕ, Bool, true, false, cond, List, [], ◌∷◌, ◌++◌, drop, Option, Some, None, refl, sym, ap, ◌∙◌, arith}
+use Rattle.std.proofs.Common.{◌≡◌, ℕ, Bool, true, false, cond, List, [], ◌∷◌, ◌++◌, Option, Some, None, refl, sym, ap, ◌∙◌, arith}
 use Rattle.std.specs.Prelude.{not, ◌==◌, ◌&&◌, ◌||◌, nat_eq, nat_lt}
 use Rattle.std.specs.HashMap as map
-use Rattle.std.specs.HashSet.{contains_by}
 use Rattle.std.specs.List.{list_any, filter, flat_map}
 use Rattle.std.proofs.lemmas.Bool.{false≢true}
 use Rattle.std.proofs.lemmas.Bool.Decides.{nat_tests}
@@ -11,7 +10,6 @@ use Rattle.rb_tree.specs.declared.span.NameId.{NameId}
 use Rattle.rb_checker.specs.declared.event.Event.{Event}
 use Rattle.rb_checker.specs.declared.event.Around.{Around}
 use Rattle.rb_checker.specs.declared.event.Around.TheVariants as around
-use Rattle.rb_checker.specs.declared.fault.CheckFault.{CheckFault}
 use Rattle.rb_checker.specs.declared.fault.CheckFault.TheVariants as fault
 use Rattle.rb_checker.specs.declared.locals.Local.{Local}
 use Rattle.rb_checker.specs.declared.settling.Assignments.{Assignments}

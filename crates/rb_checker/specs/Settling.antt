@@ -1,9 +1,11 @@
 -- Whether a local is settled, by what is noted of its text.
-use Rattle.std.specs.Prelude.{ℕ, Bool, true, false, not, ◌&&◌, ◌||◌, nat_eq, nat_lt, List, [], ◌∷◌, Option, Some, None, if◌then◌else◌}
+use Rattle.std.specs.Prelude.{ℕ, Bool, true, false, not, ◌&&◌, ◌||◌, nat_eq, nat_lt, List, [], ◌∷◌, Some, None, if◌then◌else◌}
 use Rattle.std.specs.HashMap as map
 use Rattle.std.specs.List.{list_any}
 use Rattle.rb_tree.specs.declared.span.Span.{Span}
 use Rattle.rb_tree.specs.declared.span.NameId.{NameId}
+use Rattle.rb_checker.specs.declared.event.Sight.{Sight}
+use Rattle.rb_checker.specs.declared.event.Sight.TheVariants as sight
 use Rattle.rb_checker.specs.declared.event.Around.{Around as Enclosure}
 use Rattle.rb_checker.specs.declared.event.Around.TheVariants as around
 use Rattle.rb_checker.specs.declared.fault.CheckFault.{CheckFault}
@@ -51,3 +53,8 @@ module _ (a : Assignments) where
   -- a fault at a use of a local that is not settled
   abbrev pub unsettled_at : List Local → Use → List CheckFault
   unsettled_at known u = if is_settled known u.local u.round then [] else fault.UnsettledCapture u.at ∷ []
+
+-- whether a thread begins
+abbrev pub begins_thread : Sight → Bool
+begins_thread (sight.Begins around.Thread) = true
+begins_thread other = false

@@ -1,5 +1,5 @@
 -- A walk through the events of a text, as the check keeps it.
-use Rattle.std.specs.Prelude.{◌≡◌, List, [], ◌∷◌, Option, Some, None, reverse}
+use Rattle.std.specs.Prelude.{◌≡◌, Bool, List, [], ◌∷◌, Option, Some, None, reverse}
 use Rattle.std.specs.List.{list_any}
 use Rattle.std.specs.HashSet.{HashSet, contains_by}
 use Rattle.std.specs.declared.hash.FoldHasher.{FoldHasher}
@@ -17,9 +17,13 @@ use Rattle.rb_checker.specs.Locals.{Use, same_local, use_of, known_behind}
 abbrev pub Locals : Type 0
 Locals = HashSet Local (BuildHasherDefault FoldHasher)
 
+-- whether a local is in a set
+abbrev pub is_known : Locals → Local → Bool
+is_known set v = contains_by (λ (k : Local). same_local v k) set
+
 -- the set has just these locals
 abbrev pub Knows : Locals → List Local → Type 0
-Knows set known = (v : Local) → contains_by (λ (k : Local). same_local v k) set ≡ list_any (same_local v) known
+Knows set known = (v : Local) → is_known set v ≡ list_any (same_local v) known
 
 -- a use at a place, with what stands round it
 abbrev pub uses_as : Option Used → Open → Span → List Use

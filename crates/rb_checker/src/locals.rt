@@ -1,8 +1,8 @@
 // The locals of a text, and sets of them.
 
 ghost use Rattle.std.specs.Prelude.{◌≡◌, ◌||◌, OnOk};
-ghost use Rattle.std.specs.HashSet.{contains_by};
 ghost use Rattle.rb_checker.specs.Locals as spec;
+ghost use Rattle.rb_checker.specs.Walked.{is_known};
 ghost use Rattle.rb_checker.specs.declared.locals.Local.{Local as Named};
 
 use std::alloc::AllocError;
@@ -45,7 +45,7 @@ impl Usage {
 
 /// Whether a local is in a set.
 pub(crate) fn has_local(set: &HashSet<Local>, local: Local) -> bool
-    ensures { result ≡ contains_by (λ (k : Named). spec.same_local local k) set.now }
+    ensures { result ≡ is_known set.now local }
 {
     set.contains(&local)
 }
@@ -53,7 +53,7 @@ pub(crate) fn has_local(set: &HashSet<Local>, local: Local) -> bool
 /// Adds a local, where it is not there.
 #[tactic(auto, using(crate::proofs::Knowing::same_local_swapped))]
 pub(crate) fn add_local(set: &mut HashSet<Local>, local: Local) -> Result<(), AllocError>
-    ensures { OnOk result ((other : Named) → contains_by (λ (k : Named). spec.same_local other k) set.new ≡ (spec.same_local other local || contains_by (λ (k : Named). spec.same_local other k) set.old)) }
+    ensures { OnOk result ((other : Named) → is_known set.new other ≡ (spec.same_local other local || is_known set.old other)) }
 {
     if let Err(_) = set.insert(local) {
         return Err(AllocError);

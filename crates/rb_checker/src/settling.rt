@@ -2,14 +2,12 @@
 
 ghost use Rattle.std.specs.Prelude.{◌≡◌, ◌||◌, ◌&&◌, ◌+◌, ◌^◌, ◌<◌, ◌≤◌, ℕ, List, [], ◌∷◌, nat_eq, length, reverse, if◌then◌else◌, IfOk, OnOk};
 ghost use Rattle.std.specs.HashMap as map;
-ghost use Rattle.std.specs.HashSet.{contains_by};
-ghost use Rattle.std.specs.List.{list_any};
 ghost use Rattle.rb_tree.specs.declared.span.Span.{Span as Place};
 ghost use Rattle.rb_checker.specs.Around.{placed};
 ghost use Rattle.rb_checker.specs.Assigned as spec;
-ghost use Rattle.rb_checker.specs.Locals.{Use, same_local, starts_at};
-ghost use Rattle.rb_checker.specs.Settled.{holds, locals_in};
-ghost use Rattle.rb_checker.specs.Walked.{uses_as};
+ghost use Rattle.rb_checker.specs.Locals.{same_local, starts_at};
+ghost use Rattle.rb_checker.specs.Settled.{holds};
+ghost use Rattle.rb_checker.specs.Walked.{is_known, uses_as};
 ghost use Rattle.rb_checker.specs.declared.event.Around.{Around as Enclosing};
 ghost use Rattle.rb_checker.specs.declared.locals.Local.{Local as Named};
 ghost use Rattle.rb_checker.specs.declared.settling.Held.{Held as Key};
@@ -40,7 +38,7 @@ pub(crate) struct Held {
 /// Adds what stands round an assignment, where it is not there.
 #[tactic(auto, using(crate::proofs::Holding::same_held_swapped))]
 fn add_held(set: &mut HashSet<Held>, key: Held) -> Result<(), AllocError>
-    ensures { OnOk result ((other : Key) → contains_by (λ (k : Key). spec.same_held other k) set.new ≡ (spec.same_held other key || contains_by (λ (k : Key). spec.same_held other k) set.old)) }
+    ensures { OnOk result ((other : Key) → spec.is_key set.new other ≡ (spec.same_held other key || spec.is_key set.old other)) }
 {
     if let Err(_) = set.insert(key) {
         return Err(AllocError);
@@ -50,7 +48,7 @@ fn add_held(set: &mut HashSet<Held>, key: Held) -> Result<(), AllocError>
 
 /// Whether a key is in a set.
 pub(crate) fn is_key(set: &HashSet<Held>, key: Held) -> bool
-    ensures { result ≡ contains_by (λ (k : Key). spec.same_held key k) set.now }
+    ensures { result ≡ spec.is_key set.now key }
 {
     set.contains(&key)
 }
@@ -148,7 +146,7 @@ impl Assignments {
     /// Notes an assignment to a local. What stands round it is given, the innermost last.
     fn note_assignment(&mut self, local: Local, round: &[(Around, Span)]) -> Result<(), AllocError>
         ensures uses { self.new.uses ≡ self.old.uses }
-        ensures known { OnOk result ((v : Named) → contains_by (λ (k : Named). same_local v k) self.new.known ≡ (same_local v local || contains_by (λ (k : Named). same_local v k) self.old.known)) }
+        ensures known { OnOk result ((v : Named) → is_known self.new.known v ≡ (same_local v local || is_known self.old.known v)) }
         ensures ends { OnOk result ((v : Named) → spec.end_of self.new.ends v ≡ (if same_local v local then self.old.uses else spec.end_of self.old.ends v)) }
         ensures starts { self.new.starts ≡ self.old.starts }
         ensures held { OnOk result ((v : Named) (e : Enclosing × Place) → spec.has_held self.new.held v e ≡ ((same_local v local && holds (reverse round.now) e) || spec.has_held self.old.held v e)) }
@@ -168,13 +166,13 @@ impl Assignments {
         requires { self.old.uses + 1 < 2 ^ 64 }
         ensures counted { OnOk result (self.new.uses ≤ self.old.uses + 1) }
         ensures uses { OnOk result (self.new.uses ≡ self.old.uses + length (uses_as used (reverse round.now) event.now.at)) }
-        ensures known { OnOk result ((v : Named) → contains_by (λ (k : Named). same_local v k) self.new.known
-            ≡ (list_any (λ (u : Use). spec.assigns_as v u) (uses_as used (reverse round.now) event.now.at) || contains_by (λ (k : Named). same_local v k) self.old.known)) }
+        ensures known { OnOk result ((v : Named) → is_known self.new.known v
+            ≡ (spec.is_assigned_by v (uses_as used (reverse round.now) event.now.at) || is_known self.old.known v)) }
         ensures ends { OnOk result ((v : Named) → spec.end_of self.new.ends v
-            ≡ (if list_any (λ (u : Use). spec.assigns_as v u) (uses_as used (reverse round.now) event.now.at) then self.new.uses else spec.end_of self.old.ends v)) }
+            ≡ (if spec.is_assigned_by v (uses_as used (reverse round.now) event.now.at) then self.new.uses else spec.end_of self.old.ends v)) }
         ensures starts { OnOk result ((place : ℕ) → map.get nat_eq self.new.starts place ≡ spec.start_behind (map.get nat_eq self.old.starts place) (starts_at place event.now.sight event.now.at) self.old.uses) }
         ensures held { OnOk result ((v : Named) (e : Enclosing × Place) → spec.has_held self.new.held v e
-            ≡ (list_any (λ (u : Use). spec.assigns_as v u && holds u.round e) (uses_as used (reverse round.now) event.now.at) || spec.has_held self.old.held v e)) }
+            ≡ (spec.is_assigned_inside v e (uses_as used (reverse round.now) event.now.at) || spec.has_held self.old.held v e)) }
     {
         note_start(&mut self.starts, self.uses, event)?;
         let Some(used) = used else {

@@ -8,9 +8,10 @@ ghost use Rattle.rb_checker.specs.Fault.{first_of};
 ghost use Rattle.rb_checker.specs.Settled as spec;
 ghost use Rattle.rb_checker.specs.Settling as quick;
 ghost use Rattle.rb_checker.specs.Walked.{Knows, uses_as};
+ghost use Rattle.rb_checker.specs.declared.event.Event.{Event as Seen};
 ghost use Rattle.rb_checker.specs.declared.locals.Local.{Local as Named};
 
-use crate::event::{Around, Event};
+use crate::event::{Around, Event, Sight};
 use crate::fault::CheckFault;
 use crate::first::first_of_two;
 use crate::locals::{Local, Used};
@@ -175,6 +176,28 @@ impl Assignments {
     }
 }
 
+/// Whether a thread begins at an event.
+fn begins_thread(event: &Event) -> bool
+    ensures { result ≡ quick.begins_thread event.now.sight }
+{
+    match event.sight {
+        Sight::Begins(Around::Thread) => true,
+        _ => false,
+    }
+}
+
+/// Whether a text starts a thread.
+fn starts_thread(events: &[Event]) -> bool
+    ensures { result ≡ list_any (λ (e : Seen). quick.begins_thread e.sight) events.now }
+{
+    'events: for event in events {
+        if begins_thread(event) {
+            return true;
+        }
+    }
+    false
+}
+
 /// The first use, in a thread, of a local of outside that may still be assigned.
 pub(crate) fn find_unsettled(
     alloc: Global,
@@ -182,6 +205,9 @@ pub(crate) fn find_unsettled(
 ) -> Result<Option<CheckFault>, AllocError>
     ensures { IfOk result (λ found. found ≡ first_of (spec.unsettled (placed [] events.now))) }
 {
+    if !starts_thread(events) {
+        return Ok(None);
+    }
     let noted = Assignments::new(alloc, events)?;
     let mut walk = Walk::new(alloc);
     let mut found = None;

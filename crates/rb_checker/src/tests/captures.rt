@@ -65,14 +65,15 @@ fn assigned_before_the_start(rt: HostRuntime) -> Result<(), Fail> {
     Ok(())
 }
 
-/// `x = 1; Thread.new { x }; x = 1`
+/// `x = 1; Thread.new { x }; x = 1`, with the use at the place.
 #[test]
 fn assigned_behind_the_start(rt: HostRuntime) -> Result<(), Fail> {
     let alloc = rt.alloc();
-    for from in [100, 140, 9000] {
+    for from in [90, 140, 9000] {
         let mut main = two(alloc, assigned(alloc, 2)?, thread(alloc, 0, 14))?;
-        main.push(assigned(alloc, from)?)?;
-        assert_eq!(rt; fault_of(alloc, main)?, unsettled(90));
+        main.push(assigned(alloc, 9900)?)?;
+        let block = body(alloc, Node::Local(NAME, at(from)), 80)?;
+        assert_eq!(rt; fault_with(alloc, main, block)?, unsettled(from));
     }
     Ok(())
 }

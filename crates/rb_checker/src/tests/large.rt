@@ -51,23 +51,35 @@ fn repeated(alloc: Global, nodes: Items<Node>, from: u32) -> Result<Node, AllocE
     })
 }
 
-/// `x = 1`, and then 62 blocks, each in the one before it, and in the last of them a thread with 100,000 uses of `x`.
+/// `x = 1`, and then this statement, which starts a thread with so many uses of `x`.
+fn captures(alloc: Global, starts: Node, count: u32) -> Result<Option<CheckFault>, Fail> {
+    let mut main = uses(alloc, 1, 2)?;
+    main.push(starts)?;
+    let mut program = script(alloc, main)?;
+    let mut block = body(alloc, Node::Local(NAME, at(600)), 510)?;
+    for number in 1..count {
+        block.body.push(Node::Local(NAME, behind(600, number)))?;
+    }
+    program.bodies.push(block)?;
+    fault_in(alloc, &program)
+}
+
 #[test]
-fn many_captures_deep_inside(rt: HostRuntime) -> Result<(), Fail> {
+fn many_captures(rt: HostRuntime) -> Result<(), Fail> {
+    let alloc = rt.alloc();
+    assert_eq!(rt; captures(alloc, thread(alloc, 0, 500), 100_000)?, None);
+    Ok(())
+}
+
+/// The thread stands in 62 blocks, each in the one before it.
+#[test]
+fn captures_deep_inside(rt: HostRuntime) -> Result<(), Fail> {
     let alloc = rt.alloc();
     let mut inner = thread(alloc, 0, 500);
     for level in 0..62 {
         inner = repeated(alloc, one(alloc, inner)?, 400 - level)?;
     }
-    let mut main = uses(alloc, 1, 2)?;
-    main.push(inner)?;
-    let mut program = script(alloc, main)?;
-    let mut block = body(alloc, Node::Local(NAME, at(600)), 510)?;
-    for number in 1..100_000 {
-        block.body.push(Node::Local(NAME, behind(600, number)))?;
-    }
-    program.bodies.push(block)?;
-    assert_eq!(rt; fault_in(alloc, &program)?, None);
+    assert_eq!(rt; captures(alloc, inner, 3_000)?, None);
     Ok(())
 }
 

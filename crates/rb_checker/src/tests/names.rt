@@ -139,13 +139,17 @@ fn a_return_stands_in_a_method(rt: HostRuntime) -> Result<(), Fail> {
 #[test]
 fn self_and_instance_variables_stand_in_classes(rt: HostRuntime) -> Result<(), Fail> {
     let alloc = rt.alloc();
-    for (stand, expected) in [
-        (Stand::Main, Some(CheckFault::SelfOutside(at(9)))),
-        (Stand::Function, Some(CheckFault::SelfOutside(at(9)))),
-        (Stand::Class, None),
+    for (stand, from, expected) in [
+        (Stand::Main, 9, Some(CheckFault::SelfOutside(at(9)))),
+        (Stand::Main, 300, Some(CheckFault::SelfOutside(at(300)))),
+        (Stand::Function, 40, Some(CheckFault::SelfOutside(at(40)))),
+        (Stand::Class, 700, None),
     ] {
-        assert_eq!(rt; fault_at(alloc, stand, Node::SelfRef(at(9)))?, expected);
-        assert_eq!(rt; fault_at(alloc, stand, Node::Field(NAME, at(9)))?, expected);
+        assert_eq!(rt; fault_at(alloc, stand, Node::SelfRef(at(from)))?, expected);
+        assert_eq!(rt;
+            fault_at(alloc, stand, Node::Field(NAME, at(from)))?,
+            expected
+        );
     }
     Ok(())
 }

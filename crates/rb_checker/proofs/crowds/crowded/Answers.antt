@@ -1,4 +1,4 @@
-use Rattle.std.proofs.Common.{ap, refl, sym, subst, [], take, length, ◌+◌, ◌-◌, ◌∙◌, arith}
+use Rattle.std.proofs.Common.{ap, refl, sym, subst, [], take, ◌+◌, ◌∙◌, arith}
 use Rattle.std.specs.Prelude.{◌==◌}
 use Rattle.std.specs.List.{list_any}
 use Rattle.std.proofs.lemmas.List.{take_more, take_all}

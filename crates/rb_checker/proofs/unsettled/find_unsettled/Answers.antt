@@ -1,4 +1,4 @@
-use Rattle.std.proofs.Common.{ap, refl, [], take, ◌+◌, ◌∙◌}
+use Rattle.std.proofs.Common.{ap, refl, sym, [], take, ◌+◌, ◌∙◌}
 use Rattle.std.specs.List.{flat_map}
 use Rattle.std.proofs.lemmas.List.{take_more, take_all}
 use Rattle.rb_checker.specs.Around.{placed}
@@ -7,6 +7,7 @@ use Rattle.rb_checker.specs.Locals.{uses_in}
 use Rattle.rb_checker.specs.Settled.{locals_in}
 use Rattle.rb_checker.specs.Settling.{unsettled_at}
 use Rattle.rb_checker.proofs.Settles.{knows_noted, unsettled_is}
+use Rattle.rb_checker.proofs.Threadless.{none_unsettled}
 use Rattle.rb_checker.proofs.UsesMore.{known_by, none_walked, walked_more, first_used}
 use Rattle.rb_checker.proofs.unsettled.find_unsettled.Goals as goal
 
@@ -38,3 +39,6 @@ returns c =
     let noted = c.in_ok-noted.noted in
     c.events.invariant.first ∙ ap (λ es. first_of (flat_map (unsettled_at noted (locals_in (uses_in events))) (uses_in es))) (take_all c.events.event-index events c.events-test.false)
     ∙ ap first_of (unsettled_is noted (placed [] events) c.in_ok-noted.ensures (uses_in events))
+
+pub returns-then-not-starts_thread : goal.returns-then-not-starts_thread
+returns-then-not-starts_thread c = ap first_of (sym (none_unsettled c.args.events.now (sym c.starts_thread.ensures ∙ c.if-not-starts_thread.true)))

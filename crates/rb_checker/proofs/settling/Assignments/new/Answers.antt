@@ -1,6 +1,6 @@
-use Rattle.std.proofs.Common.{ap, subst, sym, [], take, get_or, ◌+◌, ◌∙◌, reverse, arith}
+use Rattle.std.proofs.Common.{subst, [], take, ◌+◌, arith}
 use Rattle.std.proofs.lemmas.List.{take_more, take_all}
-use Rattle.rb_checker.specs.Around.{placed, behind_all}
+use Rattle.rb_checker.specs.Around.{placed}
 use Rattle.rb_checker.specs.Assigned.{IsNoted}
 use Rattle.rb_checker.proofs.Noting.{noted_at}
 use Rattle.rb_checker.proofs.UsesMore.{known_by, none_walked, walked_more}

@@ -1,4 +1,4 @@
-use Rattle.std.proofs.Common.{◌≡◌, ◌≤◌, [], take}
+use Rattle.std.proofs.Common.{◌≤◌, [], take}
 use Rattle.rb_checker.specs.Around.{placed}
 use Rattle.rb_checker.specs.Assigned.{IsNoted}
 use Rattle.rb_checker.specs.Walked.{Walked}
