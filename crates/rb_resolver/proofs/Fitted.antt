@@ -88,6 +88,7 @@ pub block_is_right : (S : Script) (names : List NameId) (size : ℕ) (b : CodeBl
     → every (map (fits S) b.body) (names ++ S.block_names b.at) size ≡ true → block_fits S b names size ≡ true
 block_is_right S names size b from count room body =
     block_fits-parts S names size b ∙ both _ _ (eq-eqb b.from (length names) from) (both _ _ (eq-eqb b.count (length (S.block_names b.at)) count) (both _ _ (within (length names + length (S.block_names b.at)) size room) body))
+
 -- lists with one more element
 module _ {A B : Type 0} where
   pub map_pushed : (f : A → B) (xs new : List A) (x : A) (ys : List B) (y : B) (i : ℕ) → new ≡ xs ++ x ∷ [] → map f xs ≡ take i ys → f x ≡ y → i < length ys → y ≡ get_or ys i y → map f new ≡ take (i + 1) ys
@@ -126,3 +127,7 @@ all_pushed {A = A} p xs new x is old h = ap (list_all p) is ∙ more xs old
     more : (xs : List A) → list_all p xs ≡ true → list_all p (xs ++ x ∷ []) ≡ true
     more [] old = both _ _ h refl
     more (y ∷ ys) old = both _ _ (conjunction _ _ old) (more ys (conjunction_rest _ _ old))
+
+pub none_left : {A : Type 0} (xs : List A) → length xs < 1 → xs ≡ []
+none_left [] h = refl
+none_left (x ∷ xs) h = absurd (omega (arith, h))

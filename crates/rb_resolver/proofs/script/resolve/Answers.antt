@@ -6,7 +6,7 @@ use Rattle.rb_code.specs.Resolved.{body_fits}
 use Rattle.rb_resolver.specs.declared.known.Known.{Known}
 use Rattle.rb_resolver.specs.Known.{IsKnown, number_of}
 use Rattle.rb_resolver.specs.Names.{script_of}
-use Rattle.rb_resolver.proofs.Fitted.{within}
+use Rattle.rb_resolver.proofs.Fitted.{within, none_left}
 use Rattle.rb_resolver.proofs.Numbered.{both}
 use Rattle.rb_resolver.proofs.script.resolve.Goals as goal
 
@@ -28,6 +28,7 @@ returns c =
     let main_names = c.as_slice-own-2.ensures ∙ c.in_ok-scopes.ensures.main in
     let room : length S.main_names ≤ c.in_ok-main.main_size = omega (arith, ap length main_names, c.in_ok-main.ensures.room) in
     record {
+      classes = sym c.as_slice.ensures ∙ none_left c.as_slice.result.now c.in_default.len_below;
       functions = c.in_ok-functions-2.ensures.erases ∙ c.as_slice-3.ensures;
       main = c.in_ok-main.ensures.erases ∙ c.as_slice-4.ensures;
       fits = both _ _ (c.in_ok-functions-2.ensures.fits S k (c.as_slice-own.ensures ∙ c.in_ok-scopes.ensures.functions ∙ ap (map S.method_names) (sym c.as_slice-3.ensures)))
