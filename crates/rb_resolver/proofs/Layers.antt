@@ -1,6 +1,5 @@
 -- One layer of what code stands for, and of where it is right.
-use Rattle.std.proofs.Common.{◌≡◌, ◌∙◌, ap, refl, rules, arith, ℕ, ◌+◌, List, [], ◌∷◌, ◌++◌, map, length, Option, Some, None, true}
-use Rattle.std.specs.Prelude.{◌&&◌, ◌==◌, nat_le, Bool}
+use Rattle.std.proofs.Common.{◌≡◌, refl, Option, Some, None, true}
 use Rattle.rb_builtin.specs.declared.builtin.Builtin.{Builtin}
 use Rattle.rb_builtin.specs.declared.builtin.Builtin.TheVariants as builtin
 use Rattle.rb_builtin.specs.Names.{same_number}

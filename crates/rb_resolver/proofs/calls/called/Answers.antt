@@ -1,4 +1,4 @@
-use Rattle.std.proofs.Common.{◌∙◌, ap, sym, refl, map, None, Some, Option, ◌≡◌}
+use Rattle.std.proofs.Common.{◌∙◌, ap, sym, map, None, Some, Option}
 use Rattle.std.specs.Option.{option_map}
 use Rattle.std.proofs.lemmas.Result.{IfOk-weaker}
 use Rattle.rb_code.specs.declared.code.Code.{Code}

@@ -1,4 +1,4 @@
-use Rattle.std.proofs.Common.{◌≤◌, ◌-◌, length, arith}
+use Rattle.std.proofs.Common.{arith}
 use Rattle.rb_resolver.proofs.Grows.{slot_here, slot_before}
 use Rattle.rb_resolver.proofs.frame.find.Goals as goal
 

@@ -1,4 +1,4 @@
-use Rattle.std.proofs.Common.{◌≡◌, ◌∙◌, ◌+◌, ◌<◌, ◌≤◌, ap, sym, refl, List, [], ◌∷◌, ◌++◌, map, take, length, Option, Some, None, true, arith}
+use Rattle.std.proofs.Common.{◌∙◌, ◌+◌, ◌≤◌, ap, sym, refl, List, ◌++◌, map, length, Option, arith}
 use Rattle.std.specs.Option.{option_map}
 use Rattle.std.proofs.lemmas.List.{take_all}
 use Rattle.std.proofs.lemmas.Result.{IfOk-weaker}

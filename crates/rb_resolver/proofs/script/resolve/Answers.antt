@@ -1,7 +1,5 @@
-use Rattle.std.proofs.Common.{◌∙◌, ◌≡◌, ◌≤◌, ap, sym, refl, map, length, arith}
-use Rattle.std.specs.List.{list_all}
+use Rattle.std.proofs.Common.{◌∙◌, ◌≤◌, ap, sym, refl, map, length, arith}
 use Rattle.std.proofs.lemmas.List.{length-map}
-use Rattle.rb_machine.specs.Scopes.{Script}
 use Rattle.rb_code.specs.Resolved.{body_fits}
 use Rattle.rb_resolver.specs.declared.known.Known.{Known}
 use Rattle.rb_resolver.specs.Known.{IsKnown, number_of}
