@@ -17,3 +17,5 @@ pub mod Finding
 pub mod Scripting
 pub mod Threadless
 pub mod ParamsMore
+pub mod Makes
+pub mod Making

@@ -31,7 +31,7 @@ module _ {B : Type 0} (f : List Event → List B) (events : Method → List Even
       ∙ ap (λ l. l ++ flat_map f (flat_map (λ (k : Class). map events k.methods) classes)) (flat_map-map f events c.methods)
       ∙ ap (λ l. flat_map (λ m. f (events m)) c.methods ++ l) (of_classes classes)
 
-  of_texts : (classes : List Class) (functions : List Method) (main : List Event)
+  pub of_texts : (classes : List Class) (functions : List Method) (main : List Event)
       → flat_map f (flat_map (λ (c : Class). map events c.methods) classes ++ (map events functions ++ main ∷ []))
       ≡ flat_map (λ (c : Class). flat_map (λ m. f (events m)) c.methods) classes ++ (flat_map (λ m. f (events m)) functions ++ f main)
   of_texts classes functions main =

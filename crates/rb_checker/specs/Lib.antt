@@ -19,3 +19,4 @@ pub mod Walked
 pub mod Crowded
 pub mod Assigned
 pub mod Settling
+pub mod Scoped

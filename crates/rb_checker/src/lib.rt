@@ -13,6 +13,7 @@ mod first;
 mod found;
 mod gather;
 mod locals;
+mod naming;
 mod params;
 mod repeated;
 mod rules;
@@ -26,4 +27,5 @@ mod walking;
 mod whole;
 
 pub use fault::CheckFault;
+pub use naming::{ScopeNames, names_of_scopes};
 pub use whole::{CheckError, check};

@@ -1,0 +1,133 @@
+-- Where code is right, by its parts.
+use Rattle.std.proofs.Common.{◌≡◌, ℕ, ◌+◌, ◌<◌, ◌≤◌, Bool, true, false, List, [], ◌∷◌, ◌++◌, length, map, take, get_or, Option, refl, sym, ap, ◌∙◌, eq-eqb, rules, arith}
+use Rattle.std.specs.Prelude.{◌&&◌, ◌==◌, nat_le}
+use Rattle.std.specs.List.{list_all}
+use Rattle.std.specs.Option.{option_map}
+use Rattle.std.proofs.lemmas.Bool.Decides.{nat_tests}
+use Rattle.std.proofs.lemmas.List.{take_more, take_at, map-append}
+use Rattle.rb_tree.specs.declared.span.Span.{Span}
+use Rattle.rb_tree.specs.declared.span.NameId.{NameId}
+use Rattle.rb_tree.specs.declared.node.AssignOp.{AssignOp}
+use Rattle.rb_tree.specs.declared.node.Block.{Block}
+use Rattle.rb_tree.specs.declared.node.Node.{Node}
+use Rattle.rb_tree.specs.declared.node.Param.{Param}
+use Rattle.rb_machine.specs.Scopes.{Script}
+use Rattle.rb_code.specs.declared.code.Code.{Code, the_lemmas}
+use Rattle.rb_code.specs.declared.code.Code.TheVariants as is
+use Rattle.rb_code.specs.declared.code.CodePiece.{CodePiece}
+use Rattle.rb_code.specs.declared.code.CodeBlock.{CodeBlock}
+use Rattle.rb_code.specs.Erase.{erase, erase_block}
+use Rattle.rb_code.specs.Layout.{has_slot}
+use Rattle.rb_code.specs.Resolved.{Fits, every, if_some, fits, piece_fits, block_fits}
+use Rattle.rb_code.proofs.Fitting.{fits-str, fits-local, fits-set_local, fits-update_local, fits-update_element, fits-update_attribute, fits-store, fits-and, fits-or, fits-not, fits-if, fits-while, fits-return}
+use Rattle.rb_resolver.proofs.Numbered.{both}
+
+-- what is right for names is right for the same names
+pub at_names : (f : Fits) (old new : List NameId) (size : ℕ) → new ≡ old → f new size ≡ true → f old size ≡ true
+at_names f old new size e h = ap (λ ns. f ns size) (sym e) ∙ h
+
+module _ (S : Script) (names : List NameId) (size : ℕ) where
+  pub str_fits : (pieces : List CodePiece) (at : Span) → every (map (piece_fits S) pieces) names size ≡ true → fits S (is.Str pieces at) names size ≡ true
+  str_fits pieces at p = fits-str S names size pieces at ∙ p
+
+  pub local_fits : (slot : ℕ) (name : NameId) (at : Span) → has_slot name names slot ≡ true → fits S (is.Local slot name at) names size ≡ true
+  local_fits slot name at h = fits-local S names size slot name at ∙ h
+
+  pub set_local_fits : (slot : ℕ) (name : NameId) (value : Code) (at : Span) → has_slot name names slot ≡ true → fits S value names size ≡ true → fits S (is.SetLocal slot name value at) names size ≡ true
+  set_local_fits slot name value at h v = fits-set_local S names size slot name value at ∙ both _ _ h v
+
+  pub update_local_fits : (slot : ℕ) (name : NameId) (op : AssignOp) (value : Code) (at : Span) → has_slot name names slot ≡ true → fits S value names size ≡ true
+      → fits S (is.UpdateLocal slot name op value at) names size ≡ true
+  update_local_fits slot name op value at h v = fits-update_local S names size slot name op value at ∙ both _ _ h v
+
+  pub update_element_fits : (receiver index : Code) (op : AssignOp) (value : Code) (at : Span) → fits S receiver names size ≡ true → fits S index names size ≡ true → fits S value names size ≡ true
+      → fits S (is.UpdateElement receiver index op value at) names size ≡ true
+  update_element_fits receiver index op value at r i v = fits-update_element S names size receiver index op value at ∙ both _ _ r (both _ _ i v)
+
+  pub update_attribute_fits : (receiver : Code) (name : NameId) (op : AssignOp) (value : Code) (at : Span) → fits S receiver names size ≡ true → fits S value names size ≡ true
+      → fits S (is.UpdateAttribute receiver name op value at) names size ≡ true
+  update_attribute_fits receiver name op value at r v = fits-update_attribute S names size receiver name op value at ∙ both _ _ r v
+
+  pub store_fits : (receiver : Code) (name : NameId) (args : List Code) (at : Span) → fits S receiver names size ≡ true → every (map (fits S) args) names size ≡ true
+      → fits S (is.Store receiver name args at) names size ≡ true
+  store_fits receiver name args at r a = fits-store S names size receiver name args at ∙ both _ _ r a
+
+  pub and_fits : (left right : Code) (at : Span) → fits S left names size ≡ true → fits S right names size ≡ true → fits S (is.And left right at) names size ≡ true
+  and_fits left right at l r = fits-and S names size left right at ∙ both _ _ l r
+
+  pub or_fits : (left right : Code) (at : Span) → fits S left names size ≡ true → fits S right names size ≡ true → fits S (is.Or left right at) names size ≡ true
+  or_fits left right at l r = fits-or S names size left right at ∙ both _ _ l r
+
+  pub not_fits : (value : Code) (at : Span) → fits S value names size ≡ true → fits S (is.Not value at) names size ≡ true
+  not_fits value at v = fits-not S names size value at ∙ v
+
+  pub if_fits : (condition : Code) (first second : List Code) (at : Span) → fits S condition names size ≡ true → every (map (fits S) first) names size ≡ true → every (map (fits S) second) names size ≡ true
+      → fits S (is.If condition first second at) names size ≡ true
+  if_fits condition first second at c f s = fits-if S names size condition first second at ∙ both _ _ c (both _ _ f s)
+
+  pub while_fits : (condition : Code) (body : List Code) (at : Span) → fits S condition names size ≡ true → every (map (fits S) body) names size ≡ true → fits S (is.While condition body at) names size ≡ true
+  while_fits condition body at c b = fits-while S names size condition body at ∙ both _ _ c b
+
+  pub return_fits : (value : Option Code) (at : Span) → if_some (option_map (fits S) value) names size ≡ true → fits S (is.Return value at) names size ≡ true
+  return_fits value at v = fits-return S names size value at ∙ v
+
+pub within : (m n : ℕ) → m ≤ n → nat_le m n ≡ true
+within m n h = grind (arith, nat_tests, h)
+
+-- a block stands for its parts
+pub erase_block-parts : (b : CodeBlock) → erase_block b ≡ record { params = b.params; body = map erase b.body; at = b.at }
+unfolding erase erase_block
+erase_block-parts b = search (rules, the_lemmas)
+
+block_fits-parts : (S : Script) (names : List NameId) (size : ℕ) (b : CodeBlock)
+    → block_fits S b names size ≡ ((b.from == length names) && ((b.count == length (S.block_names b.at)) && (nat_le (length names + length (S.block_names b.at)) size && every (map (fits S) b.body) (names ++ S.block_names b.at) size)))
+unfolding fits block_fits
+block_fits-parts S names size b = search (rules, the_lemmas)
+
+pub block_is_right : (S : Script) (names : List NameId) (size : ℕ) (b : CodeBlock) → b.from ≡ length names → b.count ≡ length (S.block_names b.at) → length names + length (S.block_names b.at) ≤ size
+    → every (map (fits S) b.body) (names ++ S.block_names b.at) size ≡ true → block_fits S b names size ≡ true
+block_is_right S names size b from count room body =
+    block_fits-parts S names size b ∙ both _ _ (eq-eqb b.from (length names) from) (both _ _ (eq-eqb b.count (length (S.block_names b.at)) count) (both _ _ (within (length names + length (S.block_names b.at)) size room) body))
+
+-- lists with one more element
+module _ {A B : Type 0} where
+  pub map_pushed : (f : A → B) (xs new : List A) (x : A) (ys : List B) (y : B) (i : ℕ) → new ≡ xs ++ x ∷ [] → map f xs ≡ take i ys → f x ≡ y → i < length ys → y ≡ get_or ys i y → map f new ≡ take (i + 1) ys
+  map_pushed f xs new x ys y i is old e h at =
+      ap (map f) is ∙ map-append f xs (x ∷ []) ∙ ap (λ zs. zs ++ f x ∷ []) old ∙ ap (λ z. take i ys ++ z ∷ []) (e ∙ at) ∙ sym (take_more ys i y h)
+
+conjunction : (a b : Bool) → (a && b) ≡ true → a ≡ true
+conjunction true b h = refl
+conjunction false b h = h
+
+conjunction_rest : (a b : Bool) → (a && b) ≡ true → b ≡ true
+conjunction_rest true b h = h
+conjunction_rest false b h = absurd (cc)
+
+pub every_pushed : {A : Type 0} (f : A → Fits) (xs new : List A) (x : A) (names : List NameId) (size : ℕ) → new ≡ xs ++ x ∷ [] → every (map f xs) names size ≡ true → f x names size ≡ true → every (map f new) names size ≡ true
+every_pushed {A = A} f xs new x names size is old h = ap (λ zs. every (map f zs) names size) is ∙ more xs old
+  where
+    more : (xs : List A) → every (map f xs) names size ≡ true → every (map f (xs ++ x ∷ [])) names size ≡ true
+    more [] old = both _ _ h refl
+    more (y ∷ ys) old = both _ _ (conjunction _ _ old) (more ys (conjunction_rest _ _ old))
+
+pub block_of : (b : CodeBlock) (source : Block) → b.params ≡ source.params → map erase b.body ≡ source.body → b.at ≡ source.at → erase_block b ≡ source
+block_of b source params body at =
+    let with_params : List Param → Block = λ ps. record { params = ps; body = map erase b.body; at = b.at } in
+    let with_body : List Node → Block = λ ns. record { params = source.params; body = ns; at = b.at } in
+    let with_place : Span → Block = λ p. record { params = source.params; body = source.body; at = p } in
+    erase_block-parts b ∙ ap with_params params ∙ ap with_body body ∙ ap with_place at
+
+-- the names in scope, once those of a block are taken off
+pub names_left : (old own inside new : List NameId) (from : ℕ) → from ≡ length old → inside ≡ old ++ own → new ≡ take from inside → new ≡ old
+names_left old own inside new from is all n = n ∙ ap (take from) all ∙ take_at old own from (sym is)
+
+pub all_pushed : {A : Type 0} (p : A → Bool) (xs new : List A) (x : A) → new ≡ xs ++ x ∷ [] → list_all p xs ≡ true → p x ≡ true → list_all p new ≡ true
+all_pushed {A = A} p xs new x is old h = ap (list_all p) is ∙ more xs old
+  where
+    more : (xs : List A) → list_all p xs ≡ true → list_all p (xs ++ x ∷ []) ≡ true
+    more [] old = both _ _ h refl
+    more (y ∷ ys) old = both _ _ (conjunction _ _ old) (more ys (conjunction_rest _ _ old))
+
+pub none_left : {A : Type 0} (xs : List A) → length xs < 1 → xs ≡ []
+none_left [] h = refl
+none_left (x ∷ xs) h = absurd (omega (arith, h))

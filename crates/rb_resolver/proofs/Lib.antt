@@ -1,0 +1,4 @@
+pub mod Layers
+pub mod Grows
+pub mod Numbered
+pub mod Fitted

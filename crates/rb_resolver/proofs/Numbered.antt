@@ -1,0 +1,98 @@
+-- Where the code of calls is right.
+use Rattle.std.proofs.Common.{◌≡◌, ℕ, Bool, true, false, cond, List, [], ◌∷◌, ◌++◌, length, map, Option, Some, None, refl, sym, ap, ◌∙◌, eq-eqb, length-append, arith}
+use Rattle.std.specs.Prelude.{◌&&◌, is_none}
+use Rattle.std.specs.Str.{bytes_eq}
+use Rattle.std.specs.HashMap as hash
+use Rattle.std.specs.Prelude.{nat_eq, codes}
+use Rattle.std.proofs.lemmas.List.{length-map}
+use Rattle.rb_tree.specs.declared.span.Span.{Span}
+use Rattle.rb_tree.specs.declared.span.NameId.{NameId}
+use Rattle.rb_machine.specs.Scopes.{Script, Text, name_text, text_of}
+use Rattle.rb_builtin.specs.declared.builtin.Builtin.{Builtin}
+use Rattle.rb_builtin.specs.Names.{builtin_of, same_number}
+use Rattle.rb_render.specs.declared.show.Form.{Form}
+use Rattle.rb_render.specs.declared.show.Form.TheVariants as form
+use Rattle.rb_code.specs.declared.code.Code.{Code}
+use Rattle.rb_code.specs.declared.code.Code.TheVariants as is
+use Rattle.rb_code.specs.declared.code.CodeBlock.{CodeBlock}
+use Rattle.rb_code.specs.Layout.{is_at}
+use Rattle.rb_code.specs.Resolved.{every, form_text, form_takes, function_of, has_number, fits, block_fits}
+use Rattle.rb_code.proofs.Fitting.{fits-function, fits-print, fits-send, fits-operate, fits-walk}
+use Rattle.rb_resolver.specs.Known.{form_of, IsKnown}
+use Rattle.rb_resolver.specs.declared.known.Known.{Known}
+use Rattle.rb_resolver.proofs.Layers.{same_number_itself}
+
+pub both : (a b : Bool) → a ≡ true → b ≡ true → (a && b) ≡ true
+both a b h q = rw h q
+
+is_at_itself : (o : Option ℕ) (n : ℕ) → o ≡ Some n → is_at o n ≡ true
+is_at_itself o n h = ap (λ o. is_at o n) h ∙ eq-eqb n n refl
+
+-- the form of a text is one whose text it is
+chosen : Form → Bool → Bool → Bool → Bool
+chosen form.Puts a b c = a
+chosen form.Print a b c = b
+chosen form.Inspect a b c = c
+
+choice : Bool → Bool → Bool → Option Form
+choice a b c = cond a (Some form.Puts) (cond b (Some form.Print) (cond c (Some form.Inspect) None))
+
+choose : (a b c : Bool) (f : Form) → choice a b c ≡ Some f → chosen f a b c ≡ true
+unfolding chosen choice
+choose true b c form.Puts h = refl
+choose true b c form.Print h = absurd (cc)
+choose true b c form.Inspect h = absurd (cc)
+choose false true c form.Puts h = absurd (cc)
+choose false true c form.Print h = refl
+choose false true c form.Inspect h = absurd (cc)
+choose false false true form.Puts h = absurd (cc)
+choose false false true form.Print h = absurd (cc)
+choose false false true form.Inspect h = refl
+choose false false false f h = absurd (cc)
+
+form_is : (text : Text) (f : Form) → form_of text ≡ Some f → bytes_eq text (form_text f) ≡ true
+unfolding chosen choice
+form_is text form.Puts h = choose (bytes_eq text (codes "puts")) (bytes_eq text (codes "print")) (bytes_eq text (codes "p")) form.Puts h
+form_is text form.Print h = choose (bytes_eq text (codes "puts")) (bytes_eq text (codes "print")) (bytes_eq text (codes "p")) form.Print h
+form_is text form.Inspect h = choose (bytes_eq text (codes "puts")) (bytes_eq text (codes "print")) (bytes_eq text (codes "p")) form.Inspect h
+
+-- a number is right where it is that of the text of the name
+pub number_fits : (S : Script) (names : List Text) (name : NameId) (number : Option Builtin) → S.program.names ≡ names → number ≡ builtin_of (name_text names name) → has_number S number name ≡ true
+number_fits S names name number texts h =
+    ap (same_number (builtin_of (text_of S name))) (h ∙ ap (λ ns. builtin_of (name_text ns name)) (sym texts)) ∙ same_number_itself (builtin_of (text_of S name))
+
+pub send_fits : (S : Script) (scope : List NameId) (size : ℕ) (number : Option Builtin) (name : NameId) (receiver : Code) (args : List Code) (at : Span) → has_number S number name ≡ true
+    → fits S receiver scope size ≡ true → every (map (fits S) args) scope size ≡ true → fits S (is.Send number name receiver args at) scope size ≡ true
+send_fits S scope size number name receiver args at n r a =
+    fits-send S scope size number name receiver args at ∙ both _ _ n (both _ _ r a)
+
+pub operate_fits : (S : Script) (scope : List NameId) (size : ℕ) (number : Option Builtin) (name : NameId) (receiver right boxed : Code) (args : List Code) (at : Span) → has_number S number name ≡ true
+    → args ≡ right ∷ [] → boxed ≡ right → fits S receiver scope size ≡ true → every (map (fits S) args) scope size ≡ true → fits S (is.Operate number name receiver boxed at) scope size ≡ true
+operate_fits S scope size number name receiver right boxed args at n only same r a =
+    fits-operate S scope size number name receiver boxed at ∙ both _ _ n (both _ _ r (ap (λ c. fits S c scope size) same ∙ first (fits S right scope size) (sym (ap (λ cs. every (map (fits S) cs) scope size) only) ∙ a)))
+  where
+    first : (b : Bool) → (b && true) ≡ true → b ≡ true
+    first true h = refl
+    first false h = h
+
+pub walk_fits : (S : Script) (scope : List NameId) (size : ℕ) (number : Option Builtin) (name : NameId) (receiver : Code) (args : List Code) (block : CodeBlock) (at : Span) → has_number S number name ≡ true
+    → fits S receiver scope size ≡ true → every (map (fits S) args) scope size ≡ true → block_fits S block scope size ≡ true → fits S (is.Walk number name receiver args block at) scope size ≡ true
+walk_fits S scope size number name receiver args block at n r a b =
+    fits-walk S scope size number name receiver args block at ∙ both _ _ n (both _ _ r (both _ _ a b))
+
+module _ (known : Known) (names : List Text) (S : Script) (k : IsKnown known names S) (scope : List NameId) (size : ℕ) where
+  pub function_fits : (number : ℕ) (name : NameId) (args : List Code) (at : Span) → Some number ≡ hash.get nat_eq known.functions name.0
+      → every (map (fits S) args) scope size ≡ true → fits S (is.Function number name args at) scope size ≡ true
+  function_fits number name args at h a =
+      fits-function S scope size number name args at ∙ both _ _ (is_at_itself (function_of S name) number (sym (h ∙ k.functions name))) a
+
+  pub print_fits : (f : Form) (name : NameId) (args : List Code) (at : Span) → None ≡ hash.get nat_eq known.functions name.0 → Some f ≡ form_of (name_text names name) → form_takes f (length args) ≡ true
+      → every (map (fits S) args) scope size ≡ true → fits S (is.Print f name args at) scope size ≡ true
+  print_fits f name args at h is takes a =
+      fits-print S scope size f name args at ∙ both _ _ (sym (ap is_none (h ∙ k.functions name)))
+      (both _ _ (form_is (text_of S name) f (ap (λ ns. form_of (name_text ns name)) k.texts ∙ sym is)) (both _ _ (ap (form_takes f) (length-map args (fits S)) ∙ takes) a))
+
+-- a list of one
+pub only_one : (args rest : List Code) (right : Code) → length args ≡ 1 → args ≡ rest ++ right ∷ [] → args ≡ right ∷ []
+only_one args [] right l h = h
+only_one args (x ∷ xs) right l h = absurd (omega (arith, l, ap length h, length-append xs (right ∷ [])))

@@ -1,0 +1,175 @@
+use Rattle.std.proofs.Common.{◌∙◌, ◌+◌, ◌≤◌, ap, sym, refl, List, ◌++◌, map, length, Option, arith}
+use Rattle.std.specs.Option.{option_map}
+use Rattle.std.proofs.lemmas.List.{take_all}
+use Rattle.std.proofs.lemmas.Result.{IfOk-weaker}
+use Rattle.rb_tree.specs.declared.node.Node.{Node}
+use Rattle.rb_tree.specs.declared.node.Node.TheVariants as tree
+use Rattle.rb_tree.specs.declared.node.Block.{Block}
+use Rattle.rb_code.specs.declared.code.CodeBlock.{CodeBlock}
+use Rattle.rb_code.specs.Erase.{erase, erase_piece, erase_block}
+use Rattle.rb_code.specs.Resolved.{every, if_some, fits, piece_fits, block_fits}
+use Rattle.rb_code.proofs.Fitting.{fits-nil, fits-false, fits-true, fits-int, fits-sym, fits-break, fits-next, piece_fits-text, piece_fits-code}
+use Rattle.rb_resolver.proofs.Fitted.{at_names, str_fits, local_fits, set_local_fits, update_local_fits, update_element_fits, update_attribute_fits, store_fits, and_fits, or_fits, not_fits, if_fits, while_fits, return_fits, block_of, names_left, block_is_right, map_pushed, every_pushed}
+use Rattle.rb_resolver.proofs.nodes.+resolving.Goals as goal
+
+pub node-returns-in_ok-pieces-in-Str-clause-fits : goal.node-returns-in_ok-pieces-in-Str-clause-fits
+node-returns-in_ok-pieces-in-Str-clause-fits t c = λ S k size h. str_fits S _ size _ _ (c.in_ok-pieces-in-Str.ensures.fits S k size h)
+
+pub node-returns-in_ok-slot-in-Local-clause-fits : goal.node-returns-in_ok-slot-in-Local-clause-fits
+node-returns-in_ok-slot-in-Local-clause-fits t c = λ S k size h. local_fits S _ size _ _ _ c.in_ok-slot-in-Local.ensures
+
+pub node-returns-in_ok-value-in-SetLocal-clause-fits : goal.node-returns-in_ok-value-in-SetLocal-clause-fits
+node-returns-in_ok-value-in-SetLocal-clause-fits t c = λ S k size h. set_local_fits S _ size _ _ _ _ c.in_ok-slot-in-SetLocal.ensures (c.in_ok-value-in-SetLocal.ensures.fits S k size h)
+
+pub node-returns-in_ok-args-in-Store-clause-fits : goal.node-returns-in_ok-args-in-Store-clause-fits
+node-returns-in_ok-args-in-Store-clause-fits t c = λ S k size h. store_fits S _ size _ _ _ _ (c.in_ok-receiver-in-Store.ensures.fits S k size (omega (arith, h, c.in_ok-args-in-Store.ensures.rises))) (at_names (λ ns z. every (map (fits S) c.in_ok-args-in-Store.args) ns z) _ _ size (c.in_ok-receiver-in-Store.ensures.names) (c.in_ok-args-in-Store.ensures.fits S k size h))
+
+pub node-returns-in_ok-value-in-Local-target-clause-fits : goal.node-returns-in_ok-value-in-Local-target-clause-fits
+node-returns-in_ok-value-in-Local-target-clause-fits t c = λ S k size h. update_local_fits S _ size _ _ _ _ _ c.in_ok-slot-in-Local-target.ensures (c.in_ok-value-in-Local-target.ensures.fits S k size h)
+
+pub node-returns-in_ok-value-in-Index-clause-fits : goal.node-returns-in_ok-value-in-Index-clause-fits
+node-returns-in_ok-value-in-Index-clause-fits t c = λ S k size h. update_element_fits S _ size _ _ _ _ _ (c.in_ok-receiver-in-Index.ensures.fits S k size (omega (arith, h, c.in_ok-index-in-Index.ensures.rises, c.in_ok-value-in-Index.ensures.rises))) (at_names (fits S c.in_ok-index-in-Index.index) _ _ size (c.in_ok-receiver-in-Index.ensures.names) (c.in_ok-index-in-Index.ensures.fits S k size (omega (arith, h, c.in_ok-value-in-Index.ensures.rises)))) (at_names (fits S c.in_ok-value-in-Index.value) _ _ size (c.in_ok-index-in-Index.ensures.names ∙ c.in_ok-receiver-in-Index.ensures.names) (c.in_ok-value-in-Index.ensures.fits S k size h))
+
+pub node-returns-in_ok-value-in-Attribute-clause-fits : goal.node-returns-in_ok-value-in-Attribute-clause-fits
+node-returns-in_ok-value-in-Attribute-clause-fits t c = λ S k size h. update_attribute_fits S _ size _ _ _ _ _ (c.in_ok-receiver-in-Attribute.ensures.fits S k size (omega (arith, h, c.in_ok-value-in-Attribute.ensures.rises))) (at_names (fits S c.in_ok-value-in-Attribute.value) _ _ size (c.in_ok-receiver-in-Attribute.ensures.names) (c.in_ok-value-in-Attribute.ensures.fits S k size h))
+
+pub node-returns-in_ok-right-in-And-clause-fits : goal.node-returns-in_ok-right-in-And-clause-fits
+node-returns-in_ok-right-in-And-clause-fits t c = λ S k size h. and_fits S _ size _ _ _ (c.in_ok-left-in-And.ensures.fits S k size (omega (arith, h, c.in_ok-right-in-And.ensures.rises))) (at_names (fits S c.in_ok-right-in-And.right) _ _ size (c.in_ok-left-in-And.ensures.names) (c.in_ok-right-in-And.ensures.fits S k size h))
+
+pub node-returns-in_ok-right-in-Or-clause-fits : goal.node-returns-in_ok-right-in-Or-clause-fits
+node-returns-in_ok-right-in-Or-clause-fits t c = λ S k size h. or_fits S _ size _ _ _ (c.in_ok-left-in-Or.ensures.fits S k size (omega (arith, h, c.in_ok-right-in-Or.ensures.rises))) (at_names (fits S c.in_ok-right-in-Or.right) _ _ size (c.in_ok-left-in-Or.ensures.names) (c.in_ok-right-in-Or.ensures.fits S k size h))
+
+pub node-returns-in_ok-value-in-Not-clause-fits : goal.node-returns-in_ok-value-in-Not-clause-fits
+node-returns-in_ok-value-in-Not-clause-fits t c = λ S k size h. not_fits S _ size _ _ (c.in_ok-value-in-Not.ensures.fits S k size h)
+
+pub node-returns-in_ok-second-in-If-clause-fits : goal.node-returns-in_ok-second-in-If-clause-fits
+node-returns-in_ok-second-in-If-clause-fits t c = λ S k size h. if_fits S _ size _ _ _ _ (c.in_ok-condition-in-If.ensures.fits S k size (omega (arith, h, c.in_ok-first-in-If.ensures.rises, c.in_ok-second-in-If.ensures.rises))) (at_names (λ ns z. every (map (fits S) c.in_ok-first-in-If.first) ns z) _ _ size (c.in_ok-condition-in-If.ensures.names) (c.in_ok-first-in-If.ensures.fits S k size (omega (arith, h, c.in_ok-second-in-If.ensures.rises)))) (at_names (λ ns z. every (map (fits S) c.in_ok-second-in-If.second) ns z) _ _ size (c.in_ok-first-in-If.ensures.names ∙ c.in_ok-condition-in-If.ensures.names) (c.in_ok-second-in-If.ensures.fits S k size h))
+
+pub node-returns-in_ok-nodes-in-While-clause-fits : goal.node-returns-in_ok-nodes-in-While-clause-fits
+node-returns-in_ok-nodes-in-While-clause-fits t c = λ S k size h. while_fits S _ size _ _ _ (c.in_ok-condition-in-While.ensures.fits S k size (omega (arith, h, c.in_ok-nodes-in-While.ensures.rises))) (at_names (λ ns z. every (map (fits S) c.in_ok-nodes-in-While.nodes) ns z) _ _ size (c.in_ok-condition-in-While.ensures.names) (c.in_ok-nodes-in-While.ensures.fits S k size h))
+
+pub node-returns-in_ok-value-in-Return-clause-fits : goal.node-returns-in_ok-value-in-Return-clause-fits
+node-returns-in_ok-value-in-Return-clause-fits t c = λ S k size h. return_fits S _ size _ _ (c.in_ok-value-in-Return.ensures.fits S k size h)
+
+pub node-returns-in-Nil-clause-fits : goal.node-returns-in-Nil-clause-fits
+node-returns-in-Nil-clause-fits t c = λ S k size h. fits-nil S _ size _
+
+pub node-returns-in-False-clause-fits : goal.node-returns-in-False-clause-fits
+node-returns-in-False-clause-fits t c = λ S k size h. fits-false S _ size _
+
+pub node-returns-in-True-clause-fits : goal.node-returns-in-True-clause-fits
+node-returns-in-True-clause-fits t c = λ S k size h. fits-true S _ size _
+
+pub node-returns-in-Int-clause-fits : goal.node-returns-in-Int-clause-fits
+node-returns-in-Int-clause-fits t c = λ S k size h. fits-int S _ size _ _
+
+pub node-returns-in-Sym-clause-fits : goal.node-returns-in-Sym-clause-fits
+node-returns-in-Sym-clause-fits t c = λ S k size h. fits-sym S _ size _ _
+
+pub node-returns-in-Break-clause-fits : goal.node-returns-in-Break-clause-fits
+node-returns-in-Break-clause-fits t c = λ S k size h. fits-break S _ size _
+
+pub node-returns-in-Next-clause-fits : goal.node-returns-in-Next-clause-fits
+node-returns-in-Next-clause-fits t c = λ S k size h. fits-next S _ size _
+
+pub node-returns-in_ok-block-in-Call-clause-fits : goal.node-returns-in_ok-block-in-Call-clause-fits
+node-returns-in_ok-block-in-Call-clause-fits t c = IfOk-weaker c.called.result _ _ (λ code is S k size h. is S _ size k (c.in_ok-receiver-in-Call.ensures.fits S k size (omega (arith, h, c.in_ok-args-in-Call.ensures.rises, c.in_ok-block-in-Call.ensures.rises))) (at_names (λ ns z. every (map (fits S) c.in_ok-args-in-Call.args) ns z) _ _ size (c.in_ok-receiver-in-Call.ensures.names) (c.in_ok-args-in-Call.ensures.fits S k size (omega (arith, h, c.in_ok-block-in-Call.ensures.rises)))) (at_names (λ ns z. if_some (option_map (block_fits S) c.in_ok-block-in-Call.block) ns z) _ _ size (c.in_ok-args-in-Call.ensures.names ∙ c.in_ok-receiver-in-Call.ensures.names) (c.in_ok-block-in-Call.ensures.fits S k size h))) c.called.ensures.fits
+
+pub node-returns-in_ok-block-in-Call-clause-erases : goal.node-returns-in_ok-block-in-Call-clause-erases
+node-returns-in_ok-block-in-Call-clause-erases t c =
+    IfOk-weaker c.called.result _ _ (λ code is. is
+    ∙ ap (λ (r : Option Node). tree.Call r c.in-Call.name (map erase c.in_ok-args-in-Call.args) (option_map erase_block c.in_ok-block-in-Call.block) c.in-Call.at) c.in_ok-receiver-in-Call.ensures.erases
+    ∙ ap (λ (ns : List Node). tree.Call c.in-Call.receiver c.in-Call.name ns (option_map erase_block c.in_ok-block-in-Call.block) c.in-Call.at) (c.in_ok-args-in-Call.ensures.erases ∙ c.as_slice-in-Call.ensures)
+    ∙ ap (λ (b : Option Block). tree.Call c.in-Call.receiver c.in-Call.name c.in-Call.args b c.in-Call.at) c.in_ok-block-in-Call.ensures.erases
+    ∙ sym c.in-Call.is) c.called.ensures.erases
+
+pub body-nodes-preserved : goal.body-nodes-preserved
+body-nodes-preserved t c =
+    let inv = c.nodes.invariant in
+    let one = c.in_ok-code in
+    let pushed = c.in_ok-push.ensures.ok in
+    record {
+      erases = map_pushed erase c.nodes.codes c.push.new.self one.code c.args.nodes.now c.source-item.result c.nodes.source-index pushed inv.erases one.ensures.erases c.nodes-test.true c.source-item.is;
+      fits = λ S k size h.
+          every_pushed (fits S) c.nodes.codes c.push.new.self one.code c.args.frame.now.names.items size pushed (inv.fits S k size (omega (arith, h, one.ensures.rises)))
+          (at_names (fits S one.code) _ _ size inv.names (one.ensures.fits S k size h));
+      names = one.ensures.names ∙ inv.names;
+      rises = omega (arith, one.ensures.rises, inv.rises);
+    }
+
+pub body-nodes-init : goal.body-nodes-init
+body-nodes-init t c = record {
+  erases = ap (map erase) c.new-codes.ensures;
+  fits = λ S k size h. ap (λ xs. every (map (fits S) xs) c.args.frame.now.names.items size) c.new-codes.ensures;
+  names = refl;
+  rises = omega arith;
+}
+
+pub body-returns-clause-erases : goal.body-returns-clause-erases
+body-returns-clause-erases t c = c.nodes.invariant.erases ∙ take_all c.nodes.source-index c.args.nodes.now c.nodes-test.false
+
+pub text-pieces-preserved : goal.text-pieces-preserved
+text-pieces-preserved t c =
+    let inv = c.pieces.invariant in
+    let one = c.in_ok-part in
+    let pushed = c.in_ok-push.ensures.ok in
+    record {
+      erases = map_pushed erase_piece c.pieces.parts c.push.new.self one.part c.args.pieces.now c.source-item.result c.pieces.source-index pushed inv.erases one.ensures.erases c.pieces-test.true c.source-item.is;
+      fits = λ S k size h.
+          every_pushed (piece_fits S) c.pieces.parts c.push.new.self one.part c.args.frame.now.names.items size pushed (inv.fits S k size (omega (arith, h, one.ensures.rises)))
+          (at_names (piece_fits S one.part) _ _ size inv.names (one.ensures.fits S k size h));
+      names = one.ensures.names ∙ inv.names;
+      rises = omega (arith, one.ensures.rises, inv.rises);
+    }
+
+pub text-pieces-init : goal.text-pieces-init
+text-pieces-init t c = record {
+  erases = ap (map erase_piece) c.new-parts.ensures;
+  fits = λ S k size h. ap (λ xs. every (map (piece_fits S) xs) c.args.frame.now.names.items size) c.new-parts.ensures;
+  names = refl;
+  rises = omega arith;
+}
+
+pub text-returns-clause-erases : goal.text-returns-clause-erases
+text-returns-clause-erases t c = c.pieces.invariant.erases ∙ take_all c.pieces.source-index c.args.pieces.now c.pieces-test.false
+
+pub boxed-returns-clause-fits : goal.boxed-returns-clause-fits
+boxed-returns-clause-fits t c = λ S k size h. ap (λ x. fits S x c.args.frame.now.names.items size) c.in_ok-new.ensures ∙ c.in_ok-code.ensures.fits S k size h
+
+pub boxed-returns-clause-erases : goal.boxed-returns-clause-erases
+boxed-returns-clause-erases t c = ap erase c.in_ok-new.ensures ∙ c.in_ok-code.ensures.erases
+
+pub piece-returns-in_ok-code-in-Code-clause-fits : goal.piece-returns-in_ok-code-in-Code-clause-fits
+piece-returns-in_ok-code-in-Code-clause-fits t c = λ S k size h. piece_fits-code S c.args.frame.now.names.items size c.in_ok-code-in-Code.code ∙ c.in_ok-code-in-Code.ensures.fits S k size h
+
+pub piece-returns-in_ok-bytes-in-Text-clause-fits : goal.piece-returns-in_ok-bytes-in-Text-clause-fits
+piece-returns-in_ok-bytes-in-Text-clause-fits t c = λ S k size h. piece_fits-text S c.args.frame.now.names.items size c.in_ok-bytes-in-Text.bytes
+
+pub optional-returns-in_ok-code-in-Some-clause-fits : goal.optional-returns-in_ok-code-in-Some-clause-fits
+optional-returns-in_ok-code-in-Some-clause-fits t c = λ S k size h. c.in_ok-code-in-Some.ensures.fits S k size h
+
+pub optional_block-returns-in_ok-code-in-Some-clause-fits : goal.optional_block-returns-in_ok-code-in-Some-clause-fits
+optional_block-returns-in_ok-code-in-Some-clause-fits t c = λ S k size h. c.in_ok-code-in-Some.ensures.fits S k size h
+
+pub block-returns-clause-erases : goal.block-returns-clause-erases
+block-returns-clause-erases t c =
+    let made = c.in_ok-new.ensures in
+    block_of c.in_ok-new.field-0 c.args.source.now (ap (λ (b : CodeBlock). b.params) made ∙ c.in_ok-params.ensures ∙ c.as_slice-2.ensures)
+    (ap (λ (b : CodeBlock). map erase b.body) made ∙ c.in_ok-nodes.ensures.erases ∙ c.as_slice.ensures) (ap (λ (b : CodeBlock). b.at) made)
+
+pub block-returns-clause-fits : goal.block-returns-clause-fits
+block-returns-clause-fits t c = λ S k size h.
+    let made = c.in_ok-new.ensures in
+    let names = c.args.frame.now.names.items in
+    let block = c.in_ok-new.field-0 in
+    let own = c.of_block.ensures ∙ k.blocks c.args.source.now.at ∙ sym (ap (λ (b : CodeBlock). S.block_names b.at) made) in
+    let room : length names + length (S.block_names block.at) ≤ size = omega (arith, ap length own, c.in_ok-from.ensures.room, c.in_ok-nodes.ensures.rises, c.leave.ensures.size, h) in
+    block_is_right S names size block (ap (λ (b : CodeBlock). b.from) made ∙ c.in_ok-from.ensures.from) (ap (λ (b : CodeBlock). b.count) made ∙ c.in_ok-from.ensures.count ∙ ap length own) room
+    (ap (λ (b : CodeBlock). every (map (fits S) b.body) (names ++ S.block_names block.at) size) made
+    ∙ at_names (λ ns z. every (map (fits S) c.in_ok-nodes.nodes) ns z) (names ++ S.block_names block.at) _ size (c.in_ok-from.ensures.names ∙ ap (λ ns. names ++ ns) own)
+    (c.in_ok-nodes.ensures.fits S k size (omega (arith, c.leave.ensures.size, h))))
+
+pub block-returns-clause-names : goal.block-returns-clause-names
+block-returns-clause-names t c =
+    names_left c.args.frame.now.names.items c.of_block.result.now c.body.new.frame.names.items c.leave.new.self.names.items c.in_ok-from.from c.in_ok-from.ensures.from
+    (c.in_ok-nodes.ensures.names ∙ c.in_ok-from.ensures.names) c.leave.ensures.names

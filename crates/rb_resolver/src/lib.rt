@@ -1,0 +1,14 @@
+//! The resolver: makes of a program the resolved tree that stands for it.
+#![tactic(auto)]
+
+mod calls;
+mod fault;
+mod frame;
+mod known;
+mod nodes;
+mod script;
+#[cfg(test)]
+mod tests;
+
+pub use fault::ResolveFault;
+pub use script::resolve;

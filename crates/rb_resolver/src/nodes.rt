@@ -1,0 +1,304 @@
+// The resolved nodes of a tree.
+
+ghost use Rattle.std.specs.Prelude.{◌≡◌, ◌≤◌, ℕ, true, map, IfOk, OnOk};
+ghost use Rattle.std.specs.Option.{option_map};
+ghost use Rattle.rb_code.specs.Erase.{erase, erase_piece, erase_block};
+ghost use Rattle.rb_code.specs.Resolved.{every, if_some, fits, piece_fits, block_fits, body_fits};
+ghost use Rattle.rb_machine.specs.Scopes.{Script};
+ghost use Rattle.rb_resolver.specs.Known as spec;
+
+use crate::calls::called;
+use crate::fault::ResolveFault;
+use crate::frame::Frame;
+use crate::known::Known;
+use rb_code::{Code, CodeBlock, CodePiece};
+use rb_tree::{Block, Boxed, Items, Names, Node, Piece, Target};
+
+/// Resolves a node.
+#[cycle(resolving)]
+#[tactic(auto, using(crate::proofs::Layers::erasing))]
+fn node(
+    known: &Known,
+    names: &Names,
+    source: &Node,
+    frame: &mut Frame,
+) -> Result<Code, ResolveFault>
+    ensures erases { IfOk result (λ code. erase code ≡ source.now) }
+    ensures fits { IfOk result (λ code. (S : Script) → spec.IsKnown known.now names.now S → (size : ℕ) → frame.new.size ≤ size → fits S code frame.old.names.items size ≡ true) }
+    ensures names { OnOk result (frame.new.names.items ≡ frame.old.names.items) }
+    ensures rises { frame.old.size ≤ frame.new.size }
+{
+    match source {
+        Node::Nil(at) => Ok(Code::Nil(*at)),
+        Node::False(at) => Ok(Code::False(*at)),
+        Node::True(at) => Ok(Code::True(*at)),
+        Node::Int(n, at) => Ok(Code::Int(*n, *at)),
+        Node::Sym(name, at) => Ok(Code::Sym(*name, *at)),
+        Node::Str(pieces, at) => {
+            let pieces = text(known, names, pieces.as_slice(), frame)?;
+            Ok(Code::Str(pieces, *at))
+        }
+        Node::Local(name, at) => {
+            let slot = frame.slot(*name, *at)?;
+            Ok(Code::Local(slot, *name, *at))
+        }
+        Node::SetLocal(name, value, at) => {
+            let slot = frame.slot(*name, *at)?;
+            let value = boxed(known, names, value.get(), frame)?;
+            Ok(Code::SetLocal(slot, *name, value, *at))
+        }
+        Node::Store {
+            receiver,
+            name,
+            args,
+            at,
+        } => {
+            let receiver = boxed(known, names, receiver.get(), frame)?;
+            let args = body(known, names, args.as_slice(), frame)?;
+            Ok(Code::Store(receiver, *name, args, *at))
+        }
+        Node::OpAssign {
+            target,
+            op,
+            value,
+            at,
+        } => match target {
+            Target::Local(name) => {
+                let slot = frame.slot(*name, *at)?;
+                let value = boxed(known, names, value.get(), frame)?;
+                Ok(Code::UpdateLocal(slot, *name, *op, value, *at))
+            }
+            Target::Index(receiver, index) => {
+                let receiver = boxed(known, names, receiver.get(), frame)?;
+                let index = boxed(known, names, index.get(), frame)?;
+                let value = boxed(known, names, value.get(), frame)?;
+                Ok(Code::UpdateElement(receiver, index, *op, value, *at))
+            }
+            Target::Attribute(receiver, name) => {
+                let receiver = boxed(known, names, receiver.get(), frame)?;
+                let value = boxed(known, names, value.get(), frame)?;
+                Ok(Code::UpdateAttribute(receiver, *name, *op, value, *at))
+            }
+            Target::Field(_) | Target::Global(_) => Err(ResolveFault::NotBuilt(*at)),
+        },
+        Node::Call {
+            receiver,
+            name,
+            args,
+            block,
+            at,
+        } => {
+            let receiver = optional(known, names, receiver, frame)?;
+            let args = body(known, names, args.as_slice(), frame)?;
+            let block = optional_block(known, names, block, frame)?;
+            called(known, names, receiver, *name, args, block, *at)
+        }
+        Node::And(left, right, at) => {
+            let left = boxed(known, names, left.get(), frame)?;
+            let right = boxed(known, names, right.get(), frame)?;
+            Ok(Code::And(left, right, *at))
+        }
+        Node::Or(left, right, at) => {
+            let left = boxed(known, names, left.get(), frame)?;
+            let right = boxed(known, names, right.get(), frame)?;
+            Ok(Code::Or(left, right, *at))
+        }
+        Node::Not(value, at) => {
+            let value = boxed(known, names, value.get(), frame)?;
+            Ok(Code::Not(value, *at))
+        }
+        Node::If(condition, first, second, at) => {
+            let condition = boxed(known, names, condition.get(), frame)?;
+            let first = body(known, names, first.as_slice(), frame)?;
+            let second = body(known, names, second.as_slice(), frame)?;
+            Ok(Code::If(condition, first, second, *at))
+        }
+        Node::While(condition, nodes, at) => {
+            let condition = boxed(known, names, condition.get(), frame)?;
+            let nodes = body(known, names, nodes.as_slice(), frame)?;
+            Ok(Code::While(condition, nodes, *at))
+        }
+        Node::Return(value, at) => {
+            let value = optional(known, names, value, frame)?;
+            Ok(Code::Return(value, *at))
+        }
+        Node::Break(at) => Ok(Code::Break(*at)),
+        Node::Next(at) => Ok(Code::Next(*at)),
+        Node::SelfRef(at)
+        | Node::Array(_, at)
+        | Node::Hash(_, at)
+        | Node::Field(_, at)
+        | Node::Global(_, at)
+        | Node::SetField(_, _, at)
+        | Node::SetGlobal(_, _, at)
+        | Node::New { at, .. }
+        | Node::ThreadNew { at, .. } => Err(ResolveFault::NotBuilt(*at)),
+    }
+}
+
+/// Resolves a node that stands in another.
+#[cycle(resolving)]
+#[tactic(auto, using(crate::proofs::Layers::erasing))]
+fn boxed(
+    known: &Known,
+    names: &Names,
+    source: &Node,
+    frame: &mut Frame,
+) -> Result<Boxed<Code>, ResolveFault>
+    ensures erases { IfOk result (λ code. erase code ≡ source.now) }
+    ensures fits { IfOk result (λ code. (S : Script) → spec.IsKnown known.now names.now S → (size : ℕ) → frame.new.size ≤ size → fits S code frame.old.names.items size ≡ true) }
+    ensures names { OnOk result (frame.new.names.items ≡ frame.old.names.items) }
+    ensures rises { frame.old.size ≤ frame.new.size }
+{
+    let code = node(known, names, source, frame)?;
+    Ok(Boxed::new(known.alloc, code)?)
+}
+
+/// Resolves a node that may be there.
+#[cycle(resolving)]
+#[tactic(auto, using(crate::proofs::Layers::erasing))]
+fn optional(
+    known: &Known,
+    names: &Names,
+    source: &Option<Boxed<Node>>,
+    frame: &mut Frame,
+) -> Result<Option<Boxed<Code>>, ResolveFault>
+    ensures erases { IfOk result (λ code. option_map erase code ≡ source.now) }
+    ensures fits { IfOk result (λ code. (S : Script) → spec.IsKnown known.now names.now S → (size : ℕ) → frame.new.size ≤ size → if_some (option_map (fits S) code) frame.old.names.items size ≡ true) }
+    ensures names { OnOk result (frame.new.names.items ≡ frame.old.names.items) }
+    ensures rises { frame.old.size ≤ frame.new.size }
+{
+    match source {
+        None => Ok(None),
+        Some(source) => {
+            let code = boxed(known, names, source.get(), frame)?;
+            Ok(Some(code))
+        }
+    }
+}
+
+/// Resolves nodes, one behind the other.
+#[cycle(resolving)]
+#[tactic(auto, using(crate::proofs::Layers::erasing))]
+pub(crate) fn body(
+    known: &Known,
+    names: &Names,
+    nodes: &[Node],
+    frame: &mut Frame,
+) -> Result<Items<Code>, ResolveFault>
+    ensures erases { IfOk result (λ codes. map erase codes ≡ nodes.now) }
+    ensures fits { IfOk result (λ codes. (S : Script) → spec.IsKnown known.now names.now S → (size : ℕ) → frame.new.size ≤ size → body_fits S codes frame.old.names.items size ≡ true) }
+    ensures names { OnOk result (frame.new.names.items ≡ frame.old.names.items) }
+    ensures rises { frame.old.size ≤ frame.new.size }
+{
+    let mut codes = Items::new(known.alloc);
+    'nodes: for source in nodes {
+        let code = node(known, names, source, frame)?;
+        codes.push(code)?;
+    }
+    Ok(codes)
+}
+
+/// Resolves a piece of a text.
+#[cycle(resolving)]
+#[tactic(auto, using(crate::proofs::Layers::erasing))]
+fn piece(
+    known: &Known,
+    names: &Names,
+    source: &Piece,
+    frame: &mut Frame,
+) -> Result<CodePiece, ResolveFault>
+    ensures erases { IfOk result (λ part. erase_piece part ≡ source.now) }
+    ensures fits { IfOk result (λ part. (S : Script) → spec.IsKnown known.now names.now S → (size : ℕ) → frame.new.size ≤ size → piece_fits S part frame.old.names.items size ≡ true) }
+    ensures names { OnOk result (frame.new.names.items ≡ frame.old.names.items) }
+    ensures rises { frame.old.size ≤ frame.new.size }
+{
+    match source {
+        Piece::Text(bytes) => {
+            let bytes = Items::from_slice(known.alloc, bytes.as_slice())?;
+            Ok(CodePiece::Text(bytes))
+        }
+        Piece::Code(source) => {
+            let code = node(known, names, source, frame)?;
+            Ok(CodePiece::Code(code))
+        }
+    }
+}
+
+/// Resolves the pieces of a text.
+#[cycle(resolving)]
+#[tactic(auto, using(crate::proofs::Layers::erasing))]
+fn text(
+    known: &Known,
+    names: &Names,
+    pieces: &[Piece],
+    frame: &mut Frame,
+) -> Result<Items<CodePiece>, ResolveFault>
+    ensures erases { IfOk result (λ parts. map erase_piece parts ≡ pieces.now) }
+    ensures fits { IfOk result (λ parts. (S : Script) → spec.IsKnown known.now names.now S → (size : ℕ) → frame.new.size ≤ size → every (map (piece_fits S) parts) frame.old.names.items size ≡ true) }
+    ensures names { OnOk result (frame.new.names.items ≡ frame.old.names.items) }
+    ensures rises { frame.old.size ≤ frame.new.size }
+{
+    let mut parts = Items::new(known.alloc);
+    'pieces: for source in pieces {
+        let part = piece(known, names, source, frame)?;
+        parts.push(part)?;
+    }
+    Ok(parts)
+}
+
+/// Resolves a block, whose own names lie behind those in scope.
+#[cycle(resolving)]
+#[tactic(auto, using(crate::proofs::Layers::erasing))]
+fn block(
+    known: &Known,
+    names: &Names,
+    source: &Block,
+    frame: &mut Frame,
+) -> Result<Boxed<CodeBlock>, ResolveFault>
+    ensures erases { IfOk result (λ block. erase_block block ≡ source.now) }
+    ensures fits { IfOk result (λ block. (S : Script) → spec.IsKnown known.now names.now S → (size : ℕ) → frame.new.size ≤ size → block_fits S block frame.old.names.items size ≡ true) }
+    ensures names { OnOk result (frame.new.names.items ≡ frame.old.names.items) }
+    ensures rises { frame.old.size ≤ frame.new.size }
+{
+    let Block {
+        params,
+        body: nodes,
+        at,
+    } = source;
+    let (from, count) = frame.enter(known.scopes.of_block(*at))?;
+    let nodes = body(known, names, nodes.as_slice(), frame)?;
+    frame.leave(from);
+    let params = Items::from_slice(known.alloc, params.as_slice())?;
+    let code = CodeBlock {
+        params,
+        from,
+        count,
+        body: nodes,
+        at: *at,
+    };
+    Ok(Boxed::new(known.alloc, code)?)
+}
+
+/// Resolves a block that may be there.
+#[cycle(resolving)]
+#[tactic(auto, using(crate::proofs::Layers::erasing))]
+fn optional_block(
+    known: &Known,
+    names: &Names,
+    source: &Option<Boxed<Block>>,
+    frame: &mut Frame,
+) -> Result<Option<Boxed<CodeBlock>>, ResolveFault>
+    ensures erases { IfOk result (λ code. option_map erase_block code ≡ source.now) }
+    ensures fits { IfOk result (λ code. (S : Script) → spec.IsKnown known.now names.now S → (size : ℕ) → frame.new.size ≤ size → if_some (option_map (block_fits S) code) frame.old.names.items size ≡ true) }
+    ensures names { OnOk result (frame.new.names.items ≡ frame.old.names.items) }
+    ensures rises { frame.old.size ≤ frame.new.size }
+{
+    match source {
+        None => Ok(None),
+        Some(source) => {
+            let code = block(known, names, source.get(), frame)?;
+            Ok(Some(code))
+        }
+    }
+}

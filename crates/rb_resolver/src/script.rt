@@ -1,0 +1,118 @@
+// The resolved script of a program.
+
+ghost use Rattle.std.specs.Prelude.{◌≡◌, ◌≤◌, ℕ, true, length, map, IfOk};
+ghost use Rattle.std.specs.List.{list_all};
+ghost use Rattle.rb_code.specs.Erase.{erase, erase_method};
+ghost use Rattle.rb_code.specs.Resolved.{body_fits, method_fits};
+ghost use Rattle.rb_code.specs.Stands.{StandsFor};
+ghost use Rattle.rb_machine.specs.Scopes.{Script};
+ghost use Rattle.rb_resolver.specs.Known as spec;
+ghost use Rattle.rb_resolver.specs.Names.{script_of};
+
+use crate::fault::ResolveFault;
+use crate::frame::Frame;
+use crate::known::{Known, numbers_of};
+use crate::nodes::body;
+use rb_checker::names_of_scopes;
+use rb_code::{Code, CodeMethod, CodeScript};
+use rb_tree::{Items, Method, NameId, Names, Node, Program};
+use std::alloc::Global;
+
+/// Resolves the statements of a text whose own names are these. Answers the size of its frame too, which is at least this.
+fn text(
+    known: &Known,
+    names: &Names,
+    own: &[NameId],
+    nodes: &[Node],
+    least: usize,
+) -> Result<(Items<Code>, u32), ResolveFault>
+    ensures erases { IfOk result (λ it. map erase it.0 ≡ nodes.now) }
+    ensures fits { IfOk result (λ it. (S : Script) → spec.IsKnown known.now names.now S → body_fits S it.0 own.now it.1 ≡ true) }
+    ensures room { IfOk result (λ it. length own.now ≤ it.1) }
+    ensures least { IfOk result (λ it. least ≤ it.1) }
+{
+    let mut frame = Frame {
+        names: Vec::from_slice(known.alloc, own)?,
+        size: own.len().max(least),
+    };
+    let codes = body(known, names, nodes, &mut frame)?;
+    let Ok(size) = u32::try_from(frame.size) else {
+        return Err(ResolveFault::Memory);
+    };
+    Ok((codes, size))
+}
+
+/// Resolves a method whose names are these.
+fn method(
+    known: &Known,
+    names: &Names,
+    own: &[NameId],
+    source: &Method,
+) -> Result<CodeMethod, ResolveFault>
+    ensures erases { IfOk result (λ method. erase_method method ≡ source.now) }
+    ensures fits { IfOk result (λ method. (S : Script) → spec.IsKnown known.now names.now S → S.method_names source.now ≡ own.now → method_fits S method ≡ true) }
+{
+    let Method {
+        name,
+        params,
+        body: nodes,
+        at,
+    } = source;
+    let (codes, size) = text(known, names, own, nodes.as_slice(), params.len())?;
+    let params = Items::from_slice(known.alloc, params.as_slice())?;
+    Ok(CodeMethod {
+        name: *name,
+        params,
+        size,
+        body: codes,
+        at: *at,
+    })
+}
+
+/// Resolves methods, whose names are given in their order.
+fn methods(
+    known: &Known,
+    names: &Names,
+    own: &[Items<NameId>],
+    sources: &[Method],
+) -> Result<Items<CodeMethod>, ResolveFault>
+    requires { length own.now ≡ length sources.now }
+    ensures erases { IfOk result (λ methods. map erase_method methods ≡ sources.now) }
+    ensures fits { IfOk result (λ methods. (S : Script) → spec.IsKnown known.now names.now S → own.now ≡ map S.method_names sources.now → list_all (method_fits S) methods ≡ true) }
+{
+    let mut codes = Items::new(known.alloc);
+    'methods: for (i, source) in sources.iter().enumerate() {
+        let code = method(known, names, own[i].as_slice(), source)?;
+        codes.push(code)?;
+    }
+    Ok(codes)
+}
+
+/// Resolves a program. What comes stands for that very program, whose locals lie in the scopes that its text gives them.
+///
+/// # Errors
+/// `NotBuilt` with the place of something that has no code yet; `Memory`.
+pub fn resolve(alloc: Global, program: &Program) -> Result<CodeScript, ResolveFault>
+    ensures { IfOk result (λ script. StandsFor script (script_of program.now)) }
+{
+    if let [first, ..] = program.classes.as_slice() {
+        return Err(ResolveFault::NotBuilt(first.at));
+    }
+    let scopes = names_of_scopes(alloc, program)?;
+    let functions = numbers_of(alloc, program.functions.as_slice())?;
+    let known = Known {
+        alloc,
+        functions,
+        scopes,
+    };
+    let names = &program.names;
+    let own = known.scopes.functions.as_slice();
+    let functions = methods(&known, names, own, program.functions.as_slice())?;
+    let own = known.scopes.main.as_slice();
+    let (main, main_size) = text(&known, names, own, program.main.as_slice(), 0)?;
+    Ok(CodeScript {
+        functions,
+        main,
+        main_size,
+    })
+}
