@@ -10,7 +10,6 @@ use Rattle.rb_tree.specs.declared.span.Span.{Span}
 use Rattle.rb_tree.specs.declared.span.NameId.{NameId}
 use Rattle.rb_tree.specs.declared.node.Method.{Method}
 use Rattle.rb_tree.specs.declared.node.Program.{Program}
-use Rattle.rb_checker.specs.declared.event.Event.{Event}
 use Rattle.rb_checker.specs.declared.locals.Local.{Local}
 use Rattle.rb_checker.specs.Check.{method_events, texts}
 use Rattle.rb_checker.specs.Events.{events_in, bodies_from}

@@ -84,11 +84,7 @@ fn own_names(alloc: Global, made: &[Local]) -> Result<Items<NameId>, AllocError>
 }
 
 /// Takes the names of a place out of a table.
-fn take_names(
-    alloc: Global,
-    blocks: &mut HashMap<u32, Items<NameId>>,
-    from: u32,
-) -> Items<NameId>
+fn take_names(alloc: Global, blocks: &mut HashMap<u32, Items<NameId>>, from: u32) -> Items<NameId>
     ensures names { result ≡ spec.names_at blocks.old from }
     ensures others { (place : ℕ) → spec.names_at blocks.new place ≡ (if from == place then [] else spec.names_at blocks.old place) }
 {
@@ -137,10 +133,7 @@ fn add_to_block(
 }
 
 /// The names of these locals in the scopes of blocks, by their places.
-fn names_of_blocks(
-    alloc: Global,
-    made: &[Local],
-) -> Result<HashMap<u32, Items<NameId>>, AllocError>
+fn names_of_blocks(alloc: Global, made: &[Local]) -> Result<HashMap<u32, Items<NameId>>, AllocError>
     ensures { IfOk result (λ blocks. (place : ℕ) → spec.names_at blocks place ≡ spec.names_behind [] (Some place) made.now) }
 {
     let mut known = HashSet::new(alloc);

@@ -1,4 +1,4 @@
-use Rattle.std.proofs.Common.{ap, [], Some, take, unwrap_or, ◌+◌, ◌∙◌}
+use Rattle.std.proofs.Common.{ap, [], Some, take, ◌+◌, ◌∙◌}
 use Rattle.std.specs.List.{list_any}
 use Rattle.std.proofs.lemmas.List.{take_more, take_all}
 use Rattle.rb_checker.specs.Locals.{same_local}
