@@ -98,11 +98,11 @@ module _ (S : Script) where
   abbrev pub body_fits : List Code → Fits
   body_fits body = every (map fits body)
 
-  -- a method's frame has a slot for each of its names, and its body is right in it
+  -- a method's frame has a slot for each of its parameters and its names, and its body is right in it
   abbrev pub method_fits : CodeMethod → Bool
   method_fits m =
       let names = S.method_names (erase_method m) in
-      nat_le (length names) m.size && body_fits m.body names m.size
+      nat_le (length m.params) m.size && (nat_le (length names) m.size && body_fits m.body names m.size)
 
   abbrev pub script_fits : CodeScript → Bool
   script_fits c = list_all method_fits c.functions && (nat_le (length S.main_names) c.main_size && body_fits c.main S.main_names c.main_size)

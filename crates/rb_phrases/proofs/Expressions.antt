@@ -18,7 +18,7 @@ use Rattle.rb_cursor.specs.declared.fault.ParseFault.{ParseFault}
 use Rattle.rb_cursor.specs.declared.fault.ParseFault.TheVariants as fault
 use Rattle.rb_cursor.specs.State.{State, answer_at, Reached, Failed, memory, Came, Took, Missed, any_token}
 use Rattle.rb_cursor.specs.Here.{at_rule}
-use Rattle.rb_cursor.proofs.Steps.{carry, follows_from, Follows, Leads, stops, first_token, second_token, where_it_stood, at_phrase, scope_changed, phrase_last, by_rule, touching_yes, touching_no, second_begins, look_meets, look_fails, fails, leads_to, arrives, to_first_token}
+use Rattle.rb_cursor.proofs.Steps.{carry, follows_from, Follows, Leads, stops, first_token, second_token, where_it_stood, at_phrase, scope_changed, phrase_last, by_rule, touching_yes, touching_no, second_begins, look_meets, look_fails, fails, leads_to, arrives, to_first_token, holds}
 use Rattle.rb_builder.specs.Walk.{Walk}
 use Rattle.rb_builder.specs.Grown.{IsTree, Builds}
 use Rattle.rb_builder.specs.declared.grown.Grown.{Grown}
@@ -28,9 +28,10 @@ use Rattle.rb_builder.specs.declared.operand.Operand.TheVariants as code_operand
 use Rattle.rb_builder.specs.declared.operand.Head as code_head
 use Rattle.rb_builder.specs.declared.operand.Part as code_part
 use Rattle.rb_builder.specs.declared.operand.Part.TheVariants as part
-use Rattle.rb_steps.specs.Tier.{is_unary, joins_once}
+use Rattle.rb_steps.specs.Tier.{is_unary, joins_once, is_within}
+use Rattle.rb_steps.proofs.Within.{none_of_tier, none_of_tighter}
 use Rattle.rb_phrases.specs.Parts.{Unassigned}
-use Rattle.rb_phrases.proofs.Ends.{over_phrase, finishes}
+use Rattle.rb_phrases.proofs.Ends.{over_phrase, finishes, reached_at}
 use Rattle.rb_phrases.proofs.Forms.{rest_of, behind, breaks, operand_splits, joined_splits}
 
 -- ---- phrases that are the last of a rule
@@ -211,6 +212,51 @@ module _ {A B : Type 0} {Is : B → A → Type 0} {levels : ℕ} {s new : State}
   pub looks_missed : {test : Test} {r : Rule A} {e : ParseFault} → Missed any_token s e → Follows Is levels (look_at.look test r) s new (Err e)
   looks_missed {test = test} {r = r} h =
       record { came = subst (λ f. Failed (at_rule levels (look_at.look test r) s) f) (sym h.told) (look_fails levels test r s (none_follows test s.rest h.fails)) }
+
+-- ---- chains of one operand
+
+-- what goes from the next tighter tier to a tier holds of each, if it holds of the tightest
+by_tiers : (Q : p.Tier → Type 0) → Q p.unary_tier → ((tier : p.Tier) → is_unary tier ≡ false → Q (tighter tier) → Q tier) → (tier : p.Tier) → Q tier
+by_tiers Q base step p.unary_tier = base
+by_tiers Q base step p.product_tier = step p.product_tier refl base
+by_tiers Q base step p.sum_tier = step p.sum_tier refl (step p.product_tier refl base)
+by_tiers Q base step p.shift_tier = step p.shift_tier refl (step p.sum_tier refl (step p.product_tier refl base))
+by_tiers Q base step p.less_tier = step p.less_tier refl (step p.shift_tier refl (step p.sum_tier refl (step p.product_tier refl base)))
+by_tiers Q base step p.equal_tier =
+    step p.equal_tier refl (step p.less_tier refl (step p.shift_tier refl (step p.sum_tier refl (step p.product_tier refl base))))
+by_tiers Q base step p.and_tier =
+    step p.and_tier refl (step p.equal_tier refl (step p.less_tier refl (step p.shift_tier refl (step p.sum_tier refl (step p.product_tier refl base)))))
+by_tiers Q base step p.or_tier =
+    step p.or_tier refl
+    (step p.and_tier refl (step p.equal_tier refl (step p.less_tier refl (step p.shift_tier refl (step p.sum_tier refl (step p.product_tier refl base))))))
+
+-- an operand that cannot be read fails the chain
+pub lone_fails : (levels : ℕ) (d : Bool) (s : State) (e : ParseFault) → Failed (answer_at levels (p.unary d) s) e → (tier : p.Tier) → Failed (answer_at levels (p.chain d tier) s) e
+lone_fails levels d s e failed =
+    by_tiers (λ tier. Failed (answer_at levels (p.chain d tier) s) e)
+    (chain_unary {B = Unit {0}} (λ b a. Unit {0}) levels d p.unary_tier s s (Err e) refl failed)
+    (λ tier not_unary before. at_chain {B = Unit {0}} (λ b a. Unit {0}) levels d tier s s (Err e) not_unary (fails before))
+
+none_then : (b x y : Bool) → (x ≡ false → y ≡ false) → (b && x) ≡ false → (b && y) ≡ false
+none_then true x y h none = h none
+none_then false x y h none = refl
+
+-- the reader comes to the operand at the chain of a tier, where no operator of it or of a tighter one stands behind
+abbrev Lone : Walk → ℕ → Bool → State → State → code_part.Part → p.Tier → Type 0
+Lone w levels d s s1 c tier = (not (is_head c) && next_meets (is_within tier) s1.rest) ≡ false → Reached (IsPart w) s1 (answer_at levels (p.chain d tier) s) c
+
+lone_step : (w : Walk) (levels : ℕ) (d : Bool) (s s1 : State) (c : code_part.Part) (tier : p.Tier) → is_unary tier ≡ false → Lone w levels d s s1 c (tighter tier) → Lone w levels d s s1 c tier
+unfolding rule
+lone_step w levels d s s1 c tier not_unary before none =
+    let found = before (none_then (not (is_head c)) (next_meets (is_within tier) s1.rest) (next_meets (is_within (tighter tier)) s1.rest) (none_of_tighter tier s1.rest) none) in
+    let none_here = none_then (not (is_head c)) (next_meets (is_within tier) s1.rest) (next_meets (one_of (operators tier)) s1.rest) (none_of_tier tier s1.rest) none in
+    at_chain (IsPart w) levels d tier s s1 (Ok c) not_unary
+    (holds found (ends_in levels (p.chain_rest d tier found.value) (reached_at levels (p.chain_rest d tier found.value) (rest_stops (one_of (operators tier)) _ (no_operator_ends tier) found.same none_here refl))))
+
+pub lone : (w : Walk) (levels : ℕ) (d : Bool) (s s1 : State) (c : code_part.Part) → Reached (IsPart w) s1 (answer_at levels (p.unary d) s) c → (tier : p.Tier)
+    → (not (is_head c) && next_meets (is_within tier) s1.rest) ≡ false → Reached (IsPart w) s1 (answer_at levels (p.chain d tier) s) c
+lone w levels d s s1 c found tier =
+    by_tiers (Lone w levels d s s1 c) (λ none. chain_unary (IsPart w) levels d p.unary_tier s s1 (Ok c) refl found) (lone_step w levels d s s1 c) tier
 
 -- ---- chains, in steps
 

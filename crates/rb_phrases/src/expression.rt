@@ -1,15 +1,17 @@
 // Expressions: commands, assignments, choices between two and chains of operators.
 
-ghost use Rattle.std.specs.Prelude.{◌≡◌};
+ghost use Rattle.std.specs.Prelude.{◌≡◌, ◌≤◌, length, OnOk};
 ghost use Rattle.rb_grammar.specs.Phrase as p;
-ghost use Rattle.rb_cursor.specs.State.{Came, answer_at};
+ghost use Rattle.rb_cursor.specs.State.{State, Came, Reached, answer_at};
 ghost use Rattle.rb_builder.specs.Builder.{walk_of};
 ghost use Rattle.rb_builder.specs.Grown.{IsTree, IsRow};
 ghost use Rattle.rb_builder.specs.Operand.{IsPart};
 ghost use Rattle.rb_steps.specs.Tier.{tier_by};
 ghost use Rattle.rb_phrases.specs.Parts.{ArePair};
 
-use crate::operand::{Behind, as_value, assignment_behind, operator_behind, question_behind};
+use crate::operand::{
+    Behind, as_value, assignment_behind, goes_on, operator_behind, question_behind,
+};
 use crate::parser::Parser;
 use rb_builder::{Grown, Part, Row};
 use rb_cursor::{Class, Cursor, ParseFault};
@@ -120,10 +122,30 @@ impl<'n> Parser<'n> {
     ) -> Result<Part<'t>, ParseFault>
         ensures { Came (IsPart (walk_of self.entry.make)) cursor.new (answer_at self.entry.levels (p.chain takes_do (tier_by tier)) cursor.old) result }
     {
+        let first = self.unary(cursor, takes_do)?;
+        if !goes_on(cursor, &first, tier) {
+            return Ok(first);
+        }
+        self.chained(cursor, takes_do, first, tier)
+    }
+
+    /// A chain of a tier from behind its first operand on: first what the tighter tiers make of that operand, then the
+    /// operators of the tier.
+    #[cycle(phrases)]
+    fn chained<'t>(
+        self,
+        cursor: &mut Cursor<'t>,
+        takes_do: bool,
+        first: Part<'t>,
+        tier: Tier,
+    ) -> Result<Part<'t>, ParseFault>
+        ensures came { (s : State) → Reached (IsPart (walk_of self.entry.make)) cursor.old (answer_at self.entry.levels (p.unary takes_do) s) first.entry → Came (IsPart (walk_of self.entry.make)) cursor.new (answer_at self.entry.levels (p.chain takes_do (tier_by tier)) s) result }
+        ensures shorter { OnOk result (length cursor.new.rest ≤ length cursor.old.rest) }
+    {
         let Some(tighter) = tier.tighter() else {
-            return self.unary(cursor, takes_do);
+            return Ok(first);
         };
-        let mut part = self.chain(cursor, takes_do, tighter)?;
+        let mut part = self.chained(cursor, takes_do, first, tighter)?;
         'operators: while let Some(token) = operator_behind(cursor, &part, tier) {
             let left = self.operand(cursor, part)?;
             let next = self.chain(cursor, takes_do, tighter)?;

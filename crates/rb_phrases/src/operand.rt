@@ -13,14 +13,16 @@ ghost use Rattle.rb_builder.specs.Builder.{walk_of};
 ghost use Rattle.rb_builder.specs.Walk.{Walk};
 ghost use Rattle.rb_builder.specs.Grown.{IsTree, Builds};
 ghost use Rattle.rb_builder.specs.Operand.{IsPart, IsTarget, is_head};
-ghost use Rattle.rb_steps.specs.Tier.{tier_by};
+ghost use Rattle.rb_steps.specs.Tier.{tier_by, is_within};
 ghost use Rattle.rb_phrases.specs.Parts.{Makes, WentBehind};
 
 use crate::parser::Parser;
 use rb_builder::{Grown, Part, Target};
 use rb_cursor::{Class, Cursor, ParseFault, class_of};
 use rb_lexer::Token;
-use rb_steps::{Tier, accept_operator, is_assignment_mark, operator_of, operator_word};
+use rb_steps::{
+    Tier, accept_operator, is_assignment_mark, operator_follows, operator_of, operator_word,
+};
 use rb_tree::Span;
 
 /// What stands behind an operand that may be the target of an assignment.
@@ -80,6 +82,13 @@ pub(crate) fn question_behind<'t>(cursor: &mut Cursor<'t>, part: &Part<'t>) -> O
         return None;
     }
     cursor.accept(Class::Question)
+}
+
+/// Whether an operator of a tier, or of a tighter one, stands behind what may be its left side.
+pub(crate) fn goes_on(cursor: &Cursor<'_>, part: &Part<'_>, tier: Tier) -> bool
+    ensures { result ≡ (not (is_head part.now) && next_meets (is_within (tier_by tier)) cursor.now.rest) }
+{
+    !part.is_head() && operator_follows(cursor, tier)
 }
 
 /// Takes an operator of a tier behind what may be its left side.

@@ -1,3 +1,4 @@
 pub mod Skipping
 pub mod Choosing
 pub mod Parameters
+pub mod Within

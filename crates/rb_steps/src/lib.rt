@@ -15,7 +15,7 @@ pub use beginning::{Beginning, beginning_of};
 pub use lines::{skip_lines, take_then};
 pub use names::{integer_of, is_thread, takes_block, word_of};
 pub use nesting::open_at;
-pub use operator::{Tier, accept_operator, operator_of, operator_word};
+pub use operator::{Tier, accept_operator, operator_follows, operator_of, operator_word};
 pub use params::{MethodHead, begin_block, begin_method, symbols};
 pub use sets::{
     accept_allowed, accept_glued, accept_modifier, closing, expect_choice, expect_class,

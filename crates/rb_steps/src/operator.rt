@@ -8,7 +8,7 @@ ghost use Rattle.rb_grammar.specs.Grammar.{operators, tighter};
 ghost use Rattle.rb_grammar.specs.Rule.{next_meets};
 ghost use Rattle.rb_cursor.specs.Class.{class_by};
 ghost use Rattle.rb_cursor.specs.State.{Took};
-ghost use Rattle.rb_steps.specs.Tier.{tier_by, rank_of, is_unary, joins_once};
+ghost use Rattle.rb_steps.specs.Tier.{tier_by, rank_of, is_unary, joins_once, tier_of, rank, is_within};
 
 use rb_cursor::{Class, Cursor, Word};
 use rb_lexer::Token;
@@ -72,6 +72,38 @@ fn is_operator(cursor: &Cursor<'_>, tier: Tier) -> bool
     }
 }
 
+/// The tier of the operators of a class. What is no operator has the tightest.
+fn tier_of(class: Class) -> Tier
+    ensures { tier_by result ≡ tier_of (class_by class) }
+{
+    match class {
+        Class::OrOr => Tier::Or,
+        Class::AndAnd => Tier::And,
+        Class::Equal => Tier::Equal,
+        Class::NotEqual => Tier::Equal,
+        Class::Less => Tier::Less,
+        Class::LessEqual => Tier::Less,
+        Class::Greater => Tier::Less,
+        Class::GreaterEqual => Tier::Less,
+        Class::ShiftLeft => Tier::Shift,
+        Class::Plus => Tier::Sum,
+        Class::Minus => Tier::Sum,
+        Class::Times => Tier::Product,
+        Class::Over => Tier::Product,
+        Class::Modulo => Tier::Product,
+        _ => Tier::Unary,
+    }
+}
+
+/// Whether the next token is an operator of a tier, or of a tighter one.
+#[tactic(auto, using(crate::proofs::Within::within_next))]
+pub fn operator_follows(cursor: &Cursor<'_>, tier: Tier) -> bool
+    ensures { result ≡ next_meets (is_within (tier_by tier)) cursor.now.rest }
+{
+    let rank = tier_of(cursor.class()).rank();
+    0 < rank && rank <= tier.rank()
+}
+
 /// Takes the next token where it is an operator of a tier.
 pub fn accept_operator<'t>(cursor: &mut Cursor<'t>, tier: Tier) -> Option<&'t Token>
     ensures taken { MatchOption result ((next_meets (look.one_of (operators (tier_by tier))) cursor.old.rest ≡ false) × (cursor.new ≡ cursor.old)) (λ t. Took (look.one_of (operators (tier_by tier))) cursor.old cursor.new t.now) }
@@ -96,6 +128,22 @@ impl Tier {
             Tier::Sum => Some(Tier::Product),
             Tier::Product => Some(Tier::Unary),
             Tier::Unary => None,
+        }
+    }
+
+    /// How many tiers are tighter.
+    fn rank(self) -> u8
+        ensures { result ≡ rank (tier_by self) }
+    {
+        match self {
+            Tier::Or => 7,
+            Tier::And => 6,
+            Tier::Equal => 5,
+            Tier::Less => 4,
+            Tier::Shift => 3,
+            Tier::Sum => 2,
+            Tier::Product => 1,
+            Tier::Unary => 0,
         }
     }
 

@@ -28,7 +28,7 @@ use Rattle.rb_phrases.proofs.Calls.{handed_block, goes_from, node_goes_on, over_
 use Rattle.rb_phrases.proofs.Choices.{first_arm, first_arm_fails, next_arm, next_arm_fails, arms_and, arm_no_longer, fewer}
 use Rattle.rb_phrases.proofs.Expressions.{within_last, ends_in, commanded_head, commanded_plain}
 use Rattle.rb_phrases.proofs.Ends.{at_the_rule, fails_at_the_rule, reached_rule, reached_at, made_by, over_phrase, over_opened, finishes, makes}
-use Rattle.rb_phrases.proofs.Expressions.{rest_stops, rest_goes, unassigned_stops, assignment_goes, chain_unary, no_operator_ends}
+use Rattle.rb_phrases.proofs.Expressions.{rest_stops, rest_goes, unassigned_stops, assignment_goes, chain_unary, no_operator_ends, lone, lone_fails}
 use Rattle.rb_phrases.proofs.Expressions.{chained_stops, glued_number, no_glued_number, number_part, glued_number_fails}
 use Rattle.rb_phrases.proofs.Expressions.{other_follows, looks, looks_missed, in_tier, fails_in_tier, chain_fails, chain_leads, rest_leads}
 use Rattle.rb_phrases.proofs.Expressions.{operand_leads, joined_leads, then_joined, joined_fails, chained_on}
@@ -419,112 +419,171 @@ pub chain-unary-requires : goal.chain-unary-requires
 chain-unary-requires t c =
     omega arith
 
-pub chain-returns-in_default : goal.chain-returns-in_default
-chain-returns-in_default t c =
-    chain_unary (IsPart (walk_of c.args.self.make)) c.args.self.levels c.args.takes_do (tier_by c.args.tier) c.args.cursor.now c.unary.new.cursor c.unary.result c.in_default.ensures c.unary.ensures
+pub chain-returns-in_err-first : goal.chain-returns-in_err-first
+chain-returns-in_err-first t c =
+    handed_on _ _ c.from_residual.result c.from_residual.ensures.1
+    (lone_fails c.args.self.levels c.args.takes_do c.args.cursor.now _ c.in_err-first.ensures (tier_by c.args.tier))
 
-pub chain-chain-requires : goal.chain-chain-requires
-chain-chain-requires t c =
+pub chain-returns-then-not-goes_on : goal.chain-returns-then-not-goes_on
+chain-returns-then-not-goes_on t c =
+    lone (walk_of c.args.self.make) c.args.self.levels c.args.takes_do c.args.cursor.now c.unary.new.cursor _ c.in_ok-first.ensures (tier_by c.args.tier) (sym c.goes_on.ensures ∙ c.if-not-goes_on.true)
+
+pub chain-chained-requires : goal.chain-chained-requires
+chain-chained-requires t c =
+    omega (arith, no_longer c.args.self.levels (p.unary c.args.takes_do) c.args.cursor.now c.unary.new.cursor c.in_ok-first.ensures)
+
+pub chain-returns : goal.chain-returns
+chain-returns t c =
+    c.chained.ensures.came c.args.cursor.now c.in_ok-first.ensures
+
+pub chained-returns-in_default-clause-came : goal.chained-returns-in_default-clause-came
+chained-returns-in_default-clause-came t c = λ s found.
+    chain_unary (IsPart (walk_of c.args.self.make)) c.args.self.levels c.args.takes_do (tier_by c.args.tier) s c.args.cursor.now (Ok c.args.first) c.in_default.ensures found
+
+pub chained-returns-in_default-clause-shorter : goal.chained-returns-in_default-clause-shorter
+chained-returns-in_default-clause-shorter t c =
+    omega arith
+
+pub chained-chained-requires : goal.chained-chained-requires
+chained-chained-requires t c =
     omega (arith, ltb-true _ _ c.in-Some.ensures.2)
 
-pub chain-returns-in_err-part : goal.chain-returns-in_err-part
-chain-returns-in_err-part t c =
+pub chained-returns-in_err-part-clause-came : goal.chained-returns-in_err-part-clause-came
+chained-returns-in_err-part-clause-came t c = λ s found.
     handed_on _ _ c.from_residual.result c.from_residual.ensures.1
-    (chain_fails c.args.self.levels c.args.takes_do (tier_by c.args.tier) c.args.cursor.now c.in-Some.ensures.1 (fails_in_tier c.args.self.levels c.args.takes_do c.args.cursor.now c.in-Some.ensures.0 c.in_err-part.ensures))
+    (chain_fails c.args.self.levels c.args.takes_do (tier_by c.args.tier) s c.in-Some.ensures.1 (fails_in_tier c.args.self.levels c.args.takes_do s c.in-Some.ensures.0 (c.in_err-part.ensures.came s found)))
 
-pub chain-operators-init : goal.chain-operators-init
-chain-operators-init t c =
-    let found = in_tier c.args.self.levels c.args.takes_do c.args.cursor.now c.in-Some.ensures.0 c.in_ok-part.ensures in
-    record {
-      value = found.value;
-      comes = chain_leads c.args.self.levels c.args.takes_do (tier_by c.args.tier) c.args.cursor.now c.in-Some.ensures.1 found;
-      same = found.same;
-      shorter = no_longer c.args.self.levels (p.chain c.args.takes_do (tighter (tier_by c.args.tier))) c.args.cursor.now c.chain.new.cursor found;
-    }
+pub chained-returns-in_err-part-clause-shorter : goal.chained-returns-in_err-part-clause-shorter
+chained-returns-in_err-part-clause-shorter t c =
+    no_ok _ _ c.from_residual.result c.from_residual.ensures.1
 
-pub chain-chain-requires-in-Some-operator_behind : goal.chain-chain-requires-in-Some-operator_behind
-chain-chain-requires-in-Some-operator_behind t c =
+pub chained-operators-init : goal.chained-operators-init
+chained-operators-init t c = record {
+  gone = λ s found.
+      let before = in_tier c.args.self.levels c.args.takes_do s c.in-Some.ensures.0 (c.in_ok-part.ensures.came s found) in
+      record {
+        value = before.value;
+        comes = chain_leads c.args.self.levels c.args.takes_do (tier_by c.args.tier) s c.in-Some.ensures.1 before;
+        same = before.same;
+        shorter = c.in_ok-part.ensures.shorter;
+      };
+  shorter = c.in_ok-part.ensures.shorter;
+}
+
+pub chained-chain-requires : goal.chained-chain-requires
+chained-chain-requires t c =
     omega (arith, took_less c.in-Some-operator_behind.ensures.taken.1, c.operators.invariant.shorter, ltb-true _ _ c.in-Some.ensures.2)
 
-pub chain-returns-in_err-left : goal.chain-returns-in_err-left
+pub chained-returns-in_err-left-clause-came : goal.chained-returns-in_err-left-clause-came
 unfolding rule
-chain-returns-in_err-left t c =
-    let kept = c.operators.invariant in
+chained-returns-in_err-left-clause-came t c = λ s found.
+    let kept = c.operators.invariant.gone s found in
     let taken = c.in-Some-operator_behind.ensures.taken in
     handed_on _ _ c.from_residual-in_err-left.result c.from_residual-in_err-left.ensures.1
-    (through kept.comes (fails_at c.args.self.levels (p.chain_rest c.args.takes_do (tier_by c.args.tier) c.operators.invariant.value) (rest_goes (one_of (operators (tier_by c.args.tier))) _ (no_operator_ends (tier_by c.args.tier)) kept.same taken.0 taken.1 (operand_fails _ _ (c.in_err-left.ensures kept.value kept.same)))))
+    (through kept.comes (fails_at c.args.self.levels (p.chain_rest c.args.takes_do (tier_by c.args.tier) kept.value) (rest_goes (one_of (operators (tier_by c.args.tier))) _ (no_operator_ends (tier_by c.args.tier)) kept.same taken.0 taken.1 (operand_fails _ _ (c.in_err-left.ensures kept.value kept.same)))))
 
-pub chain-returns-in_err-next : goal.chain-returns-in_err-next
+pub chained-returns-in_err-left-clause-shorter : goal.chained-returns-in_err-left-clause-shorter
+chained-returns-in_err-left-clause-shorter t c =
+    no_ok _ _ c.from_residual-in_err-left.result c.from_residual-in_err-left.ensures.1
+
+pub chained-returns-in_err-next-clause-came : goal.chained-returns-in_err-next-clause-came
 unfolding rule
-chain-returns-in_err-next t c =
-    let kept = c.operators.invariant in
+chained-returns-in_err-next-clause-came t c = λ s found.
+    let kept = c.operators.invariant.gone s found in
     let taken = c.in-Some-operator_behind.ensures.taken in
     let left = c.in_ok-left.ensures kept.value kept.same in
     handed_on _ _ c.from_residual-in_err-next.result c.from_residual-in_err-next.ensures.1
-    (through kept.comes (fails_at c.args.self.levels (p.chain_rest c.args.takes_do (tier_by c.args.tier) c.operators.invariant.value) (rest_goes (one_of (operators (tier_by c.args.tier))) _ (no_operator_ends (tier_by c.args.tier)) kept.same taken.0 taken.1 (then_operand _ _ left (fails (fails_in_tier c.args.self.levels c.args.takes_do c.operator_behind.new.cursor c.in-Some.ensures.0 c.in_err-next.ensures))))))
+    (through kept.comes (fails_at c.args.self.levels (p.chain_rest c.args.takes_do (tier_by c.args.tier) kept.value) (rest_goes (one_of (operators (tier_by c.args.tier))) _ (no_operator_ends (tier_by c.args.tier)) kept.same taken.0 taken.1 (then_operand _ _ left (fails (fails_in_tier c.args.self.levels c.args.takes_do c.operator_behind.new.cursor c.in-Some.ensures.0 c.in_err-next.ensures))))))
 
-pub chain-returns-in_err-right : goal.chain-returns-in_err-right
+pub chained-returns-in_err-next-clause-shorter : goal.chained-returns-in_err-next-clause-shorter
+chained-returns-in_err-next-clause-shorter t c =
+    no_ok _ _ c.from_residual-in_err-next.result c.from_residual-in_err-next.ensures.1
+
+pub chained-returns-in_err-right-clause-came : goal.chained-returns-in_err-right-clause-came
 unfolding rule
-chain-returns-in_err-right t c =
-    let kept = c.operators.invariant in
+chained-returns-in_err-right-clause-came t c = λ s found.
+    let kept = c.operators.invariant.gone s found in
     let taken = c.in-Some-operator_behind.ensures.taken in
     let left = c.in_ok-left.ensures kept.value kept.same in
     let next = in_tier c.args.self.levels c.args.takes_do c.operator_behind.new.cursor c.in-Some.ensures.0 c.in_ok-next.ensures in
     handed_on _ _ c.from_residual-in_err-right.result c.from_residual-in_err-right.ensures.1
-    (through kept.comes (fails_at c.args.self.levels (p.chain_rest c.args.takes_do (tier_by c.args.tier) c.operators.invariant.value) (rest_goes (one_of (operators (tier_by c.args.tier))) _ (no_operator_ends (tier_by c.args.tier)) kept.same taken.0 taken.1 (then_operand _ _ left (holds next (operand_fails _ _ (c.in_err-right.ensures next.value next.same)))))))
+    (through kept.comes (fails_at c.args.self.levels (p.chain_rest c.args.takes_do (tier_by c.args.tier) kept.value) (rest_goes (one_of (operators (tier_by c.args.tier))) _ (no_operator_ends (tier_by c.args.tier)) kept.same taken.0 taken.1 (then_operand _ _ left (holds next (operand_fails _ _ (c.in_err-right.ensures next.value next.same)))))))
 
-pub chain-returns-in_err-joined : goal.chain-returns-in_err-joined
+pub chained-returns-in_err-right-clause-shorter : goal.chained-returns-in_err-right-clause-shorter
+chained-returns-in_err-right-clause-shorter t c =
+    no_ok _ _ c.from_residual-in_err-right.result c.from_residual-in_err-right.ensures.1
+
+pub chained-returns-in_err-joined-clause-came : goal.chained-returns-in_err-joined-clause-came
 unfolding rule
-chain-returns-in_err-joined t c =
-    let kept = c.operators.invariant in
+chained-returns-in_err-joined-clause-came t c = λ s found.
+    let kept = c.operators.invariant.gone s found in
     let taken = c.in-Some-operator_behind.ensures.taken in
     let left = c.in_ok-left.ensures kept.value kept.same in
     let next = in_tier c.args.self.levels c.args.takes_do c.operator_behind.new.cursor c.in-Some.ensures.0 c.in_ok-next.ensures in
     let right = c.in_ok-right.ensures next.value next.same in
     handed_on _ _ c.from_residual-in_err-joined.result c.from_residual-in_err-joined.ensures.1
-    (through kept.comes (fails_at c.args.self.levels (p.chain_rest c.args.takes_do (tier_by c.args.tier) c.operators.invariant.value) (rest_goes (one_of (operators (tier_by c.args.tier))) _ (no_operator_ends (tier_by c.args.tier)) kept.same taken.0 taken.1 (then_operand _ _ left (holds next (then_operand _ _ right (joined_fails (tier_by c.args.tier) c.in-Some-operator_behind.token.now left.value right.value _ (c.in_err-joined.ensures left.value right.value c.chain-in-Some-operator_behind.new.cursor left.same right.same))))))))
+    (through kept.comes (fails_at c.args.self.levels (p.chain_rest c.args.takes_do (tier_by c.args.tier) kept.value) (rest_goes (one_of (operators (tier_by c.args.tier))) _ (no_operator_ends (tier_by c.args.tier)) kept.same taken.0 taken.1 (then_operand _ _ left (holds next (then_operand _ _ right (joined_fails (tier_by c.args.tier) c.in-Some-operator_behind.token.now left.value right.value _ (c.in_err-joined.ensures left.value right.value c.chain.new.cursor left.same right.same))))))))
 
-pub chain-returns-then-joins_once : goal.chain-returns-then-joins_once
+pub chained-returns-in_err-joined-clause-shorter : goal.chained-returns-in_err-joined-clause-shorter
+chained-returns-in_err-joined-clause-shorter t c =
+    no_ok _ _ c.from_residual-in_err-joined.result c.from_residual-in_err-joined.ensures.1
+
+pub chained-returns-then-joins_once-clause-came : goal.chained-returns-then-joins_once-clause-came
 unfolding rule
-chain-returns-then-joins_once t c =
-    let kept = c.operators.invariant in
+chained-returns-then-joins_once-clause-came t c = λ s found.
+    let kept = c.operators.invariant.gone s found in
     let taken = c.in-Some-operator_behind.ensures.taken in
     let left = c.in_ok-left.ensures kept.value kept.same in
     let next = in_tier c.args.self.levels c.args.takes_do c.operator_behind.new.cursor c.in-Some.ensures.0 c.in_ok-next.ensures in
     let right = c.in_ok-right.ensures next.value next.same in
-    let both = c.in_ok-joined.ensures left.value right.value c.chain-in-Some-operator_behind.new.cursor left.same right.same in
-    reached_further kept.comes (reached_at c.args.self.levels (p.chain_rest c.args.takes_do (tier_by c.args.tier) c.operators.invariant.value) (rest_goes (one_of (operators (tier_by c.args.tier))) _ (no_operator_ends (tier_by c.args.tier)) kept.same taken.0 taken.1 (then_operand _ _ left (holds next (then_operand _ _ right (then_joined (tier_by c.args.tier) c.in-Some-operator_behind.token.now left.value right.value _ both (chained_stops c.args.takes_do (tier_by c.args.tier) (sym c.joins_once.ensures ∙ c.if-joins_once.true) c.value-part.ensures both.same)))))))
+    let both = c.in_ok-joined.ensures left.value right.value c.chain.new.cursor left.same right.same in
+    reached_further kept.comes (reached_at c.args.self.levels (p.chain_rest c.args.takes_do (tier_by c.args.tier) kept.value) (rest_goes (one_of (operators (tier_by c.args.tier))) _ (no_operator_ends (tier_by c.args.tier)) kept.same taken.0 taken.1 (then_operand _ _ left (holds next (then_operand _ _ right (then_joined (tier_by c.args.tier) c.in-Some-operator_behind.token.now left.value right.value _ both (chained_stops c.args.takes_do (tier_by c.args.tier) (sym c.joins_once.ensures ∙ c.if-joins_once.true) c.value-part.ensures both.same)))))))
 
-pub chain-operators-smaller : goal.chain-operators-smaller
-chain-operators-smaller t c =
-    let kept = c.operators.invariant in
+pub chained-returns-then-joins_once-clause-shorter : goal.chained-returns-then-joins_once-clause-shorter
+chained-returns-then-joins_once-clause-shorter t c =
     let taken = c.in-Some-operator_behind.ensures.taken in
     let next = in_tier c.args.self.levels c.args.takes_do c.operator_behind.new.cursor c.in-Some.ensures.0 c.in_ok-next.ensures in
-    omega (arith, took_less taken.1, no_longer c.args.self.levels (p.chain c.args.takes_do (tighter (tier_by c.args.tier))) c.operator_behind.new.cursor c.chain-in-Some-operator_behind.new.cursor next)
+    omega (arith, c.operators.invariant.shorter, took_less taken.1, no_longer c.args.self.levels (p.chain c.args.takes_do (tighter (tier_by c.args.tier))) c.operator_behind.new.cursor c.chain.new.cursor next)
 
-pub chain-operators-preserved : goal.chain-operators-preserved
-unfolding rule
-chain-operators-preserved t c =
-    let kept = c.operators.invariant in
+pub chained-operators-smaller : goal.chained-operators-smaller
+chained-operators-smaller t c =
     let taken = c.in-Some-operator_behind.ensures.taken in
-    let left = c.in_ok-left.ensures kept.value kept.same in
     let next = in_tier c.args.self.levels c.args.takes_do c.operator_behind.new.cursor c.in-Some.ensures.0 c.in_ok-next.ensures in
-    let right = c.in_ok-right.ensures next.value next.same in
-    let both = c.in_ok-joined.ensures left.value right.value c.chain-in-Some-operator_behind.new.cursor left.same right.same in
-    record {
-      value = as_value both.value;
-      comes = kept.comes ∙ leads_to c.args.self.levels (p.chain_rest c.args.takes_do (tier_by c.args.tier) c.operators.invariant.value) c.operators.cursor (answer_at c.args.self.levels (p.chain_rest c.args.takes_do (tier_by c.args.tier) (as_value both.value)) c.chain-in-Some-operator_behind.new.cursor)
-          (rest_leads (one_of (operators (tier_by c.args.tier))) _ (no_operator_ends (tier_by c.args.tier)) kept.same taken.0 taken.1 (operand_leads _ _ left (over_phrase next (operand_leads _ _ right (joined_leads (tier_by c.args.tier) c.in-Some-operator_behind.token.now left.value right.value _ both (chained_on c.args.self.levels c.args.takes_do (tier_by c.args.tier) c.chain-in-Some-operator_behind.new.cursor both.value (sym c.joins_once.ensures ∙ c.if-joins_once.false)))))));
-      same = subst (λ x. IsPart (walk_of c.args.self.make) x (as_value both.value)) (sym c.value-part.ensures) (plain (value both.same));
-      shorter = omega (arith, took_less taken.1, no_longer c.args.self.levels (p.chain c.args.takes_do (tighter (tier_by c.args.tier))) c.operator_behind.new.cursor c.chain-in-Some-operator_behind.new.cursor next, kept.shorter);
-    }
+    omega (arith, took_less taken.1, no_longer c.args.self.levels (p.chain c.args.takes_do (tighter (tier_by c.args.tier))) c.operator_behind.new.cursor c.chain.new.cursor next)
 
-pub chain-returns : goal.chain-returns
+pub chained-operators-preserved : goal.chained-operators-preserved
 unfolding rule
-chain-returns t c =
-    let kept = c.operators.invariant in
+chained-operators-preserved t c = record {
+  gone = λ s found.
+      let kept = c.operators.invariant.gone s found in
+      let taken = c.in-Some-operator_behind.ensures.taken in
+      let left = c.in_ok-left.ensures kept.value kept.same in
+      let next = in_tier c.args.self.levels c.args.takes_do c.operator_behind.new.cursor c.in-Some.ensures.0 c.in_ok-next.ensures in
+      let right = c.in_ok-right.ensures next.value next.same in
+      let both = c.in_ok-joined.ensures left.value right.value c.chain.new.cursor left.same right.same in
+      record {
+        value = as_value both.value;
+        comes = kept.comes ∙ leads_to c.args.self.levels (p.chain_rest c.args.takes_do (tier_by c.args.tier) kept.value) c.operators.cursor (answer_at c.args.self.levels (p.chain_rest c.args.takes_do (tier_by c.args.tier) (as_value both.value)) c.chain.new.cursor)
+            (rest_leads (one_of (operators (tier_by c.args.tier))) _ (no_operator_ends (tier_by c.args.tier)) kept.same taken.0 taken.1 (operand_leads _ _ left (over_phrase next (operand_leads _ _ right (joined_leads (tier_by c.args.tier) c.in-Some-operator_behind.token.now left.value right.value _ both (chained_on c.args.self.levels c.args.takes_do (tier_by c.args.tier) c.chain.new.cursor both.value (sym c.joins_once.ensures ∙ c.if-joins_once.false)))))));
+        same = subst (λ x. IsPart (walk_of c.args.self.make) x (as_value both.value)) (sym c.value-part.ensures) (plain (value both.same));
+        shorter = omega (arith, took_less taken.1, no_longer c.args.self.levels (p.chain c.args.takes_do (tighter (tier_by c.args.tier))) c.operator_behind.new.cursor c.chain.new.cursor next, kept.shorter);
+      };
+  shorter =
+      let taken = c.in-Some-operator_behind.ensures.taken in
+      let next = in_tier c.args.self.levels c.args.takes_do c.operator_behind.new.cursor c.in-Some.ensures.0 c.in_ok-next.ensures in
+      omega (arith, c.operators.invariant.shorter, took_less taken.1, no_longer c.args.self.levels (p.chain c.args.takes_do (tighter (tier_by c.args.tier))) c.operator_behind.new.cursor c.chain.new.cursor next);
+}
+
+pub chained-returns-clause-came : goal.chained-returns-clause-came
+unfolding rule
+chained-returns-clause-came t c = λ s found.
+    let kept = c.operators.invariant.gone s found in
     let none = c.in_default-operator_behind.ensures.taken in
-    reached_further kept.comes (reached_at c.args.self.levels (p.chain_rest c.args.takes_do (tier_by c.args.tier) c.operators.invariant.value) (rest_stops (one_of (operators (tier_by c.args.tier))) _ (no_operator_ends (tier_by c.args.tier)) kept.same none.0 none.1))
+    reached_further kept.comes (reached_at c.args.self.levels (p.chain_rest c.args.takes_do (tier_by c.args.tier) kept.value) (rest_stops (one_of (operators (tier_by c.args.tier))) _ (no_operator_ends (tier_by c.args.tier)) kept.same none.0 none.1))
+
+pub chained-returns-clause-shorter : goal.chained-returns-clause-shorter
+chained-returns-clause-shorter t c =
+    omega (arith, c.operators.invariant.shorter, stands_no_longer c.in_default-operator_behind.ensures.taken.1)
 
 pub command_arguments-returns-in_err-expect_more : goal.command_arguments-returns-in_err-expect_more
 unfolding rule

@@ -3,7 +3,7 @@ use Rattle.rb_builder.specs.Grown.{IsTree, IsRow}
 use Rattle.rb_builder.specs.Literal.{ArePieces, ArePairs}
 use Rattle.rb_builder.specs.Operand.{IsPart}
 use Rattle.rb_cursor.specs.Here.{at_rule}
-use Rattle.rb_cursor.specs.State.{answer_at}
+use Rattle.rb_cursor.specs.State.{State, Reached, answer_at}
 use Rattle.rb_grammar.specs.Look.{is, line}
 use Rattle.rb_grammar.specs.Rule.{next_meets}
 use Rattle.rb_phrases.proofs.Loops.{Gone, more_items, more_pairs, GoneOver}
@@ -37,11 +37,17 @@ decreases-unary l = length l.cursor.now.rest * 32 + 3
 abbrev pub decreases-chain : goal.decreases-chain
 decreases-chain l = length l.cursor.now.rest * 32 + (4 + rank_of l.tier)
 
-abbrev pub invariant-chain-operators : goal.invariant-chain-operators
-invariant-chain-operators l = Gone (IsPart (walk_of l.fn.self.make)) (answer_at l.fn.self.levels (p.chain l.fn.takes_do (tier_by l.fn.tier)) l.fn.cursor) (λ q. answer_at l.fn.self.levels (p.chain_rest l.fn.takes_do (tier_by l.fn.tier) q) l.cursor) l.fn.cursor l.cursor l.part
+abbrev pub decreases-chained : goal.decreases-chained
+decreases-chained l = length l.cursor.now.rest * 32 + (3 + rank_of l.tier)
 
-abbrev pub decreases-chain-operators : goal.decreases-chain-operators
-decreases-chain-operators l = length l.cursor.rest
+abbrev pub invariant-chained-operators : goal.invariant-chained-operators
+invariant-chained-operators l = record {
+  gone : (s : State) → Reached (IsPart (walk_of l.fn.self.make)) l.fn.cursor (answer_at l.fn.self.levels (p.unary l.fn.takes_do) s) l.fn.first → Gone (IsPart (walk_of l.fn.self.make)) (answer_at l.fn.self.levels (p.chain l.fn.takes_do (tier_by l.fn.tier)) s) (λ q. answer_at l.fn.self.levels (p.chain_rest l.fn.takes_do (tier_by l.fn.tier) q) l.cursor) l.fn.cursor l.cursor l.part;
+  shorter : length l.cursor.rest ≤ length l.fn.cursor.rest;
+}
+
+abbrev pub decreases-chained-operators : goal.decreases-chained-operators
+decreases-chained-operators l = length l.cursor.rest
 
 abbrev pub invariant-command_arguments-more : goal.invariant-command_arguments-more
 invariant-command_arguments-more l = Gone (IsRow (walk_of l.fn.self.make)) (answer_at l.fn.self.levels p.command_arguments l.fn.cursor) (λ trees. answer_at l.fn.self.levels (p.command_arguments_rest trees) l.cursor) l.fn.cursor l.cursor l.row
