@@ -2,8 +2,8 @@
 #![tactic(auto)]
 
 mod came;
-
-
+mod slots;
+mod walker;
 
 pub use came::{Came, Leave};
-
+pub use walker::{Context, Walker};
