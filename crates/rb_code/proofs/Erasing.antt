@@ -1,0 +1,127 @@
+-- One layer of what code stands for.
+use Rattle.std.proofs.Common.{◌≡◌, ℕ, List, [], ◌∷◌, map, Option, Some, None, refl, ap, ◌∙◌, sym, rules}
+use Rattle.std.specs.Prelude.{ℤ}
+use Rattle.std.specs.Option.{option_map}
+use Rattle.rb_tree.specs.declared.span.Span.{Span}
+use Rattle.rb_tree.specs.declared.span.NameId.{NameId}
+use Rattle.rb_tree.specs.declared.node.AssignOp.{AssignOp}
+use Rattle.rb_tree.specs.declared.node.Node.{Node}
+use Rattle.rb_tree.specs.declared.node.Node.TheVariants as tree
+use Rattle.rb_tree.specs.declared.node.Piece.TheVariants as piece
+use Rattle.rb_tree.specs.declared.node.Target.TheVariants as target
+use Rattle.rb_builtin.specs.declared.builtin.Builtin.{Builtin}
+use Rattle.rb_render.specs.declared.show.Form.{Form}
+use Rattle.rb_code.specs.declared.code.Code.{Code, the_lemmas}
+use Rattle.rb_code.specs.declared.code.Code.TheVariants as is
+use Rattle.rb_code.specs.declared.code.CodePiece.{CodePiece}
+use Rattle.rb_code.specs.declared.code.CodePiece.TheVariants as part
+use Rattle.rb_code.specs.declared.code.CodeBlock.{CodeBlock, out-CodeBlock}
+use Rattle.rb_code.specs.Erase.{erase, erase_piece, erase_block}
+
+pub erase-nil : (at : Span) → erase (is.Nil at) ≡ tree.Nil at
+unfolding erase erase_piece erase_block
+erase-nil at = search (rules, the_lemmas)
+
+pub erase-false : (at : Span) → erase (is.False at) ≡ tree.False at
+unfolding erase erase_piece erase_block
+erase-false at = search (rules, the_lemmas)
+
+pub erase-true : (at : Span) → erase (is.True at) ≡ tree.True at
+unfolding erase erase_piece erase_block
+erase-true at = search (rules, the_lemmas)
+
+pub erase-int : (n : ℤ) (at : Span) → erase (is.Int n at) ≡ tree.Int n at
+unfolding erase erase_piece erase_block
+erase-int n at = search (rules, the_lemmas)
+
+pub erase-sym : (name : NameId) (at : Span) → erase (is.Sym name at) ≡ tree.Sym name at
+unfolding erase erase_piece erase_block
+erase-sym name at = search (rules, the_lemmas)
+
+pub erase-str : (pieces : List CodePiece) (at : Span) → erase (is.Str pieces at) ≡ tree.Str (map erase_piece pieces) at
+unfolding erase erase_piece erase_block
+erase-str pieces at = search (rules, the_lemmas)
+
+pub erase-local : (slot : ℕ) (name : NameId) (at : Span) → erase (is.Local slot name at) ≡ tree.Local name at
+unfolding erase erase_piece erase_block
+erase-local slot name at = search (rules, the_lemmas)
+
+pub erase-set_local : (slot : ℕ) (name : NameId) (value : Code) (at : Span) → erase (is.SetLocal slot name value at) ≡ tree.SetLocal name (erase value) at
+unfolding erase erase_piece erase_block
+erase-set_local slot name value at = search (rules, the_lemmas)
+
+pub erase-update_local : (slot : ℕ) (name : NameId) (op : AssignOp) (value : Code) (at : Span) → erase (is.UpdateLocal slot name op value at) ≡ tree.OpAssign (target.Local name) op (erase value) at
+unfolding erase erase_piece erase_block
+erase-update_local slot name op value at = search (rules, the_lemmas)
+
+pub erase-update_element : (receiver : Code) (index : Code) (op : AssignOp) (value : Code) (at : Span) → erase (is.UpdateElement receiver index op value at) ≡ tree.OpAssign (target.Index (erase receiver) (erase index)) op (erase value) at
+unfolding erase erase_piece erase_block
+erase-update_element receiver index op value at = search (rules, the_lemmas)
+
+pub erase-update_attribute : (receiver : Code) (name : NameId) (op : AssignOp) (value : Code) (at : Span) → erase (is.UpdateAttribute receiver name op value at) ≡ tree.OpAssign (target.Attribute (erase receiver) name) op (erase value) at
+unfolding erase erase_piece erase_block
+erase-update_attribute receiver name op value at = search (rules, the_lemmas)
+
+pub erase-store : (receiver : Code) (name : NameId) (args : List Code) (at : Span) → erase (is.Store receiver name args at) ≡ tree.Store (erase receiver) name (map erase args) at
+unfolding erase erase_piece erase_block
+erase-store receiver name args at = search (rules, the_lemmas)
+
+pub erase-operate : (number : Option Builtin) (name : NameId) (left : Code) (right : Code) (at : Span) → erase (is.Operate number name left right at) ≡ tree.Call (Some (erase left)) name (erase right ∷ []) None at
+unfolding erase erase_piece erase_block
+erase-operate number name left right at = search (rules, the_lemmas)
+
+pub erase-send : (number : Option Builtin) (name : NameId) (receiver : Code) (args : List Code) (at : Span) → erase (is.Send number name receiver args at) ≡ tree.Call (Some (erase receiver)) name (map erase args) None at
+unfolding erase erase_piece erase_block
+erase-send number name receiver args at = search (rules, the_lemmas)
+
+pub erase-walk : (number : Option Builtin) (name : NameId) (receiver : Code) (args : List Code) (block : CodeBlock) (at : Span) → erase (is.Walk number name receiver args block at) ≡ tree.Call (Some (erase receiver)) name (map erase args) (Some (erase_block block)) at
+unfolding erase erase_piece erase_block
+erase-walk number name receiver args block at = search (rules, the_lemmas)
+
+pub erase-function : (number : ℕ) (name : NameId) (args : List Code) (at : Span) → erase (is.Function number name args at) ≡ tree.Call None name (map erase args) None at
+unfolding erase erase_piece erase_block
+erase-function number name args at = search (rules, the_lemmas)
+
+pub erase-print : (form : Form) (name : NameId) (args : List Code) (at : Span) → erase (is.Print form name args at) ≡ tree.Call None name (map erase args) None at
+unfolding erase erase_piece erase_block
+erase-print form name args at = search (rules, the_lemmas)
+
+pub erase-and : (left : Code) (right : Code) (at : Span) → erase (is.And left right at) ≡ tree.And (erase left) (erase right) at
+unfolding erase erase_piece erase_block
+erase-and left right at = search (rules, the_lemmas)
+
+pub erase-or : (left : Code) (right : Code) (at : Span) → erase (is.Or left right at) ≡ tree.Or (erase left) (erase right) at
+unfolding erase erase_piece erase_block
+erase-or left right at = search (rules, the_lemmas)
+
+pub erase-not : (value : Code) (at : Span) → erase (is.Not value at) ≡ tree.Not (erase value) at
+unfolding erase erase_piece erase_block
+erase-not value at = search (rules, the_lemmas)
+
+pub erase-if : (condition : Code) (first : List Code) (second : List Code) (at : Span) → erase (is.If condition first second at) ≡ tree.If (erase condition) (map erase first) (map erase second) at
+unfolding erase erase_piece erase_block
+erase-if condition first second at = search (rules, the_lemmas)
+
+pub erase-while : (condition : Code) (body : List Code) (at : Span) → erase (is.While condition body at) ≡ tree.While (erase condition) (map erase body) at
+unfolding erase erase_piece erase_block
+erase-while condition body at = search (rules, the_lemmas)
+
+pub erase-return : (value : Option Code) (at : Span) → erase (is.Return value at) ≡ tree.Return (option_map erase value) at
+unfolding erase erase_piece erase_block
+erase-return value at = search (rules, the_lemmas)
+
+pub erase-break : (at : Span) → erase (is.Break at) ≡ tree.Break at
+unfolding erase erase_piece erase_block
+erase-break at = search (rules, the_lemmas)
+
+pub erase-next : (at : Span) → erase (is.Next at) ≡ tree.Next at
+unfolding erase erase_piece erase_block
+erase-next at = search (rules, the_lemmas)
+
+pub erase_piece-text : (bytes : List ℕ) → erase_piece (part.Text bytes) ≡ piece.Text bytes
+unfolding erase erase_piece erase_block
+erase_piece-text bytes = search (rules, the_lemmas)
+
+pub erase_piece-code : (c : Code) → erase_piece (part.Code c) ≡ piece.Code (erase c)
+unfolding erase erase_piece erase_block
+erase_piece-code c = search (rules, the_lemmas)
