@@ -1,5 +1,27 @@
 // The walk.
 
+ghost use Rattle.std.specs.Prelude.{◌≡◌, ◌≤◌, ◌<◌, ◌+◌, ◌+ℤ◌, pos, ℕ, true, false, List, [], ◌∷◌, ◌++◌, length, map, slice_get, Some, None, IfSome, OnOk};
+ghost use Rattle.rb_tree.specs.declared.node.Node.{Node as Tree, out-Node};
+ghost use Rattle.rb_tree.specs.declared.node.AssignOp.{AssignOp as Op};
+ghost use Rattle.rb_tree.specs.declared.span.NameId.{NameId};
+ghost use Rattle.rb_tree.specs.Place.{place};
+ghost use Rattle.rb_model.specs.Values.{Nil, Int, plain, truthy};
+ghost use Rattle.rb_model.specs.declared.value.Value.{Value as Held};
+ghost use Rattle.rb_model.specs.Ends.{Raised, over};
+ghost use Rattle.rb_model.specs.Log.{has_end};
+ghost use Rattle.rb_machine.specs.Scopes.{text_of};
+ghost use Rattle.rb_machine.specs.Control.{On, Then, Eval, Following, Looping, Turning, Passing, Joining, AssignTo, ReceiverOf, ReceiverToStore, RightOfAnd, RightOfOr, Negate, Choose, ReturnOf, IndexedBy, MemberOf, ByName, OfLocal, Counting};
+ghost use Rattle.rb_machine.specs.Begin.{begin};
+ghost use Rattle.rb_machine.specs.Call.{read_place};
+ghost use Rattle.rb_machine.specs.Methods.{deed};
+ghost use Rattle.rb_builtin.specs.Names.{builtin_of};
+ghost use Rattle.rb_builtin.specs.Integers as integers;
+ghost use Rattle.rb_code.specs.Erase.{erase, erase_block, erase_piece};
+ghost use Rattle.rb_code.specs.Resolved.{fits, block_fits, piece_fits, every};
+ghost use Rattle.rb_interp.specs.Outcome.{is_left, value_of, outcome, Gave, Over};
+ghost use Rattle.rb_interp.specs.Carries.{Carries, Keeps, Passes, Shows, both, at_slot, numbered, called, printing, goes_on, loop_exit, call_exit};
+ghost use Rattle.rb_interp.specs.Answers.{OrMemory, Writes, outcome_of, IsSmall, method_of};
+
 use crate::came::{Came, Leave, is_left};
 use crate::slots::{clear, start_block};
 use rb_builtin::{Builtin, Deed, IntegerAnswer, Loop, deed_of, integer_operation};
@@ -39,7 +61,9 @@ pub struct Walker<'p, O> {
 }
 
 /// Whether a value is true: only nil and false are not.
-fn is_true(value: &Value) -> bool {
+fn is_true(value: &Value) -> bool
+    ensures { result ≡ truthy (plain value.now) }
+{
     match value {
         Value::Nil | Value::False => false,
         _ => true,
@@ -47,7 +71,9 @@ fn is_true(value: &Value) -> bool {
 }
 
 /// Where a node stands.
-fn place_of(code: &Code) -> Span {
+fn place_of(code: &Code) -> Span
+    ensures { result ≡ place (out-Node (erase code.now)) }
+{
     match code {
         Code::Nil(at)
         | Code::False(at)
@@ -78,7 +104,9 @@ fn place_of(code: &Code) -> Span {
 }
 
 /// An integer that a leaf has.
-fn small(code: &Code, room: &[Value]) -> Option<i64> {
+fn small(code: &Code, room: &[Value]) -> Option<i64>
+    ensures { IfSome result (λ n. IsSmall code.now room.now n) }
+{
     match code {
         Code::Int(n, _) => Some(*n),
         Code::Local(slot, _, _) => match room.get(*slot as usize) {
@@ -90,7 +118,9 @@ fn small(code: &Code, room: &[Value]) -> Option<i64> {
 }
 
 /// The built-in method of an assignment's operator; none for the two that decide.
-fn method_of(op: AssignOp) -> Option<Builtin> {
+fn method_of(op: AssignOp) -> Option<Builtin>
+    ensures { result ≡ method_of op }
+{
     match op {
         AssignOp::Plus => Some(Builtin::Plus),
         AssignOp::Minus => Some(Builtin::Minus),
@@ -115,7 +145,14 @@ impl<'p, O: OneStore + Drop> Walker<'p, O> {
     }
 
     /// The value that came. It is taken out of the walker.
-    fn take(&mut self, came: Came) -> Value {
+    fn take(&mut self, came: Came) -> Value
+        ensures value { plain result ≡ value_of came self.old.value }
+        ensures base { self.new.base ≡ self.old.base }
+        ensures left { self.new.left ≡ self.old.left }
+        ensures context { self.new.context ≡ self.old.context }
+        ensures store { self.new.store ≡ self.old.store }
+        ensures leave { self.new.leave ≡ self.old.leave }
+    {
         match came {
             Came::Nil => Value::Nil,
             Came::False => Value::False,
@@ -126,7 +163,9 @@ impl<'p, O: OneStore + Drop> Walker<'p, O> {
     }
 
     /// Whether the value that came is true.
-    fn is_true_now(&self, came: Came) -> bool {
+    fn is_true_now(&self, came: Came) -> bool
+        ensures { is_left came ≡ false → result ≡ truthy (value_of came self.now.value) }
+    {
         match came {
             Came::Nil | Came::False | Came::Left => false,
             Came::True | Came::Int(_) => true,
@@ -135,7 +174,13 @@ impl<'p, O: OneStore + Drop> Walker<'p, O> {
     }
 
     /// Gives a value.
-    fn give(&mut self, value: Value) -> Came {
+    fn give(&mut self, value: Value) -> Came
+        ensures gives { outcome result self.new.value self.new.leave ≡ Gave (plain value) }
+        ensures base { self.new.base ≡ self.old.base }
+        ensures left { self.new.left ≡ self.old.left }
+        ensures context { self.new.context ≡ self.old.context }
+        ensures store { self.new.store ≡ self.old.store }
+    {
         match value {
             Value::Nil => Came::Nil,
             Value::False => Came::False,
@@ -149,18 +194,36 @@ impl<'p, O: OneStore + Drop> Walker<'p, O> {
     }
 
     /// The thread ends.
-    fn over(&mut self, end: End) -> Came {
+    fn over(&mut self, end: End) -> Came
+        ensures gives { outcome result self.new.value self.new.leave ≡ Over (over end) }
+        ensures base { self.new.base ≡ self.old.base }
+        ensures left { self.new.left ≡ self.old.left }
+        ensures context { self.new.context ≡ self.old.context }
+        ensures store { self.new.store ≡ self.old.store }
+    {
         self.leave = Leave::Over(end);
         Came::Left
     }
 
     /// The thread ends with a fault.
-    fn raise(&mut self, fault: Fault, at: Span) -> Came {
+    fn raise(&mut self, fault: Fault, at: Span) -> Came
+        ensures gives { outcome result self.new.value self.new.leave ≡ Over (Raised fault at) }
+        ensures base { self.new.base ≡ self.old.base }
+        ensures left { self.new.left ≡ self.old.left }
+        ensures context { self.new.context ≡ self.old.context }
+        ensures store { self.new.store ≡ self.old.store }
+    {
         self.over(End::Raised(fault, at))
     }
 
     /// Gives the value of a slot.
-    fn read(&mut self, slot: u32, room: &[Value]) -> Came {
+    fn read(&mut self, slot: u32, room: &[Value]) -> Came
+        ensures gives { (v : Held) → slice_get room.now slot ≡ Some v → OrMemory (Gave (plain v)) (outcome result self.new.value self.new.leave) }
+        ensures base { self.new.base ≡ self.old.base }
+        ensures left { self.new.left ≡ self.old.left }
+        ensures context { self.new.context ≡ self.old.context }
+        ensures store { self.new.store ≡ self.old.store }
+    {
         match room.get(slot as usize) {
             None | Some(Value::Nil) => Came::Nil,
             Some(Value::False) => Came::False,
@@ -174,7 +237,14 @@ impl<'p, O: OneStore + Drop> Walker<'p, O> {
     }
 
     /// Writes the value that came into a slot, and gives it on.
-    fn write(&mut self, slot: u32, came: Came, room: &mut [Value]) -> Came {
+    fn write(&mut self, slot: u32, came: Came, room: &mut [Value]) -> Came
+        requires came { is_left came ≡ false }
+        ensures written { Writes slot (value_of came self.old.value) room.old room.new (outcome result self.new.value self.new.leave) }
+        ensures base { self.new.base ≡ self.old.base }
+        ensures left { self.new.left ≡ self.old.left }
+        ensures context { self.new.context ≡ self.old.context }
+        ensures store { self.new.store ≡ self.old.store }
+    {
         if slot as usize >= room.len() {
             return self.over(End::Memory);
         }
@@ -190,7 +260,13 @@ impl<'p, O: OneStore + Drop> Walker<'p, O> {
     }
 
     /// What an operation on two integers gives.
-    fn answer(&mut self, answer: IntegerAnswer, at: Span) -> Came {
+    fn answer(&mut self, answer: IntegerAnswer, at: Span) -> Came
+        ensures gives { outcome result self.new.value self.new.leave ≡ outcome_of (integers.answer_of answer) at }
+        ensures base { self.new.base ≡ self.old.base }
+        ensures left { self.new.left ≡ self.old.left }
+        ensures context { self.new.context ≡ self.old.context }
+        ensures store { self.new.store ≡ self.old.store }
+    {
         match answer {
             IntegerAnswer::Int(n) => Came::Int(n),
             IntegerAnswer::False => Came::False,
@@ -208,7 +284,13 @@ impl<'p, O: OneStore + Drop> Walker<'p, O> {
         method: Option<Builtin>,
         args: &[Value],
         at: Span,
-    ) -> Came {
+    ) -> Came
+        ensures gives { (name : List ℕ) → builtin_of name ≡ method → OrMemory (outcome_of (deed self.old.context.names.now (plain receiver.now) name (map plain args.now) None) at) (outcome result self.new.value self.new.leave) }
+        ensures base { self.new.base ≡ self.old.base }
+        ensures left { self.new.left ≡ self.old.left }
+        ensures context { self.new.context ≡ self.old.context }
+        ensures store { self.new.store ≡ self.old.store }
+    {
         match deed_of(
             self.context.alloc,
             self.context.names,
@@ -225,7 +307,15 @@ impl<'p, O: OneStore + Drop> Walker<'p, O> {
     }
 
     /// Shows bytes by one print, where there are any, and gives nil or a value.
-    fn show(&mut self, form: Form, args: &[Value], at: Span) -> Came {
+    fn show(&mut self, form: Form, args: &[Value], at: Span) -> Came
+        requires open { has_end (O.log self.old.store).entries ≡ false }
+        requires steps { self.old.left ≤ self.old.context.steps }
+        ensures base { self.new.base ≡ self.old.base }
+        ensures left { self.new.left ≡ self.old.left }
+        ensures context { self.new.context ≡ self.old.context }
+        ensures open { has_end (O.log self.new.store).entries ≡ false }
+        ensures came { Shows self.old.context.names.now self.old.context.steps form (map plain args.now) at self.old.left (O.log self.old.store) (O.log self.new.store) (outcome result self.new.value self.new.leave) }
+    {
         let bytes = match render(self.context.alloc, self.context.names, form, args) {
             Ok(bytes) => bytes,
             Err(RenderFault::TooLong) => return self.raise(Fault::TextTooLong, at),
@@ -249,7 +339,18 @@ impl<'p, O: OneStore + Drop> Walker<'p, O> {
 
     /// Evaluates a node.
     #[cycle(walk)]
-    pub fn walk(&mut self, code: &'p Code, depth: u32, room: &mut [Value]) -> Came {
+    pub fn walk(&mut self, code: &'p Code, depth: u32, room: &mut [Value]) -> Came
+        requires open { has_end (O.log self.old.store).entries ≡ false }
+        requires steps { self.old.left ≤ self.old.context.steps }
+        ensures counted { is_left result ≡ false → self.new.left < self.old.left }
+        ensures base { self.new.base ≡ self.old.base }
+        ensures context { self.new.context ≡ self.old.context }
+        ensures room { length room.new ≡ length room.old }
+        ensures less { self.new.left ≤ self.old.left }
+        ensures open { has_end (O.log self.new.store).entries ≡ false }
+        ensures kept { Keeps self.old.context.script.now self.old.context.names.now (λ S. fits S code.now) self.old.base room.old room.new }
+        ensures came { Carries self.old.context.script.now self.old.context.names.now self.old.context.steps (λ S. fits S code.now) (λ S k sc d n. On (Eval (erase code.now)) k sc d n) self.old.base depth self.old.left self.new.left room.old room.new (O.log self.old.store) (O.log self.new.store) (outcome result self.new.value self.new.leave) }
+    {
         if self.left == 0 {
             return self.over(End::Steps);
         }
@@ -262,7 +363,17 @@ impl<'p, O: OneStore + Drop> Walker<'p, O> {
 
     /// A node whose step is counted.
     #[cycle(walk)]
-    fn begin(&mut self, code: &'p Code, depth: u32, room: &mut [Value]) -> Came {
+    fn begin(&mut self, code: &'p Code, depth: u32, room: &mut [Value]) -> Came
+        requires open { has_end (O.log self.old.store).entries ≡ false }
+        requires steps { self.old.left ≤ self.old.context.steps }
+        ensures base { self.new.base ≡ self.old.base }
+        ensures context { self.new.context ≡ self.old.context }
+        ensures room { length room.new ≡ length room.old }
+        ensures less { self.new.left ≤ self.old.left }
+        ensures open { has_end (O.log self.new.store).entries ≡ false }
+        ensures kept { Keeps self.old.context.script.now self.old.context.names.now (λ S. fits S code.now) self.old.base room.old room.new }
+        ensures came { Carries self.old.context.script.now self.old.context.names.now self.old.context.steps (λ S. fits S code.now) (λ S k sc d n. begin S (out-Node (erase code.now)) k sc d n) self.old.base depth self.old.left self.new.left room.old room.new (O.log self.old.store) (O.log self.new.store) (outcome result self.new.value self.new.leave) }
+    {
         match code {
             Code::Nil(_) => Came::Nil,
             Code::False(_) => Came::False,
@@ -282,7 +393,7 @@ impl<'p, O: OneStore + Drop> Walker<'p, O> {
                 self.read_attribute(receiver.get(), *at, depth, room)
             }
             Code::Store(receiver, _, args, at) => {
-                self.send(None, receiver.get(), args.as_slice(), *at, depth, room)
+                self.store_by(receiver.get(), args.as_slice(), *at, depth, room)
             }
             Code::Operate(method, _, left, right, at) => {
                 self.operate(*method, left.get(), right.get(), *at, depth, room)
@@ -335,7 +446,17 @@ impl<'p, O: OneStore + Drop> Walker<'p, O> {
 
     /// An assignment to a local.
     #[cycle(walk)]
-    fn set_local(&mut self, slot: u32, value: &'p Code, depth: u32, room: &mut [Value]) -> Came {
+    fn set_local(&mut self, slot: u32, value: &'p Code, depth: u32, room: &mut [Value]) -> Came
+        requires open { has_end (O.log self.old.store).entries ≡ false }
+        requires steps { self.old.left ≤ self.old.context.steps }
+        ensures base { self.new.base ≡ self.old.base }
+        ensures context { self.new.context ≡ self.old.context }
+        ensures room { length room.new ≡ length room.old }
+        ensures less { self.new.left ≤ self.old.left }
+        ensures open { has_end (O.log self.new.store).entries ≡ false }
+        ensures kept { (name : NameId) → Keeps self.old.context.script.now self.old.context.names.now (at_slot slot name (λ S. fits S value.now)) self.old.base room.old room.new }
+        ensures came { (name : NameId) → Carries self.old.context.script.now self.old.context.names.now self.old.context.steps (at_slot slot name (λ S. fits S value.now)) (λ S k sc d n. On (Eval (erase value.now)) (Then (AssignTo name) ∷ k) sc d n) self.old.base depth self.old.left self.new.left room.old room.new (O.log self.old.store) (O.log self.new.store) (outcome result self.new.value self.new.leave) }
+    {
         let came = self.walk(value, depth, room);
         if is_left(came) {
             return came;
@@ -353,7 +474,17 @@ impl<'p, O: OneStore + Drop> Walker<'p, O> {
         at: Span,
         depth: u32,
         room: &mut [Value],
-    ) -> Came {
+    ) -> Came
+        requires open { has_end (O.log self.old.store).entries ≡ false }
+        requires steps { self.old.left ≤ self.old.context.steps }
+        ensures base { self.new.base ≡ self.old.base }
+        ensures context { self.new.context ≡ self.old.context }
+        ensures room { length room.new ≡ length room.old }
+        ensures less { self.new.left ≤ self.old.left }
+        ensures open { has_end (O.log self.new.store).entries ≡ false }
+        ensures kept { (name : NameId) → Keeps self.old.context.script.now self.old.context.names.now (at_slot slot name (λ S. fits S value.now)) self.old.base room.old room.new }
+        ensures came { (name : NameId) → Carries self.old.context.script.now self.old.context.names.now self.old.context.steps (at_slot slot name (λ S. fits S value.now)) (λ S k sc d n. read_place S (OfLocal name) op (erase value.now) at k sc d n) self.old.base depth self.old.left self.new.left room.old room.new (O.log self.old.store) (O.log self.new.store) (outcome result self.new.value self.new.leave) }
+    {
         let current = self.read(slot, room);
         if is_left(current) {
             return current;
@@ -388,13 +519,13 @@ impl<'p, O: OneStore + Drop> Walker<'p, O> {
     }
 
     /// A call with one argument that is evaluated.
-    fn operated(
-        &mut self,
-        method: Option<Builtin>,
-        receiver: &Value,
-        arg: Value,
-        at: Span,
-    ) -> Came {
+    fn operated(&mut self, method: Option<Builtin>, receiver: &Value, arg: Value, at: Span) -> Came
+        ensures gives { (name : List ℕ) → builtin_of name ≡ method → OrMemory (outcome_of (deed self.old.context.names.now (plain receiver.now) name (plain arg ∷ []) None) at) (outcome result self.new.value self.new.leave) }
+        ensures base { self.new.base ≡ self.old.base }
+        ensures left { self.new.left ≡ self.old.left }
+        ensures context { self.new.context ≡ self.old.context }
+        ensures store { self.new.store ≡ self.old.store }
+    {
         if let (Some(method), Value::Int(m), Value::Int(n)) = (method, receiver, &arg) {
             return self.answer(integer_operation(method, *m, *n), at);
         }
@@ -411,7 +542,17 @@ impl<'p, O: OneStore + Drop> Walker<'p, O> {
         at: Span,
         depth: u32,
         room: &mut [Value],
-    ) -> Came {
+    ) -> Came
+        requires open { has_end (O.log self.old.store).entries ≡ false }
+        requires steps { self.old.left ≤ self.old.context.steps }
+        ensures base { self.new.base ≡ self.old.base }
+        ensures context { self.new.context ≡ self.old.context }
+        ensures room { length room.new ≡ length room.old }
+        ensures less { self.new.left ≤ self.old.left }
+        ensures open { has_end (O.log self.new.store).entries ≡ false }
+        ensures kept { (op : Op) (value : Tree) → Keeps self.old.context.script.now self.old.context.names.now (both (λ S. fits S receiver.now) (λ S. fits S index.now)) self.old.base room.old room.new }
+        ensures came { (op : Op) (value : Tree) → Carries self.old.context.script.now self.old.context.names.now self.old.context.steps (both (λ S. fits S receiver.now) (λ S. fits S index.now)) (λ S k sc d n. On (Eval (erase receiver.now)) (Then (IndexedBy (erase index.now) op value at) ∷ k) sc d n) self.old.base depth self.old.left self.new.left room.old room.new (O.log self.old.store) (O.log self.new.store) (outcome result self.new.value self.new.leave) }
+    {
         let came = self.walk(receiver, depth, room);
         if is_left(came) {
             return came;
@@ -431,7 +572,17 @@ impl<'p, O: OneStore + Drop> Walker<'p, O> {
         at: Span,
         depth: u32,
         room: &mut [Value],
-    ) -> Came {
+    ) -> Came
+        requires open { has_end (O.log self.old.store).entries ≡ false }
+        requires steps { self.old.left ≤ self.old.context.steps }
+        ensures base { self.new.base ≡ self.old.base }
+        ensures context { self.new.context ≡ self.old.context }
+        ensures room { length room.new ≡ length room.old }
+        ensures less { self.new.left ≤ self.old.left }
+        ensures open { has_end (O.log self.new.store).entries ≡ false }
+        ensures kept { (name : NameId) (op : Op) (value : Tree) → Keeps self.old.context.script.now self.old.context.names.now (λ S. fits S receiver.now) self.old.base room.old room.new }
+        ensures came { (name : NameId) (op : Op) (value : Tree) → Carries self.old.context.script.now self.old.context.names.now self.old.context.steps (λ S. fits S receiver.now) (λ S k sc d n. On (Eval (erase receiver.now)) (Then (MemberOf (text_of S name) op value at) ∷ k) sc d n) self.old.base depth self.old.left self.new.left room.old room.new (O.log self.old.store) (O.log self.new.store) (outcome result self.new.value self.new.leave) }
+    {
         let came = self.walk(receiver, depth, room);
         if is_left(came) {
             return came;
@@ -449,7 +600,17 @@ impl<'p, O: OneStore + Drop> Walker<'p, O> {
         at: Span,
         depth: u32,
         room: &mut [Value],
-    ) -> Came {
+    ) -> Came
+        requires open { has_end (O.log self.old.store).entries ≡ false }
+        requires steps { self.old.left ≤ self.old.context.steps }
+        ensures base { self.new.base ≡ self.old.base }
+        ensures context { self.new.context ≡ self.old.context }
+        ensures room { length room.new ≡ length room.old }
+        ensures less { self.new.left ≤ self.old.left }
+        ensures open { has_end (O.log self.new.store).entries ≡ false }
+        ensures kept { (name : NameId) → Keeps self.old.context.script.now self.old.context.names.now (numbered method name (both (λ S. fits S left.now) (λ S. fits S right.now))) self.old.base room.old room.new }
+        ensures came { (name : NameId) → Carries self.old.context.script.now self.old.context.names.now self.old.context.steps (numbered method name (both (λ S. fits S left.now) (λ S. fits S right.now))) (λ S k sc d n. On (Eval (erase left.now)) (Then (ReceiverOf (text_of S name) (erase right.now ∷ []) None at) ∷ k) sc d n) self.old.base depth self.old.left self.new.left room.old room.new (O.log self.old.store) (O.log self.new.store) (outcome result self.new.value self.new.leave) }
+    {
         if self.left > 1 && depth < MAX_DEPTH {
             if let (Some(method), Some(m), Some(n)) = (
                 method,
@@ -483,7 +644,17 @@ impl<'p, O: OneStore + Drop> Walker<'p, O> {
         at: Span,
         depth: u32,
         room: &mut [Value],
-    ) -> Came {
+    ) -> Came
+        requires open { has_end (O.log self.old.store).entries ≡ false }
+        requires steps { self.old.left ≤ self.old.context.steps }
+        ensures base { self.new.base ≡ self.old.base }
+        ensures context { self.new.context ≡ self.old.context }
+        ensures room { length room.new ≡ length room.old }
+        ensures less { self.new.left ≤ self.old.left }
+        ensures open { has_end (O.log self.new.store).entries ≡ false }
+        ensures kept { (name : NameId) → Keeps self.old.context.script.now self.old.context.names.now (numbered method name (both (λ S. fits S receiver.now) (λ S. every (map (fits S) args.now)))) self.old.base room.old room.new }
+        ensures came { (name : NameId) → Carries self.old.context.script.now self.old.context.names.now self.old.context.steps (numbered method name (both (λ S. fits S receiver.now) (λ S. every (map (fits S) args.now)))) (λ S k sc d n. On (Eval (erase receiver.now)) (Then (ReceiverOf (text_of S name) (map erase args.now) None at) ∷ k) sc d n) self.old.base depth self.old.left self.new.left room.old room.new (O.log self.old.store) (O.log self.new.store) (outcome result self.new.value self.new.leave) }
+    {
         let came = self.walk(receiver, depth, room);
         if is_left(came) {
             return came;
@@ -498,6 +669,39 @@ impl<'p, O: OneStore + Drop> Walker<'p, O> {
         self.call_method(&receiver, method, &room[before..before + args.len()], at)
     }
 
+    /// An assignment by the call of a method: no value that there is yet has such a method.
+    #[cycle(walk)]
+    fn store_by(
+        &mut self,
+        receiver: &'p Code,
+        args: &'p [Code],
+        at: Span,
+        depth: u32,
+        room: &mut [Value],
+    ) -> Came
+        requires open { has_end (O.log self.old.store).entries ≡ false }
+        requires steps { self.old.left ≤ self.old.context.steps }
+        ensures base { self.new.base ≡ self.old.base }
+        ensures context { self.new.context ≡ self.old.context }
+        ensures room { length room.new ≡ length room.old }
+        ensures less { self.new.left ≤ self.old.left }
+        ensures open { has_end (O.log self.new.store).entries ≡ false }
+        ensures kept { (name : NameId) → Keeps self.old.context.script.now self.old.context.names.now (both (λ S. fits S receiver.now) (λ S. every (map (fits S) args.now))) self.old.base room.old room.new }
+        ensures came { (name : NameId) → Carries self.old.context.script.now self.old.context.names.now self.old.context.steps (both (λ S. fits S receiver.now) (λ S. every (map (fits S) args.now))) (λ S k sc d n. On (Eval (erase receiver.now)) (Then (ReceiverToStore (text_of S name) (map erase args.now) at) ∷ k) sc d n) self.old.base depth self.old.left self.new.left room.old room.new (O.log self.old.store) (O.log self.new.store) (outcome result self.new.value self.new.leave) }
+    {
+        let came = self.walk(receiver, depth, room);
+        if is_left(came) {
+            return came;
+        }
+        let before = self.base;
+        let came = self.arguments(args, depth, room);
+        self.base = before;
+        if is_left(came) {
+            return came;
+        }
+        self.raise(Fault::NoMethod, at)
+    }
+
     /// A call with a receiver and a block.
     #[cycle(walk)]
     fn send_block(
@@ -509,7 +713,17 @@ impl<'p, O: OneStore + Drop> Walker<'p, O> {
         at: Span,
         depth: u32,
         room: &mut [Value],
-    ) -> Came {
+    ) -> Came
+        requires open { has_end (O.log self.old.store).entries ≡ false }
+        requires steps { self.old.left ≤ self.old.context.steps }
+        ensures base { self.new.base ≡ self.old.base }
+        ensures context { self.new.context ≡ self.old.context }
+        ensures room { length room.new ≡ length room.old }
+        ensures less { self.new.left ≤ self.old.left }
+        ensures open { has_end (O.log self.new.store).entries ≡ false }
+        ensures kept { (name : NameId) → Keeps self.old.context.script.now self.old.context.names.now (numbered method name (both (λ S. fits S receiver.now) (both (λ S. every (map (fits S) args.now)) (λ S. block_fits S block.now)))) self.old.base room.old room.new }
+        ensures came { (name : NameId) → Carries self.old.context.script.now self.old.context.names.now self.old.context.steps (numbered method name (both (λ S. fits S receiver.now) (both (λ S. every (map (fits S) args.now)) (λ S. block_fits S block.now)))) (λ S k sc d n. On (Eval (erase receiver.now)) (Then (ReceiverOf (text_of S name) (map erase args.now) (Some (erase_block block.now)) at) ∷ k) sc d n) self.old.base depth self.old.left self.new.left room.old room.new (O.log self.old.store) (O.log self.new.store) (outcome result self.new.value self.new.leave) }
+    {
         let came = self.walk(receiver, depth, room);
         if is_left(came) {
             return came;
@@ -559,7 +773,17 @@ impl<'p, O: OneStore + Drop> Walker<'p, O> {
         block: &'p CodeBlock,
         depth: u32,
         room: &mut [Value],
-    ) -> Came {
+    ) -> Came
+        requires open { has_end (O.log self.old.store).entries ≡ false }
+        requires steps { self.old.left ≤ self.old.context.steps }
+        ensures base { self.new.base ≡ self.old.base }
+        ensures context { self.new.context ≡ self.old.context }
+        ensures room { length room.new ≡ length room.old }
+        ensures less { self.new.left ≤ self.old.left }
+        ensures open { has_end (O.log self.new.store).entries ≡ false }
+        ensures kept { Keeps self.old.context.script.now self.old.context.names.now (λ S. block_fits S block.now) self.old.base room.old room.new }
+        ensures came { Carries self.old.context.script.now self.old.context.names.now self.old.context.steps (λ S. block_fits S block.now) (λ S k sc d n. On (Turning (Counting first (last +ℤ pos 1) (Int answer)) (erase_block block.now)) k sc d n) self.old.base depth self.old.left self.new.left room.old room.new (O.log self.old.store) (O.log self.new.store) (outcome result self.new.value self.new.leave) }
+    {
         let from = block.from as usize;
         let count = block.count as usize;
         if room.len() < from || room.len() - from < count {
@@ -593,7 +817,17 @@ impl<'p, O: OneStore + Drop> Walker<'p, O> {
         at: Span,
         depth: u32,
         room: &mut [Value],
-    ) -> Came {
+    ) -> Came
+        requires open { has_end (O.log self.old.store).entries ≡ false }
+        requires steps { self.old.left ≤ self.old.context.steps }
+        ensures base { self.new.base ≡ self.old.base }
+        ensures context { self.new.context ≡ self.old.context }
+        ensures room { length room.new ≡ length room.old }
+        ensures less { self.new.left ≤ self.old.left }
+        ensures open { has_end (O.log self.new.store).entries ≡ false }
+        ensures kept { (name : NameId) → Keeps self.old.context.script.now self.old.context.names.now (called number name (λ S. every (map (fits S) args.now))) self.old.base room.old room.new }
+        ensures came { (name : NameId) → Carries self.old.context.script.now self.old.context.names.now self.old.context.steps (called number name (λ S. every (map (fits S) args.now))) (λ S k sc d n. On (Passing (ByName name) [] (map erase args.now) at) k sc d n) self.old.base depth self.old.left self.new.left room.old room.new (O.log self.old.store) (O.log self.new.store) (outcome result self.new.value self.new.leave) }
+    {
         let script = self.context.script;
         let Some(method) = script.functions.get(number as usize) else {
             return self.over(End::Memory);
@@ -628,7 +862,17 @@ impl<'p, O: OneStore + Drop> Walker<'p, O> {
         at: Span,
         depth: u32,
         room: &mut [Value],
-    ) -> Came {
+    ) -> Came
+        requires open { has_end (O.log self.old.store).entries ≡ false }
+        requires steps { self.old.left ≤ self.old.context.steps }
+        ensures base { self.new.base ≡ self.old.base }
+        ensures context { self.new.context ≡ self.old.context }
+        ensures room { length room.new ≡ length room.old }
+        ensures less { self.new.left ≤ self.old.left }
+        ensures open { has_end (O.log self.new.store).entries ≡ false }
+        ensures kept { (name : NameId) → Keeps self.old.context.script.now self.old.context.names.now (printing form name (length args.now) (λ S. every (map (fits S) args.now))) self.old.base room.old room.new }
+        ensures came { (name : NameId) → Carries self.old.context.script.now self.old.context.names.now self.old.context.steps (printing form name (length args.now) (λ S. every (map (fits S) args.now))) (λ S k sc d n. On (Passing (ByName name) [] (map erase args.now) at) k sc d n) self.old.base depth self.old.left self.new.left room.old room.new (O.log self.old.store) (O.log self.new.store) (outcome result self.new.value self.new.leave) }
+    {
         let before = self.base;
         let came = self.arguments(args, depth, room);
         self.base = before;
@@ -651,7 +895,19 @@ impl<'p, O: OneStore + Drop> Walker<'p, O> {
 
     /// The arguments, each behind the frame and in it from then on.
     #[cycle(walk)]
-    fn arguments(&mut self, args: &'p [Code], depth: u32, room: &mut [Value]) -> Came {
+    fn arguments(&mut self, args: &'p [Code], depth: u32, room: &mut [Value]) -> Came
+        requires open { has_end (O.log self.old.store).entries ≡ false }
+        requires steps { self.old.left ≤ self.old.context.steps }
+        ensures base { is_left result ≡ false → self.new.base ≡ self.old.base + length args.now }
+        ensures rises { self.old.base ≤ self.new.base }
+        ensures fits { self.old.base ≤ length room.old → self.new.base ≤ length room.new }
+        ensures context { self.new.context ≡ self.old.context }
+        ensures room { length room.new ≡ length room.old }
+        ensures less { self.new.left ≤ self.old.left }
+        ensures open { has_end (O.log self.new.store).entries ≡ false }
+        ensures kept { Keeps self.old.context.script.now self.old.context.names.now (λ S. every (map (fits S) args.now)) self.old.base room.old room.new }
+        ensures came { Passes self.old.context.script.now self.old.context.names.now self.old.context.steps args.now self.old.base depth self.old.left self.new.left room.old room.new (O.log self.old.store) (O.log self.new.store) result (outcome result self.new.value self.new.leave) }
+    {
         'args: for arg in args {
             let came = self.walk(arg, depth, room);
             if is_left(came) {
@@ -668,7 +924,17 @@ impl<'p, O: OneStore + Drop> Walker<'p, O> {
 
     /// A text.
     #[cycle(walk)]
-    fn text(&mut self, pieces: &'p [CodePiece], at: Span, depth: u32, room: &mut [Value]) -> Came {
+    fn text(&mut self, pieces: &'p [CodePiece], at: Span, depth: u32, room: &mut [Value]) -> Came
+        requires open { has_end (O.log self.old.store).entries ≡ false }
+        requires steps { self.old.left ≤ self.old.context.steps }
+        ensures base { self.new.base ≡ self.old.base }
+        ensures context { self.new.context ≡ self.old.context }
+        ensures room { length room.new ≡ length room.old }
+        ensures less { self.new.left ≤ self.old.left }
+        ensures open { has_end (O.log self.new.store).entries ≡ false }
+        ensures kept { Keeps self.old.context.script.now self.old.context.names.now (λ S. every (map (piece_fits S) pieces.now)) self.old.base room.old room.new }
+        ensures came { Carries self.old.context.script.now self.old.context.names.now self.old.context.steps (λ S. every (map (piece_fits S) pieces.now)) (λ S k sc d n. On (Joining [] (map erase_piece pieces.now) at) k sc d n) self.old.base depth self.old.left self.new.left room.old room.new (O.log self.old.store) (O.log self.new.store) (outcome result self.new.value self.new.leave) }
+    {
         let mut bytes = Vec::new(self.context.alloc);
         'pieces: for piece in pieces {
             match piece {
@@ -705,7 +971,17 @@ impl<'p, O: OneStore + Drop> Walker<'p, O> {
 
     /// `first && second`
     #[cycle(walk)]
-    fn both(&mut self, first: &'p Code, second: &'p Code, depth: u32, room: &mut [Value]) -> Came {
+    fn both(&mut self, first: &'p Code, second: &'p Code, depth: u32, room: &mut [Value]) -> Came
+        requires open { has_end (O.log self.old.store).entries ≡ false }
+        requires steps { self.old.left ≤ self.old.context.steps }
+        ensures base { self.new.base ≡ self.old.base }
+        ensures context { self.new.context ≡ self.old.context }
+        ensures room { length room.new ≡ length room.old }
+        ensures less { self.new.left ≤ self.old.left }
+        ensures open { has_end (O.log self.new.store).entries ≡ false }
+        ensures kept { Keeps self.old.context.script.now self.old.context.names.now (both (λ S. fits S first.now) (λ S. fits S second.now)) self.old.base room.old room.new }
+        ensures came { Carries self.old.context.script.now self.old.context.names.now self.old.context.steps (both (λ S. fits S first.now) (λ S. fits S second.now)) (λ S k sc d n. On (Eval (erase first.now)) (Then (RightOfAnd (erase second.now)) ∷ k) sc d n) self.old.base depth self.old.left self.new.left room.old room.new (O.log self.old.store) (O.log self.new.store) (outcome result self.new.value self.new.leave) }
+    {
         let came = self.walk(first, depth, room);
         if is_left(came) || !self.is_true_now(came) {
             return came;
@@ -715,13 +991,17 @@ impl<'p, O: OneStore + Drop> Walker<'p, O> {
 
     /// `first || second`
     #[cycle(walk)]
-    fn either(
-        &mut self,
-        first: &'p Code,
-        second: &'p Code,
-        depth: u32,
-        room: &mut [Value],
-    ) -> Came {
+    fn either(&mut self, first: &'p Code, second: &'p Code, depth: u32, room: &mut [Value]) -> Came
+        requires open { has_end (O.log self.old.store).entries ≡ false }
+        requires steps { self.old.left ≤ self.old.context.steps }
+        ensures base { self.new.base ≡ self.old.base }
+        ensures context { self.new.context ≡ self.old.context }
+        ensures room { length room.new ≡ length room.old }
+        ensures less { self.new.left ≤ self.old.left }
+        ensures open { has_end (O.log self.new.store).entries ≡ false }
+        ensures kept { Keeps self.old.context.script.now self.old.context.names.now (both (λ S. fits S first.now) (λ S. fits S second.now)) self.old.base room.old room.new }
+        ensures came { Carries self.old.context.script.now self.old.context.names.now self.old.context.steps (both (λ S. fits S first.now) (λ S. fits S second.now)) (λ S k sc d n. On (Eval (erase first.now)) (Then (RightOfOr (erase second.now)) ∷ k) sc d n) self.old.base depth self.old.left self.new.left room.old room.new (O.log self.old.store) (O.log self.new.store) (outcome result self.new.value self.new.leave) }
+    {
         let came = self.walk(first, depth, room);
         if is_left(came) || self.is_true_now(came) {
             return came;
@@ -731,7 +1011,17 @@ impl<'p, O: OneStore + Drop> Walker<'p, O> {
 
     /// `!value`
     #[cycle(walk)]
-    fn negate(&mut self, value: &'p Code, depth: u32, room: &mut [Value]) -> Came {
+    fn negate(&mut self, value: &'p Code, depth: u32, room: &mut [Value]) -> Came
+        requires open { has_end (O.log self.old.store).entries ≡ false }
+        requires steps { self.old.left ≤ self.old.context.steps }
+        ensures base { self.new.base ≡ self.old.base }
+        ensures context { self.new.context ≡ self.old.context }
+        ensures room { length room.new ≡ length room.old }
+        ensures less { self.new.left ≤ self.old.left }
+        ensures open { has_end (O.log self.new.store).entries ≡ false }
+        ensures kept { Keeps self.old.context.script.now self.old.context.names.now (λ S. fits S value.now) self.old.base room.old room.new }
+        ensures came { Carries self.old.context.script.now self.old.context.names.now self.old.context.steps (λ S. fits S value.now) (λ S k sc d n. On (Eval (erase value.now)) (Then Negate ∷ k) sc d n) self.old.base depth self.old.left self.new.left room.old room.new (O.log self.old.store) (O.log self.new.store) (outcome result self.new.value self.new.leave) }
+    {
         let came = self.walk(value, depth, room);
         if is_left(came) {
             return came;
@@ -752,7 +1042,17 @@ impl<'p, O: OneStore + Drop> Walker<'p, O> {
         second: &'p [Code],
         depth: u32,
         room: &mut [Value],
-    ) -> Came {
+    ) -> Came
+        requires open { has_end (O.log self.old.store).entries ≡ false }
+        requires steps { self.old.left ≤ self.old.context.steps }
+        ensures base { self.new.base ≡ self.old.base }
+        ensures context { self.new.context ≡ self.old.context }
+        ensures room { length room.new ≡ length room.old }
+        ensures less { self.new.left ≤ self.old.left }
+        ensures open { has_end (O.log self.new.store).entries ≡ false }
+        ensures kept { Keeps self.old.context.script.now self.old.context.names.now (both (λ S. fits S condition.now) (both (λ S. every (map (fits S) first.now)) (λ S. every (map (fits S) second.now)))) self.old.base room.old room.new }
+        ensures came { Carries self.old.context.script.now self.old.context.names.now self.old.context.steps (both (λ S. fits S condition.now) (both (λ S. every (map (fits S) first.now)) (λ S. every (map (fits S) second.now)))) (λ S k sc d n. On (Eval (erase condition.now)) (Then (Choose (map erase first.now) (map erase second.now)) ∷ k) sc d n) self.old.base depth self.old.left self.new.left room.old room.new (O.log self.old.store) (O.log self.new.store) (outcome result self.new.value self.new.leave) }
+    {
         let came = self.walk(condition, depth, room);
         if is_left(came) {
             return came;
@@ -765,7 +1065,17 @@ impl<'p, O: OneStore + Drop> Walker<'p, O> {
 
     /// The statements of a body, one after another.
     #[cycle(walk)]
-    fn body(&mut self, nodes: &'p [Code], depth: u32, room: &mut [Value]) -> Came {
+    fn body(&mut self, nodes: &'p [Code], depth: u32, room: &mut [Value]) -> Came
+        requires open { has_end (O.log self.old.store).entries ≡ false }
+        requires steps { self.old.left ≤ self.old.context.steps }
+        ensures base { self.new.base ≡ self.old.base }
+        ensures context { self.new.context ≡ self.old.context }
+        ensures room { length room.new ≡ length room.old }
+        ensures less { self.new.left ≤ self.old.left }
+        ensures open { has_end (O.log self.new.store).entries ≡ false }
+        ensures kept { Keeps self.old.context.script.now self.old.context.names.now (λ S. every (map (fits S) nodes.now)) self.old.base room.old room.new }
+        ensures came { Carries self.old.context.script.now self.old.context.names.now self.old.context.steps (λ S. every (map (fits S) nodes.now)) (λ S k sc d n. On (Following Nil (map erase nodes.now)) k sc d n) self.old.base depth self.old.left self.new.left room.old room.new (O.log self.old.store) (O.log self.new.store) (outcome result self.new.value self.new.leave) }
+    {
         let mut came = Came::Nil;
         'nodes: for node in nodes {
             came = self.walk(node, depth, room);
@@ -784,7 +1094,17 @@ impl<'p, O: OneStore + Drop> Walker<'p, O> {
         body: &'p [Code],
         depth: u32,
         room: &mut [Value],
-    ) -> Came {
+    ) -> Came
+        requires open { has_end (O.log self.old.store).entries ≡ false }
+        requires steps { self.old.left ≤ self.old.context.steps }
+        ensures base { self.new.base ≡ self.old.base }
+        ensures context { self.new.context ≡ self.old.context }
+        ensures room { length room.new ≡ length room.old }
+        ensures less { self.new.left ≤ self.old.left }
+        ensures open { has_end (O.log self.new.store).entries ≡ false }
+        ensures kept { Keeps self.old.context.script.now self.old.context.names.now (both (λ S. fits S condition.now) (λ S. every (map (fits S) body.now))) self.old.base room.old room.new }
+        ensures came { Carries self.old.context.script.now self.old.context.names.now self.old.context.steps (both (λ S. fits S condition.now) (λ S. every (map (fits S) body.now))) (λ S k sc d n. On (Looping (erase condition.now) (map erase body.now)) k sc d n) self.old.base depth self.old.left self.new.left room.old room.new (O.log self.old.store) (O.log self.new.store) (outcome result self.new.value self.new.leave) }
+    {
         'turns: loop {
             let came = self.walk(condition, depth, room);
             if is_left(came) {
@@ -805,7 +1125,17 @@ impl<'p, O: OneStore + Drop> Walker<'p, O> {
 
     /// A return with a value.
     #[cycle(walk)]
-    fn leave_with(&mut self, value: &'p Code, depth: u32, room: &mut [Value]) -> Came {
+    fn leave_with(&mut self, value: &'p Code, depth: u32, room: &mut [Value]) -> Came
+        requires open { has_end (O.log self.old.store).entries ≡ false }
+        requires steps { self.old.left ≤ self.old.context.steps }
+        ensures base { self.new.base ≡ self.old.base }
+        ensures context { self.new.context ≡ self.old.context }
+        ensures room { length room.new ≡ length room.old }
+        ensures less { self.new.left ≤ self.old.left }
+        ensures open { has_end (O.log self.new.store).entries ≡ false }
+        ensures kept { Keeps self.old.context.script.now self.old.context.names.now (λ S. fits S value.now) self.old.base room.old room.new }
+        ensures came { Carries self.old.context.script.now self.old.context.names.now self.old.context.steps (λ S. fits S value.now) (λ S k sc d n. On (Eval (erase value.now)) (Then ReturnOf ∷ k) sc d n) self.old.base depth self.old.left self.new.left room.old room.new (O.log self.old.store) (O.log self.new.store) (outcome result self.new.value self.new.leave) }
+    {
         let came = self.walk(value, depth, room);
         if is_left(came) {
             return came;
@@ -816,7 +1146,9 @@ impl<'p, O: OneStore + Drop> Walker<'p, O> {
     }
 
     /// Whether a loop goes on behind its body: a `next` is done with.
-    fn goes_on(&self, came: Came) -> bool {
+    fn goes_on(&self, came: Came) -> bool
+        ensures { result ≡ goes_on (outcome came self.now.value self.now.leave) }
+    {
         if !is_left(came) {
             return true;
         }
@@ -827,7 +1159,9 @@ impl<'p, O: OneStore + Drop> Walker<'p, O> {
     }
 
     /// What a loop gives that does not go on: a `break` is done with.
-    fn out_of_loop(&self, came: Came) -> Came {
+    fn out_of_loop(&self, came: Came) -> Came
+        ensures { goes_on (outcome came self.now.value self.now.leave) ≡ false → outcome result self.now.value self.now.leave ≡ loop_exit (outcome came self.now.value self.now.leave) }
+    {
         match self.leave {
             Leave::Break => Came::Nil,
             _ => came,
@@ -835,7 +1169,13 @@ impl<'p, O: OneStore + Drop> Walker<'p, O> {
     }
 
     /// What a call gives behind its body.
-    fn out_of_call(&mut self, came: Came) -> Came {
+    fn out_of_call(&mut self, came: Came) -> Came
+        ensures gives { outcome result self.new.value self.new.leave ≡ call_exit (outcome came self.old.value self.old.leave) }
+        ensures base { self.new.base ≡ self.old.base }
+        ensures left { self.new.left ≡ self.old.left }
+        ensures context { self.new.context ≡ self.old.context }
+        ensures store { self.new.store ≡ self.old.store }
+    {
         if !is_left(came) {
             return came;
         }
@@ -896,7 +1236,9 @@ fn end_of(came: Came, leave: Leave) -> End {
 }
 
 /// Adds bytes behind others.
-fn add_bytes(out: &mut Vec<u8>, bytes: &[u8]) -> Result<(), AllocError> {
+fn add_bytes(out: &mut Vec<u8>, bytes: &[u8]) -> Result<(), AllocError>
+    ensures { OnOk result (out.new.items ≡ out.old.items ++ bytes.now) }
+{
     out.extend_from_slice(bytes)?;
     Ok(())
 }
