@@ -44,6 +44,11 @@ pub first_of-append : (xs ys : List CheckFault) → first_of (xs ++ ys) ≡ firs
 first_of-append [] ys = refl
 first_of-append (x ∷ xs) ys = ap (first_of_two (Some x)) (first_of-append xs ys) ∙ sym (of_two_associates (Some x) (first_of xs) (first_of ys))
 
+-- the fault that counts of two lists of faults
+pub first_of_both : (xs ys all : List CheckFault) (a b c : Option CheckFault) → all ≡ xs ++ ys → a ≡ first_of xs → b ≡ first_of ys → c ≡ first_of_two a b → c ≡ first_of all
+first_of_both xs ys all a b c is x y h =
+    h ∙ ap (λ o. first_of_two o b) x ∙ ap (first_of_two (first_of xs)) y ∙ sym (first_of-append xs ys) ∙ sym (ap first_of is)
+
 -- the fault that counts of lists of faults, one behind the other
 pub first_of_more : {A : Type 0} (f : A → List CheckFault) (xs more : List A) (x : A) (found next : Option CheckFault) → more ≡ xs ++ x ∷ []
     → found ≡ first_of (flat_map f xs) → next ≡ first_of (f x) → first_of_two found next ≡ first_of (flat_map f more)

@@ -6,3 +6,14 @@ pub mod Firsts
 pub mod Added
 pub mod Placing
 pub mod Repeating
+pub mod Knowing
+pub mod UsesMore
+pub mod CrowdMore
+pub mod Holding
+pub mod Reversed
+pub mod Noting
+pub mod Settles
+pub mod Finding
+pub mod Scripting
+pub mod Threadless
+pub mod ParamsMore

@@ -5,14 +5,9 @@ use Rattle.std.proofs.lemmas.Grind.{flat_map-append}
 use Rattle.std.proofs.lemmas.List.{take_more}
 use Rattle.rb_checker.specs.declared.event.Event.{Event}
 use Rattle.rb_checker.specs.declared.fault.CheckFault.{CheckFault}
-use Rattle.rb_checker.specs.Around.{Open, behind, placed}
+use Rattle.rb_checker.specs.Around.{Open, behind, behind_all, placed}
 use Rattle.rb_checker.specs.Fault.{first_of, first_of_two}
 use Rattle.rb_checker.proofs.Firsts.{first_of-append}
-
--- what stands round behind events
-abbrev pub behind_all : Open → List Event → Open
-behind_all round [] = round
-behind_all round (e ∷ more) = behind_all (behind round e.sight e.at) more
 
 pub behind_all-more : (round : Open) (events : List Event) (e : Event) → behind_all round (events ++ e ∷ []) ≡ behind (behind_all round events) e.sight e.at
 behind_all-more round [] e = refl

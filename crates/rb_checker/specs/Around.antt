@@ -17,6 +17,11 @@ behind round (sight.Begins a) at = (a, at) ∷ round
 behind round sight.Ends at = drop 1 round
 behind round other at = round
 
+-- what stands round the text behind events
+abbrev pub behind_all : Open → List Event → Open
+behind_all round [] = round
+behind_all round (e ∷ more) = behind_all (behind round e.sight e.at) more
+
 -- each event, with what stands round it
 abbrev pub placed : Open → List Event → List (Open × Event)
 placed round [] = []

@@ -46,6 +46,11 @@ crowded_behind limit before (u ∷ more) =
     if is_among u.0 before then crowded_behind limit before more
     else (if nat_le limit (length before) then fault.TooManyFields u.1 ∷ [] else []) ++ crowded_behind limit (u.0 ∷ before) more
 
+-- the names of uses, each once, in front of those before them
+abbrev pub seen_behind : List NameId → Uses → List NameId
+seen_behind before [] = before
+seen_behind before (u ∷ more) = if is_among u.0 before then seen_behind before more else seen_behind (u.0 ∷ before) more
+
 abbrev pub crowded : ℕ → Uses → List CheckFault
 crowded limit uses = crowded_behind limit [] uses
 

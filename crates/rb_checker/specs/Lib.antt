@@ -10,6 +10,12 @@ pub mod Twice
 pub mod Crowd
 pub mod Locals
 pub mod Settled
+pub mod Findings
 pub mod Texts
 pub mod Misplaced
+pub mod Scripts
 pub mod Check
+pub mod Walked
+pub mod Crowded
+pub mod Assigned
+pub mod Settling

@@ -8,7 +8,8 @@ use Rattle.rb_checker.specs.declared.event.Around.TheVariants as around
 use Rattle.rb_checker.specs.declared.fault.CheckFault.{CheckFault}
 use Rattle.rb_checker.specs.declared.fault.CheckFault.TheVariants as fault
 use Rattle.rb_checker.specs.Around.{Open}
-use Rattle.rb_checker.specs.Locals.{Local, Use, assigns, same_scope, same_local, scopes_of, known_in, uses_from, uses_behind_start}
+use Rattle.rb_checker.specs.declared.locals.Local.{Local}
+use Rattle.rb_checker.specs.Locals.{Use, assigns, same_scope, same_local, scopes_of, known_in, uses_from, uses_behind_start}
 
 -- whether this opens the scope of a local
 abbrev pub opens : Option ℕ → Enclosure × Span → Bool
@@ -35,7 +36,7 @@ in_value_of known v ((around.Value name, at) ∷ outer) =
     elim (known_in known name (scopes_of outer)) [ None ↦ in_value_of known v outer | Some local ↦ (if same_local local v then true else in_value_of known v outer) ]
 in_value_of known v (other ∷ outer) = in_value_of known v outer
 
-abbrev is_empty : List Use → Bool
+abbrev pub is_empty : List Use → Bool
 is_empty [] = true
 is_empty (u ∷ more) = false
 
@@ -49,7 +50,7 @@ locals_in uses = flat_map (λ (u : Use). if assigns u.usage then u.local ∷ [] 
 
 -- The events of a text are given, each with what stands round it.
 module _ (text : List (Open × Event)) where
-  abbrev uses : List Use
+  abbrev pub uses : List Use
   uses = uses_from [] text
 
   -- A local is settled for the thread that is started at a place, where each assignment to it has ended before that place, none stands behind it,

@@ -9,7 +9,8 @@ use Rattle.rb_tree.specs.declared.node.Program.{Program}
 use Rattle.rb_checker.specs.declared.fault.CheckFault.{CheckFault}
 use Rattle.rb_checker.specs.declared.fault.CheckFault.TheVariants as fault
 use Rattle.rb_checker.specs.Names.{Text, is_among, text_among, taken_classes}
-use Rattle.rb_checker.specs.Locals.{Local, Use, is_param, same_local}
+use Rattle.rb_checker.specs.declared.locals.Local.{Local}
+use Rattle.rb_checker.specs.Locals.{Use, is_param, same_local}
 
 -- names that are defined, each with its place
 abbrev pub Defined : Type 0
@@ -43,15 +44,25 @@ of_classes classes = map (λ (c : Class). (c.name, c.at)) classes
 abbrev pub is_taken : List Text → NameId → Bool
 is_taken names name = text_among (slice_get names name.0) taken_classes
 
+-- the parameters behind a use, and a fault at one that is among those before it
+abbrev pub with_param : List Local → Use → List Local
+with_param before u = if is_param u.usage then u.local ∷ before else before
+
+abbrev pub param_twice : List Local → Use → List CheckFault
+param_twice before u = twice_if (is_param u.usage && list_any (same_local u.local) before) u.at
+
+abbrev pub params_behind : List Local → List Use → List CheckFault
+params_behind before [] = []
+params_behind before (u ∷ more) = param_twice before u ++ params_behind (with_param before u) more
+
+-- the parameters among uses, the last first, in front of those before them
+abbrev pub params_of : List Local → List Use → List Local
+params_of before [] = before
+params_of before (u ∷ more) = params_of (with_param before u) more
+
 -- a fault at each parameter that stands before it in its method or block
 abbrev pub params_twice : List Use → List CheckFault
-params_twice uses = params_from [] uses
-  where
-    params_from : List Local → List Use → List CheckFault
-    params_from before [] = []
-    params_from before (u ∷ more) =
-        (if is_param u.usage && list_any (same_local u.local) before then fault.TwiceDefined u.at ∷ [] else [])
-        ++ params_from (if is_param u.usage then u.local ∷ before else before) more
+params_twice uses = params_behind [] uses
 
 abbrev pub methods_twice : List Method → List CheckFault
 methods_twice methods = twice none_taken (of_methods methods)

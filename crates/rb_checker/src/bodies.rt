@@ -13,14 +13,14 @@ use std::alloc::{AllocError, Global};
 /// The events of the bodies of threads. Of so many bodies those of the last ones are kept, from the last on, since a body
 /// may start only threads of later ones.
 #[derive(Drop)]
-pub struct Bodies {
+pub(crate) struct Bodies {
     total: usize,
     kept: Vec<Vec<Event>>,
 }
 
 impl Bodies {
     /// Gathers the events of the bodies of a script's threads.
-    pub fn new(alloc: Global, blocks: &[Block]) -> Result<Bodies, AllocError>
+    pub(crate) fn new(alloc: Global, blocks: &[Block]) -> Result<Bodies, AllocError>
         ensures { IfOk result (λ it. Tells it.total (map (λ e. e.items) it.kept.items) (bodies_from 0 blocks.now)) }
     {
         let mut left = blocks.len();
@@ -37,7 +37,7 @@ impl Bodies {
     }
 
     /// The events of parameters and of the statements behind them, with those of the threads that they start.
-    pub fn events(
+    pub(crate) fn events(
         &self,
         alloc: Global,
         params: &[Param],

@@ -4,7 +4,7 @@ use rb_tree::{NameId, Span};
 
 /// What stands round a part of the text.
 #[derive(Clone, Copy, Debug, PartialEq, Eq)]
-pub enum Around {
+pub(crate) enum Around {
     Loop,
     /// The block of a call, which has a scope of its own.
     Block,
@@ -16,7 +16,7 @@ pub enum Around {
 
 /// Something that a rule speaks of.
 #[derive(Clone, Copy, Debug, PartialEq, Eq)]
-pub enum Sight {
+pub(crate) enum Sight {
     /// Something begins that stands round what follows, up to its end.
     Begins(Around),
     Ends,
@@ -42,7 +42,7 @@ pub enum Sight {
 
 /// A sight at its place.
 #[derive(Clone, Copy, Debug, PartialEq, Eq)]
-pub struct Event {
+pub(crate) struct Event {
     pub sight: Sight,
     pub at: Span,
 }

@@ -1,21 +1,29 @@
-//! The rules of names: what a script may call, make, leave and define. Of the rules that `specs/Check.antt` has, those about captured
-//! locals, about parameters and about how many variables and classes there may be are not looked at yet.
+//! The rules of names: what a script may call, make, leave, define and capture, and how many variables and classes it may have.
+//! `check` looks at all of them, and answers the first that a program breaks, as `specs/Check.antt` has them.
+//!
+//! A text is a list of events, which is gathered once and gone through by each rule. A use of a local costs a look-up for each block
+//! and thread round it, and in a thread one more for each thing that stands round that.
 #![tactic(auto)]
 
 mod bodies;
+mod crowds;
 mod event;
 mod fault;
 mod first;
+mod found;
 mod gather;
-mod misplaced;
+mod locals;
+mod params;
 mod repeated;
 mod rules;
 mod sets;
+mod settling;
 #[cfg(test)]
 mod tests;
+mod texts;
+mod unsettled;
+mod walking;
+mod whole;
 
-pub use bodies::Bodies;
-pub use event::{Around, Event, Sight};
 pub use fault::CheckFault;
-pub use misplaced::find_misplaced;
-pub use repeated::find_repeated;
+pub use whole::{CheckError, check};

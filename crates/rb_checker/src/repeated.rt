@@ -90,11 +90,11 @@ fn repeated_in_classes(alloc: Global, classes: &[Class]) -> Result<Option<CheckF
 }
 
 /// The first class, method of one class or method of the top level of a program that has a name that was given before, or a class
-/// that has the name of one that is there. Parameters are not looked at.
-///
-/// # Errors
-/// `AllocError` where memory is refused.
-pub fn find_repeated(alloc: Global, program: &Program) -> Result<Option<CheckFault>, AllocError>
+/// that has the name of one that is there.
+pub(crate) fn find_repeated(
+    alloc: Global,
+    program: &Program,
+) -> Result<Option<CheckFault>, AllocError>
     ensures { IfOk result (λ found. found ≡ first_of (spec.repeated_in program.now)) }
 {
     let in_program = repeated_class(alloc, &program.names, program.classes.as_slice())?;

@@ -62,7 +62,7 @@ fn in_no_thread(round: &[(Around, Span)]) -> bool
 }
 
 /// What begins or ends with an event, as what stands round those behind it.
-fn go_behind(round: &mut Vec<(Around, Span)>, event: &Event) -> Result<(), AllocError>
+pub(crate) fn go_behind(round: &mut Vec<(Around, Span)>, event: &Event) -> Result<(), AllocError>
     ensures { OnOk result (reverse round.new.items ≡ spec.behind (reverse round.old.items) event.now.sight event.now.at) }
 {
     match event.sight {

@@ -1,7 +1,7 @@
 -- What takes a step.
-use Rattle.std.proofs.Common.{◌≡◌, ℕ, zero, suc, ◌+◌, Bool, true, false, cond, List, [], ◌∷◌, Option, Some, None, refl, sym, ap, ◌∙◌, subst, arith}
+use Rattle.std.proofs.Common.{◌≡◌, ℕ, zero, suc, ◌+◌, Bool, true, false, cond, List, [], ◌∷◌, refl, sym, ap, ◌∙◌, subst, arith}
 use Rattle.std.proofs.lemmas.Bool.Decides.{nat_tests}
-use Rattle.std.specs.Prelude.{nat_lt, ℤ, int_lt, ◌&&◌, if◌then◌else◌}
+use Rattle.std.specs.Prelude.{nat_lt, int_lt, ◌&&◌}
 use Rattle.rb_tree.specs.declared.span.Span.{Span}
 use Rattle.rb_tree.specs.declared.node.Node.{Node, out-Node}
 use Rattle.rb_tree.specs.declared.node.Piece.{Piece, out-Piece}
@@ -18,7 +18,7 @@ use Rattle.rb_machine.specs.Scopes.{Script, Scope}
 use Rattle.rb_machine.specs.Control.{State, On, Cont, Under, Turns, Counting, Eval, Give, Leave, Following, Looping, Turning, Passing, Joining, Making, Calling, Showing, Ended}
 use Rattle.rb_machine.specs.Call.{raised}
 use Rattle.rb_machine.specs.Begin.{begin}
-use Rattle.rb_machine.specs.Move.{Next, Go, Make, Ask, Show, Stop, move, replied, answered, left_in, turn, start_node, start_turn, join_piece, max_depth}
+use Rattle.rb_machine.specs.Move.{Next, Go, move, answered, left_in, turn, start_node, start_turn, join_piece, max_depth}
 use Rattle.rb_machine.specs.Laws.{one_more_if, begins_step, CountsSteps, RepliesAreFree}
 use Rattle.rb_machine.proofs.Measure.{join_within, give_within, leave_within, perform_within}
 use Rattle.rb_machine.proofs.Down.{begin_left}

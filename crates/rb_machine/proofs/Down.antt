@@ -1,6 +1,6 @@
 -- Each silent move takes a step, or makes the work that is left less; so every state comes to a want.
-use Rattle.std.proofs.Common.{◌≡◌, ◌<◌, ◌≤◌, ◌⊎◌, inl, inr, ℕ, zero, suc, ◌+◌, Bool, true, false, cond, List, [], ◌∷◌, ◌++◌, Option, Some, None, length, refl, sym, ap, ◌∙◌, subst, arith}
-use Rattle.std.specs.Prelude.{nat_lt, nat_eq, ℤ, int_lt, pos, ◌+ℤ◌, take}
+use Rattle.std.proofs.Common.{◌≡◌, ◌<◌, ◌≤◌, ◌⊎◌, inl, inr, ℕ, zero, suc, ◌+◌, Bool, true, false, cond, List, [], ◌∷◌, Option, Some, None, length, refl, sym, ◌∙◌, subst, arith}
+use Rattle.std.specs.Prelude.{nat_lt, int_lt}
 use Rattle.rb_tree.specs.declared.span.Span.{Span}
 use Rattle.rb_tree.specs.declared.span.NameId.{NameId}
 use Rattle.rb_tree.specs.declared.node.AssignOp.{AssignOp}
@@ -13,14 +13,12 @@ use Rattle.rb_tree.specs.declared.node.Node.TheOpen as node
 use Rattle.rb_tree.specs.Layer.{NodeLayer}
 use Rattle.rb_tree.specs.Place.{place}
 use Rattle.rb_model.specs.declared.fault.Fault.TheVariants.{TooDeep}
-use Rattle.rb_model.specs.Values.{Value, Nil, Reference}
 use Rattle.rb_model.specs.Acts.{GetField}
-use Rattle.rb_model.specs.Ends as ending
-use Rattle.rb_machine.specs.Scopes.{Script, Text, Scope, text_of, fresh, with_locals}
-use Rattle.rb_machine.specs.Control.{State, On, Cont, Then, Under, Turn, Exit, Aim, Turns, Counting, OfLocal, OfField, OfGlobal, Eval, Give, Leave, Following, Looping, Turning, Passing, Joining, Making, Calling, Showing, Ended}
-use Rattle.rb_machine.specs.Call.{ended, raised}
+use Rattle.rb_machine.specs.Scopes.{Script, Scope}
+use Rattle.rb_machine.specs.Control.{State, On, Cont, Under, Turns, Counting, OfField, Eval, Give, Leave, Following, Looping, Turning, Passing, Joining, Making, Calling, Showing, Ended}
+use Rattle.rb_machine.specs.Call.{raised}
 use Rattle.rb_machine.specs.Begin.{begin, begin_call, begin_target, begin_return}
-use Rattle.rb_machine.specs.Move.{Next, Go, Make, Ask, Show, Stop, move, left_in, turn, start_node, start_turn, later_turns, first_of_turn, join_piece, max_depth, IsWant}
+use Rattle.rb_machine.specs.Move.{Next, Go, Make, Ask, Show, Stop, move, left_in, turn, start_node, start_turn, join_piece, max_depth, IsWant}
 use Rattle.rb_machine.specs.Laws.{Quiet, stays, moves, IsNeverStuck}
 use Rattle.rb_machine.proofs.Measure.{size, weight, weights, Within, ask_of_within, join_within, read_within, give_within, leave_within, perform_within}
 

@@ -1,12 +1,17 @@
--- Values of methods, by computation.
+-- Values of methods, and moves of the machine, by computation.
 use Rattle.std.proofs.Common.{◌≡◌, ℕ, List, [], ◌∷◌, Some, None, refl}
-use Rattle.std.specs.Prelude.{ℤ, pos, negsuc, codes}
+use Rattle.std.specs.Prelude.{pos, negsuc, codes}
 use Rattle.rb_model.specs.declared.fault.Fault.TheVariants.{NoMethod, ArgumentCount, TypeMismatch, ZeroDivision, IntegerOverflow}
-use Rattle.rb_model.specs.Values.{Value, Nil, False, True, Int, Sym, Str}
-use Rattle.rb_machine.specs.Scopes.{Text}
-use Rattle.rb_machine.specs.Control.{Counting}
-use Rattle.rb_machine.specs.Texts.{escaped}
-use Rattle.rb_machine.specs.Methods.{Answer, Gives, Raises, Loops, deed, quotient, modulo}
+use Rattle.rb_tree.specs.declared.span.Span.{Span}
+use Rattle.rb_tree.specs.declared.node.Node.{Node}
+use Rattle.rb_model.specs.Values.{Value, Nil, False, True, Int, Str}
+use Rattle.rb_model.specs.Things.{Elements}
+use Rattle.rb_machine.specs.Scopes.{Script, Text, Scope}
+use Rattle.rb_machine.specs.Control.{On, Cont, Then, Test, Again, Give, Following, Showing, Instead, Create, Break, Counting}
+use Rattle.rb_machine.specs.Texts.{escaped, puts_text, print_text, p_text}
+use Rattle.rb_machine.specs.Methods.{Gives, Raises, Loops, deed, quotient, modulo}
+use Rattle.rb_machine.specs.Call.{print}
+use Rattle.rb_machine.specs.Give.{give, leave}
 
 -- rounded toward minus infinity, with the sign of the divisor
 quotients : (quotient (negsuc 6) (pos 2) ≡ negsuc 3) × (quotient (pos 7) (negsuc 1) ≡ negsuc 3) × (quotient (negsuc 6) (negsuc 1) ≡ pos 3) × (quotient (pos 6) (negsuc 2) ≡ negsuc 1)
@@ -42,3 +47,39 @@ module _ (names : List Text) where
 -- the text `a#{b#c` with a quote and a line feed
 escapes : escaped (codes "a#{b#c\"\n") ≡ codes "a\\#{b#c\\\"\\n"
 escapes = refl
+
+-- a text that ends with a line feed gets no second one; nil and the empty text are empty lines
+lines : (names : List Text) → (puts_text names (Str (codes "a\n") ∷ Str (codes "b") ∷ Nil ∷ Str [] ∷ []) ≡ codes "a\nb\n\n\n")
+    × (puts_text names [] ≡ codes "\n") × (print_text names (Str (codes "a\n") ∷ True ∷ Nil ∷ []) ≡ codes "a\ntrue") × (print_text names [] ≡ []) × (p_text names [] ≡ [])
+lines names = (refl, refl, refl, refl, refl)
+
+inspections : (names : List Text) → p_text names (Str (codes "a\"b") ∷ Nil ∷ False ∷ []) ≡ codes "\"a\\\"b\"\nnil\nfalse\n"
+inspections names = refl
+
+-- `length` counts characters, and not bytes
+lengths : (names : List Text) → deed names (Str (195 ∷ 164 ∷ 98 ∷ [])) (codes "length") [] None ≡ Gives (Int (pos 2))
+lengths names = refl
+
+module _ (S : Script) (at : Span) (k : List Cont) (sc : Scope) (d left : ℕ) where
+  -- where there is nothing to show, nothing is shown
+  silent : (print S (codes "print") (Nil ∷ Str [] ∷ []) at k sc d left ≡ On (Give Nil) (Then (Instead Nil) ∷ k) sc d left)
+      × (print S (codes "p") [] at k sc d left ≡ On (Give Nil) (Then (Instead Nil) ∷ k) sc d left)
+  silent = (refl, refl)
+
+  -- `puts` answers nil; `p` answers its value, and two values as an array
+  answers : (print S (codes "puts") (True ∷ []) at k sc d left ≡ On (Showing (codes "true\n")) (Then (Instead Nil) ∷ k) sc d left)
+      × (print S (codes "p") (True ∷ []) at k sc d left ≡ On (Showing (codes "true\n")) (Then (Instead True) ∷ k) sc d left)
+      × (print S (codes "p") (True ∷ Nil ∷ []) at k sc d left ≡ On (Showing (codes "true\nnil\n")) (Then (Create (Elements (True ∷ Nil ∷ []))) ∷ k) sc d left)
+  answers = (refl, refl, refl)
+
+  -- `break` in a condition ends the loop, as it does in the body
+  breaks : (condition : Node) (body : List Node) → (leave Break (Test condition body) k sc d left ≡ On (Give Nil) k sc d left)
+      × (leave Break (Again condition body) k sc d left ≡ On (Give Nil) k sc d left)
+  breaks condition body = (refl, refl)
+
+  -- a loop whose condition is false or nil ends with nil; any other value goes on, 0 and the empty text too
+  conditions : (condition : Node) (body : List Node) → (give S False (Test condition body) k sc d left ≡ On (Give Nil) k sc d left)
+      × (give S Nil (Test condition body) k sc d left ≡ On (Give Nil) k sc d left)
+      × (give S (Int (pos 0)) (Test condition body) k sc d left ≡ On (Following Nil body) (Again condition body ∷ k) sc d left)
+      × (give S (Str []) (Test condition body) k sc d left ≡ On (Following Nil body) (Again condition body ∷ k) sc d left)
+  conditions condition body = (refl, refl, refl, refl)

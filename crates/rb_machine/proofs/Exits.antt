@@ -1,12 +1,9 @@
 -- Where `break`, `next` and `return` lead.
-use Rattle.std.proofs.Common.{◌≡◌, ℕ, Bool, true, false, List, [], ◌∷◌, ◌++◌, refl}
-use Rattle.rb_tree.specs.declared.node.Node.{Node}
-use Rattle.rb_tree.specs.declared.node.Block.{Block}
-use Rattle.rb_model.specs.Values.{Value, Nil}
+use Rattle.std.proofs.Common.{◌≡◌, ℕ, true, List, [], ◌∷◌, ◌++◌, refl}
 use Rattle.rb_machine.specs.Scopes.{Script, Scope}
-use Rattle.rb_machine.specs.Control.{State, On, Cont, Then, Under, Test, Again, Turn, Frame, Turns, Eval, Give, Leave, Looping, Turning, Exit, Break, Next, Return}
+use Rattle.rb_machine.specs.Control.{State, On, Cont, Then, Under, Test, Again, Turn, Frame, Leave, Exit, Break, Next}
 use Rattle.rb_machine.specs.Give.{back, leave}
-use Rattle.rb_machine.specs.Laws.{Quiet, stays, moves, is_inner, is_in_method, depth_behind, BreakEndsLoops, BreakEndsBlocks, NextGoesOn, ReturnEndsMethods}
+use Rattle.rb_machine.specs.Laws.{Quiet, stays, moves, is_inner, depth_behind, BreakEndsLoops, BreakEndsBlocks, NextGoesOn, ReturnEndsMethods}
 
 -- an exit goes past what is inside one loop, block or method
 past : (S : Script) (e : Exit) (inner k : List Cont) (sc : Scope) (d left : ℕ) (t : State) → is_inner inner ≡ true → Quiet S (On (Leave e) k sc (depth_behind inner d) left) t
@@ -14,7 +11,6 @@ past : (S : Script) (e : Exit) (inner k : List Cont) (sc : Scope) (d left : ℕ)
 past S e [] k sc d left t h q = q
 past S e (Then step ∷ inner) k sc d left t h q = moves _ _ _ refl (past S e inner k sc d left t h q)
 past S e (Under depth ∷ inner) k sc d left t h q = moves _ _ _ refl (past S e inner k sc depth left t h q)
-
 past S e (Test condition body ∷ inner) k sc d left t h q = absurd (cc)
 past S e (Again condition body ∷ inner) k sc d left t h q = absurd (cc)
 past S e (Turn turns block kept ∷ inner) k sc d left t h q = absurd (cc)

@@ -1,7 +1,7 @@
 -- Every script with a budget of steps finishes.
-use Rattle.std.proofs.Common.{◌≡◌, ◌<◌, ◌⊎◌, inl, inr, ℕ, ◌+◌, List, [], ◌∷◌, ◌++◌, Option, Some, None, refl, arith}
+use Rattle.std.proofs.Common.{◌≡◌, ◌<◌, inr, ℕ, ◌+◌, List, [], ◌∷◌, Option, Some, None, refl, arith}
 use Rattle.rb_tree.specs.declared.span.Span.{Span}
-use Rattle.rb_model.specs.Values.{Reference, To}
+use Rattle.rb_model.specs.Values.{Reference}
 use Rattle.rb_model.specs.Acts.{Act, Reply, Done}
 use Rattle.rb_model.specs.Acts as reply
 use Rattle.rb_model.specs.Ends as ending
@@ -10,8 +10,7 @@ use Rattle.rb_model.specs.Private.{Private, held}
 use Rattle.rb_machine.specs.Scopes.{Script, Scope}
 use Rattle.rb_machine.specs.Control.{State, On, Cont, Eval, Give, Leave, Following, Looping, Turning, Passing, Joining, Making, Calling, Showing, Ended}
 use Rattle.rb_machine.specs.Move.{Next, Go, Make, Ask, Show, Stop, move, replied, answered, left_in}
-use Rattle.rb_machine.specs.Follows.{next_thing}
-use Rattle.rb_machine.specs.Alone.{Runs, begins, goes, makes, acts, shows, opening, globals_alone, Alone}
+use Rattle.rb_machine.specs.Alone.{Runs, begins, goes, makes, acts, shows, opening, globals_alone}
 use Rattle.rb_machine.specs.Laws.{Finishes, ends, misses, AlwaysFinishes}
 use Rattle.rb_machine.proofs.Measure.{size, weights}
 use Rattle.rb_machine.proofs.Down.{Less, Down, down, by_less}

@@ -4,4 +4,14 @@ pub mod Counts
 pub mod Exits
 pub mod Once
 pub mod Finishing
+pub mod Uniform
+pub mod Ways
+pub mod Context
+pub mod Enough
+pub mod Scoping
+pub mod Kept
+pub mod Locals
+pub mod Turns
+pub mod Division
+pub mod Budgets
 pub mod Examples

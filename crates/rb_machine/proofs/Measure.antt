@@ -1,32 +1,25 @@
 -- The work that is left where no step begins: each silent move makes it less, or takes a step.
-use Rattle.std.proofs.Common.{◌≡◌, ◌<◌, ◌≤◌, ◌⊎◌, inl, inr, ℕ, zero, suc, ◌+◌, Bool, true, false, cond, List, [], ◌∷◌, ◌++◌, Option, Some, None, length, refl, sym, ap, ◌∙◌, arith}
-use Rattle.std.specs.Prelude.{nat_lt, nat_eq, ℤ, int_lt, slice_get, codes}
+use Rattle.std.proofs.Common.{◌≡◌, ◌≤◌, ℕ, ◌+◌, Bool, true, false, cond, List, [], ◌∷◌, ◌++◌, Option, Some, None, length, refl, arith}
+use Rattle.std.specs.Prelude.{nat_lt, nat_eq, codes}
 use Rattle.std.specs.Str.{bytes_eq}
 use Rattle.rb_tree.specs.declared.span.Span.{Span}
 use Rattle.rb_tree.specs.declared.span.NameId.{NameId}
 use Rattle.rb_tree.specs.declared.node.AssignOp.{AssignOp}
 use Rattle.rb_tree.specs.declared.node.AssignOp.TheVariants as op
 use Rattle.rb_tree.specs.declared.node.Node.{Node}
-use Rattle.rb_tree.specs.declared.node.Piece.{Piece, out-Piece}
-use Rattle.rb_tree.specs.declared.node.Target.{Target}
+use Rattle.rb_tree.specs.declared.node.Piece.{Piece}
 use Rattle.rb_tree.specs.declared.node.Block.{Block}
 use Rattle.rb_tree.specs.declared.node.Method.{Method}
-use Rattle.rb_tree.specs.declared.node.Node.TheOpen.{Piece-F}
-use Rattle.rb_tree.specs.declared.node.Node.TheOpen as node
-use Rattle.rb_model.specs.declared.fault.Fault.{Fault}
-use Rattle.rb_model.specs.Values.{Value, Nil, False, True, Int, Sym, Str, To, Reference, truthy}
-use Rattle.rb_model.specs.Acts.{Act, Reply}
-use Rattle.rb_model.specs.Acts as reply
-use Rattle.rb_model.specs.Ends.{End}
-use Rattle.rb_model.specs.Ends as ending
+use Rattle.rb_model.specs.Values.{Value, Nil, False, True, Int, Sym, Str, To, truthy}
+use Rattle.rb_model.specs.Acts.{Act}
 use Rattle.rb_machine.specs.Scopes.{Script, Text, Scope, text_of}
 use Rattle.rb_machine.specs.Control.{State, On, Cont, Then, Under, Test, Again, Turn, Frame, Step, AssignTo, FieldTo, GlobalTo, Rest, Choose, RightOfAnd, RightOfOr, Negate, ReturnOf, ReceiverOf, ReceiverToStore, Argument, Instead, Create, PieceOf, IndexedBy, MemberOf, IndexOf, ReadOf, RightOf, WriteTo}
-use Rattle.rb_machine.specs.Control.{Control, Eval, Give, Leave, Following, Looping, Turning, Passing, Joining, Making, Calling, Showing, Ended, Exit, Break, Next, Return, Aim, OnReceiver, ByName, Storing, Place, OfLocal, OfField, OfGlobal, OfElement, OfAttribute, Turns, Counting}
+use Rattle.rb_machine.specs.Control.{Eval, Give, Leave, Following, Looping, Turning, Passing, Joining, Making, Calling, Showing, Ended, Exit, Break, Next, Return, Aim, OnReceiver, ByName, Storing, Place, OfLocal, OfField, OfGlobal, OfElement, OfAttribute}
 use Rattle.rb_machine.specs.Methods.{Answer, Gives, Raises, Loops}
 use Rattle.rb_machine.specs.Texts.{max_bytes, shown, puts_text, print_text, p_text}
-use Rattle.rb_machine.specs.Call.{ask_of, named, texted, methods_of, invoked, top_level, own, last_value, enter, answered, invoke, show, value_of_p, print, call_by_name, perform, read_place, decide, write_place}
+use Rattle.rb_machine.specs.Call.{ask_of, named, texted, methods_of, invoked, top_level, own, last_value, enter, answered, invoke, show, value_of_p, print, perform, read_place, decide, write_place}
 use Rattle.rb_machine.specs.Give.{join, give_step, give, leave}
-use Rattle.rb_machine.specs.Move.{Go, move, left_in, turn, join_piece, replied, IsWant}
+use Rattle.rb_machine.specs.Move.{left_in}
 
 -- what each thing that waits may still cause
 abbrev pub step_weight : Step → ℕ

@@ -1,5 +1,6 @@
 -- A script has one run: so many moves lead to one place.
-use Rattle.std.proofs.Common.{◌≡◌, ℕ, zero, suc, ◌+◌, ◌-◌, List, [], ◌∷◌, ◌++◌, Option, Some, None, refl, sym, ap, ◌∙◌, subst, arith}
+use Rattle.std.proofs.Common.{◌≡◌, ℕ, zero, suc, ◌+◌, ◌-◌, List, [], ◌++◌, Option, Some, None, refl, sym, ap, ◌∙◌, subst, arith}
+use Rattle.std.proofs.lemmas.List.{append-nil, append_assoc}
 use Rattle.rb_model.specs.Values.{To}
 use Rattle.rb_model.specs.Acts.{Done}
 use Rattle.rb_model.specs.Acts as reply
@@ -69,6 +70,51 @@ module _ (S : Script) (N : ℕ) where
       let w : n - m + m ≡ m - n + n = omega arith in
       sym p ∙ (ap advance w ∙ q)
 
+-- one list of bytes begins with another
+abbrev pub Begins : List ℕ → List ℕ → Type 0
+Begins b b' = (behind : List ℕ) × (b' ≡ b ++ behind)
+
+begins_itself : (b : List ℕ) → Begins b b
+begins_itself b = ([], sym (append-nil b))
+
+begins_through : (a b c : List ℕ) → Begins a b → Begins b c → Begins a c
+begins_through a b c p q = (p.0 ++ q.0, q.1 ∙ (ap (λ l. l ++ q.0) p.1 ∙ append_assoc a p.0 q.0))
+
+acted_shows : (thing : Option Thing) (next : Next) (x : Point) → Begins x.bytes (acted thing next x).bytes
+acted_shows None next x = begins_itself x.bytes
+acted_shows (Some thing) (Ask r act) x = begins_itself x.bytes
+acted_shows (Some thing) (Go t) x = begins_itself x.bytes
+acted_shows (Some thing) (Make made) x = begins_itself x.bytes
+acted_shows (Some thing) (Show bytes) x = begins_itself x.bytes
+acted_shows (Some thing) (Stop how) x = begins_itself x.bytes
+
+-- what was shown stays
+after_shows : (next : Next) (x : Point) → Begins x.bytes (after next x).bytes
+after_shows (Go t) x = begins_itself x.bytes
+after_shows (Make thing) x = begins_itself x.bytes
+after_shows (Ask r act) x = acted_shows (held x.store r.id) (Ask r act) x
+after_shows (Show bytes) x = (bytes, refl)
+after_shows (Stop how) x = begins_itself x.bytes
+
+later_shows : (S : Script) (N n k : ℕ) → Begins (advance S N n).bytes (advance S N (k + n)).bytes
+later_shows S N n zero =
+    let z : 0 + n ≡ n = omega arith in
+    subst (λ m. Begins (advance S N n).bytes (advance S N m).bytes) (sym z) (begins_itself (advance S N n).bytes)
+later_shows S N n (suc k) =
+    let z : suc k + n ≡ suc (k + n) = omega arith in
+    subst (λ m. Begins (advance S N n).bytes (advance S N m).bytes) (sym z)
+    (begins_through (advance S N n).bytes (advance S N (k + n)).bytes (one S N (advance S N (k + n))).bytes (later_shows S N n k) (after_shows (move S (advance S N (k + n)).state) (advance S N (k + n))))
+
+-- what a run has shown stands in front of what its script shows in the end
+pub front : (S : Script) (N : ℕ) (b b' : List ℕ) (h : Private) (s : State) (e : End) (n : ℕ) → Runs S N b h s → Alone S N b' e n → Begins b b'
+front S N b b' h s e n r alone =
+    let p = reached S N r in
+    let q = reached S N alone.run in
+    let w : p.0 - q.0 + q.0 ≡ q.0 - p.0 + p.0 = omega arith in
+    let last = sym (stays S N q.0 (p.0 - q.0) _ e q.1 alone.ends) ∙ ap (advance S N) w in
+    let shown = later_shows S N p.0 (q.0 - p.0) in
+    (shown.0, ap (λ (x : Point). x.bytes) last ∙ (shown.1 ∙ ap (λ (x : Point). x.bytes ++ shown.0) p.1))
+
 abbrev end_in : Next → Option End
 end_in (Stop e) = Some e
 end_in other = None
@@ -81,8 +127,8 @@ pub has_one_run : HasOneRun
 has_one_run S N b b' e e' n n' p q =
     let m = reached S N p.run in
     let k = reached S N q.run in
-    let same = one_end S N m.0 k.0 _ _ e e' m.1 k.1 p.ends q.ends in
-    ( ap (λ (x : Point). x.bytes) same
-    , ap (λ o. or_this e o) (ap end_in (sym p.ends) ∙ (ap (λ (x : Point). end_in (move S x.state)) same ∙ ap end_in q.ends))
-    , sym p.counted ∙ (ap (λ (x : Point). N - left_in x.state) same ∙ q.counted)
+    let same = one_end S N m.0 k.0 _ _ e e' m.1 k.1 p.ends q.ends in (
+      ap (λ (x : Point). x.bytes) same,
+      ap (λ o. or_this e o) (ap end_in (sym p.ends) ∙ (ap (λ (x : Point). end_in (move S x.state)) same ∙ ap end_in q.ends)),
+      sym p.counted ∙ (ap (λ (x : Point). N - left_in x.state) same ∙ q.counted),
     )

@@ -1,5 +1,5 @@
 -- The run of a script with one thread: one store has all its things, the global variables among them, and answers by the plain step.
-use Rattle.std.specs.Prelude.{◌≡◌, ℕ, ◌-◌, List, [], ◌∷◌, ◌++◌, Option, Some}
+use Rattle.std.specs.Prelude.{◌≡◌, ℕ, ◌-◌, List, [], ◌∷◌, ◌++◌, Some}
 use Rattle.rb_model.specs.Values.{Nil, To, Reference}
 use Rattle.rb_model.specs.Acts.{Act, Done}
 use Rattle.rb_model.specs.Acts as reply

@@ -12,9 +12,9 @@ use Rattle.rb_tree.specs.declared.node.Node.TheOpen as node
 use Rattle.rb_tree.specs.Layer.{NodeLayer}
 use Rattle.rb_model.specs.Values.{Nil, False, True, Int, Sym}
 use Rattle.rb_model.specs.Acts.{GetField}
-use Rattle.rb_machine.specs.Scopes.{Script, Text, Scope, text_of, look}
+use Rattle.rb_machine.specs.Scopes.{Script, Scope, text_of, look}
 use Rattle.rb_machine.specs.Control.{State, On, Cont, Then, Eval, Give, Leave, Looping, Passing, Joining, Break, Next, Return, AssignTo, FieldTo, GlobalTo, Choose, RightOfAnd, RightOfOr, Negate, ReturnOf, ReceiverOf, ReceiverToStore, IndexedBy, MemberOf, ByName, OfLocal, OfField, OfGlobal}
-use Rattle.rb_machine.specs.Call.{raised, ask, unbuilt, globals, own_field, read_place}
+use Rattle.rb_machine.specs.Call.{ask, unbuilt, globals, own_field, read_place}
 
 module _ (S : Script) where
   -- the receiver first, then the arguments; a call without receiver has arguments alone

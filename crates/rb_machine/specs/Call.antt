@@ -1,5 +1,5 @@
 -- Calls: which method is found, how its body begins, what a built-in one does, and what `puts`, `print` and `p` show.
-use Rattle.std.specs.Prelude.{ℕ, nat_eq, nat_lt, ◌==◌, if◌then◌else◌, List, [], ◌∷◌, ◌++◌, length, take, Option, Some, None, find, slice_get, unwrap_or, codes}
+use Rattle.std.specs.Prelude.{ℕ, nat_eq, nat_lt, ◌==◌, if◌then◌else◌, List, [], ◌∷◌, ◌++◌, length, Option, Some, None, find, slice_get, codes}
 use Rattle.std.specs.Option.{option_map}
 use Rattle.std.specs.Str.{bytes_eq}
 use Rattle.rb_tree.specs.declared.span.Span.{Span}
@@ -18,7 +18,7 @@ use Rattle.rb_model.specs.Values.{Value, Nil, To, Reference, truthy}
 use Rattle.rb_model.specs.Acts.{Act, GetField, SetField}
 use Rattle.rb_model.specs.Ends.{End, Raised}
 use Rattle.rb_model.specs.Things as thing
-use Rattle.rb_machine.specs.Scopes.{Script, Text, Scope, text_of, or_else, look, assign, fresh, with_locals}
+use Rattle.rb_machine.specs.Scopes.{Script, Text, Scope, text_of, look, assign, fresh, with_locals}
 use Rattle.rb_machine.specs.Control.{State, On, Cont, Then, Frame, Step, Eval, Give, Following, Turning, Calling, Showing, Ended, Aim, OnReceiver, ByName, Storing, Instead, Create, Place, OfLocal, OfField, OfGlobal, OfElement, OfAttribute, ReadOf, RightOf, WriteTo}
 use Rattle.rb_machine.specs.Texts.{max_bytes, puts_text, print_text, p_text}
 use Rattle.rb_machine.specs.Methods.{Answer, Gives, Raises, Loops, deed}

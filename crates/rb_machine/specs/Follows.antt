@@ -11,7 +11,7 @@ use Rattle.rb_model.specs.Private.{Private, Item, Leaves, bare, held, next_id, e
 use Rattle.rb_model.specs.Log.{Log, Entry, Call, On, Print, End, fresh, logged, refused}
 use Rattle.rb_machine.specs.Scopes.{Script}
 use Rattle.rb_machine.specs.Control.{State}
-use Rattle.rb_machine.specs.Move.{Next, Go, Make, Ask, Show, Stop, move, replied, left_in, IsWant}
+use Rattle.rb_machine.specs.Move.{Go, Make, Ask, Show, Stop, move, replied, left_in, IsWant}
 
 -- the sort of a thing
 abbrev pub sort_of : Thing → Sort

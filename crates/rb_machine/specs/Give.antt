@@ -1,5 +1,5 @@
 -- A value comes to what waits for it; and an exit comes to it.
-use Rattle.std.specs.Prelude.{ℕ, nat_lt, not, if◌then◌else◌, List, [], ◌∷◌, ◌++◌, length, take, Option, Some, None}
+use Rattle.std.specs.Prelude.{ℕ, nat_lt, not, if◌then◌else◌, List, [], ◌∷◌, ◌++◌, length, take, None}
 use Rattle.rb_tree.specs.declared.span.Span.{Span}
 use Rattle.rb_tree.specs.declared.node.Piece.{Piece}
 use Rattle.rb_model.specs.declared.fault.Fault.TheVariants.{TextTooLong}

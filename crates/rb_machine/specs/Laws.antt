@@ -1,15 +1,24 @@
 -- What holds of the machine, whatever the script.
-use Rattle.std.specs.Prelude.{◌≡◌, ◌≤◌, ℕ, suc, Bool, true, false, ◌&&◌, nat_lt, int_lt, List, [], ◌∷◌, ◌++◌, None}
-use Rattle.rb_tree.specs.declared.node.Node.{Node}
+use Rattle.std.specs.Prelude.{◌≡◌, ◌<◌, ◌≤◌, ℕ, suc, ◌+◌, Bool, true, false, ◌&&◌, nat_lt, ℤ, pos, negsuc, ◌+ℤ◌, ◌*ℤ◌, ◌≤ℤ◌, ◌<ℤ◌, int_lt, List, [], ◌∷◌, ◌++◌, length, map, take, slice_get, Option, Some, None, codes}
+use Rattle.std.specs.Option.{is_some}
+use Rattle.rb_tree.specs.declared.span.Span.{Span}
+use Rattle.rb_tree.specs.declared.span.NameId.{NameId}
+use Rattle.rb_tree.specs.declared.node.Node.{Node, out-Node}
+use Rattle.rb_tree.specs.declared.node.Node.TheOpen as node
 use Rattle.rb_tree.specs.declared.node.Block.{Block}
-use Rattle.rb_model.specs.Values.{Value, Nil, Reference}
+use Rattle.rb_tree.specs.declared.node.Method.{Method}
+use Rattle.rb_tree.specs.declared.node.AssignOp.TheVariants.{OrElse, AndThen}
+use Rattle.rb_model.specs.declared.fault.Fault.TheVariants.{TooDeep, ZeroDivision}
+use Rattle.rb_model.specs.Values.{Value, Nil, Int, Reference, truthy}
 use Rattle.rb_model.specs.Acts.{Act, Reply}
 use Rattle.rb_model.specs.Private.{Private, held}
-use Rattle.rb_model.specs.Ends.{End, Steps}
-use Rattle.rb_machine.specs.Scopes.{Script, Scope}
-use Rattle.rb_machine.specs.Control.{State, On, Eval, Give, Leave, Looping, Turning, Break, Next, Return, Turns, Counting, Cont, Then, Under, Test, Again, Turn, Frame}
+use Rattle.rb_model.specs.Ends.{End, Steps, Raised}
+use Rattle.rb_machine.specs.Scopes.{Script, Scope, Text, text_of, Locals, with_locals, found, look, assign, fresh}
+use Rattle.rb_machine.specs.Control.{Control, State, On, Eval, Give, Leave, Following, Looping, Turning, Passing, Break, Next, Return, Turns, Counting, Cont, Then, Under, Test, Again, Turn, Frame, Aim, OnReceiver, Place, Argument, ReceiverOf, RightOfAnd, RightOfOr, ReadOf, WriteTo, Ended}
+use Rattle.rb_machine.specs.Methods.{deed, integer, Raises, quotient, modulo}
+use Rattle.rb_machine.specs.Call.{perform}
 use Rattle.rb_machine.specs.Give.{back}
-use Rattle.rb_machine.specs.Move.{Go, Ask, move, replied, left_in, IsWant, max_depth}
+use Rattle.rb_machine.specs.Move.{Next as Coming, Go, Ask, Stop, move, replied, left_in, IsWant, max_depth}
 use Rattle.rb_machine.specs.Alone.{Runs, Alone}
 
 -- from a state to another by silent moves
@@ -32,6 +41,26 @@ pub data Finishes (S : Script) (N : ℕ) : Type 0 where
 
 abbrev pub AlwaysFinishes : Type 0
 AlwaysFinishes = (S : Script) (N : ℕ) → Finishes S N
+
+-- A script that ends with a budget of steps, and not for want of them, does the same with every greater budget.
+abbrev pub MoreStepsChangeNothing : Type 0
+MoreStepsChangeNothing = (S : Script) (N M : ℕ) (b : List ℕ) (e : End) (n : ℕ) → N ≤ M → (e ≡ Steps → ⊥) → Alone S N b e n → Alone S M b e n
+
+-- what a script shows with a budget of steps stands in front of what it shows with a greater one
+abbrev pub MoreStepsShowMore : Type 0
+MoreStepsShowMore = (S : Script) (N M : ℕ) (b b' : List ℕ) (e e' : End) (n n' : ℕ) → N ≤ M → Alone S N b e n → Alone S M b' e' n' → (behind : List ℕ) × (b' ≡ b ++ behind)
+
+-- with fewer steps than it took, a script ends for want of them
+abbrev pub FewerStepsEndEarly : Type 0
+FewerStepsEndEarly = (S : Script) (N M : ℕ) (b b' : List ℕ) (e e' : End) (n n' : ℕ) → M < n → Alone S N b e n → Alone S M b' e' n' → e' ≡ Steps
+
+-- a script that ends for want of steps has begun all that it may
+abbrev pub StepsAreUsedUp : Type 0
+StepsAreUsedUp = (S : Script) (N : ℕ) (b : List ℕ) (n : ℕ) → Alone S N b Steps n → n ≡ N
+
+-- As many steps as a script took are enough for it; but where it ended too deep, one node more was to begin, which took no step.
+abbrev pub StepsTakenAreEnough : Type 0
+StepsTakenAreEnough = (S : Script) (N : ℕ) (b : List ℕ) (e : End) (n : ℕ) → ((at : Span) → e ≡ Raised TooDeep at → ⊥) → Alone S N b e n → Alone S n b e n
 
 -- whether a node or an iteration of a block begins
 abbrev pub begins_step : State → Bool
@@ -93,3 +122,154 @@ NextGoesOn = (S : Script) (inner k : List Cont) (condition : Node) (body : List 
 abbrev pub ReturnEndsMethods : Type 0
 ReturnEndsMethods = (S : Script) (inner k : List Cont) (v : Value) (saved sc : Scope) (d left : ℕ) → is_in_method inner ≡ true
     → Quiet S (On (Leave (Return v)) (inner ++ Frame saved ∷ k) sc d left) (On (Give v) k saved (depth_behind inner d) left)
+
+-- what a division leaves: from 0 up to below the divisor, or, where that is negative, from above it up to 0
+abbrev pub IsRestBy : ℤ → ℤ → Type 0
+IsRestBy (pos n) rest = (pos 0 ≤ℤ rest) × (rest <ℤ pos n)
+IsRestBy (negsuc n) rest = (negsuc n <ℤ rest) × (rest ≤ℤ pos 0)
+
+-- the quotient and the rest make up the dividend
+abbrev pub DividesBack : Type 0
+DividesBack = (m n : ℤ) → (n ≡ pos 0 → ⊥) → m ≡ n *ℤ quotient m n +ℤ modulo m n
+
+-- the rest is 0, or has the sign of the divisor and is smaller
+abbrev pub RestsAreSmall : Type 0
+RestsAreSmall = (m n : ℤ) → (n ≡ pos 0 → ⊥) → IsRestBy n (modulo m n)
+
+-- no other quotient and rest do
+abbrev pub DividesOneWay : Type 0
+DividesOneWay = (m n q rest : ℤ) → (n ≡ pos 0 → ⊥) → m ≡ n *ℤ q +ℤ rest → IsRestBy n rest → (q ≡ quotient m n) × (rest ≡ modulo m n)
+
+-- a division by 0 is refused, and any other answers the quotient or the rest, where it has 64 bits
+abbrev pub DivisionsAnswer : Type 0
+DivisionsAnswer = (names : List Text) (m n : ℤ)
+    → (deed names (Int m) (codes "/") (Int (pos 0) ∷ []) None ≡ Raises ZeroDivision)
+    × (deed names (Int m) (codes "%") (Int (pos 0) ∷ []) None ≡ Raises ZeroDivision)
+    × ((n ≡ pos 0 → ⊥) → (deed names (Int m) (codes "/") (Int n ∷ []) None ≡ integer (quotient m n)) × (deed names (Int m) (codes "%") (Int n ∷ []) None ≡ integer (modulo m n)))
+
+-- a block's own locals as an iteration begins that is given these values
+abbrev pub own_at : Script → Block → List Value → Locals
+own_at S block given = fresh (S.block_names block.at) (take (length block.params) given)
+
+-- An iteration begins with its block's own locals new, behind those round the block: each name behind the parameters reads nil,
+-- whatever earlier iterations assigned.
+abbrev pub OwnLocalsAreNew : Type 0
+OwnLocalsAreNew = (S : Script) (next last : ℤ) (answer : Value) (block : Block) (k : List Cont) (sc : Scope) (d left : ℕ) → int_lt next last ≡ true
+    → (move S (On (Turning (Counting next last answer) block) k sc d (suc left))
+    ≡ Go (On (Following Nil block.body) (Turn (Counting (next +ℤ pos 1) last answer) block (length sc.locals) ∷ k) (with_locals sc (sc.locals ++ own_at S block (Int next ∷ []))) d left))
+    × ((i : ℕ) (name : NameId) → length block.params ≤ i → slice_get (S.block_names block.at) i ≡ Some name → look name (sc.locals ++ own_at S block (Int next ∷ [])) ≡ Nil)
+
+-- the first parameter reads what the iteration is given, where no name of the block behind it is the same
+abbrev pub ParametersAreGiven : Type 0
+ParametersAreGiven = (S : Script) (block : Block) (v : Value) (outer : Locals) (param : NameId) (names : List NameId)
+    → 0 < length block.params → S.block_names block.at ≡ param ∷ names → ((i : ℕ) (name : NameId) → slice_get names i ≡ Some name → name.0 ≡ param.0 → ⊥)
+    → look param (outer ++ own_at S block (v ∷ [])) ≡ v
+
+-- a name that the block does not have is assigned round it, and its own names stay
+abbrev pub AssignsOutside : Type 0
+AssignsOutside = (name : NameId) (v : Value) (outer own : Locals) → found name own ≡ None → assign name v (outer ++ own) ≡ assign name v outer ++ own
+
+-- a name of the block is assigned in it, and what is round it stays
+abbrev pub AssignsOwn : Type 0
+AssignsOwn = (name : NameId) (v : Value) (outer own : Locals) → is_some (found name own) ≡ true → assign name v (outer ++ own) ≡ outer ++ assign name v own
+
+-- a name that is in scope reads what was assigned last, and an assignment changes no other
+abbrev pub AssignsOne : Type 0
+AssignsOne = (name other : NameId) (v : Value) (locals : Locals)
+    → (is_some (found name locals) ≡ true → look name (assign name v locals) ≡ v)
+    × ((other.0 ≡ name.0 → ⊥) → look other (assign name v locals) ≡ look other locals)
+
+-- the locals go back to those round the block, with the values that they have then
+abbrev pub OwnLocalsGo : Type 0
+OwnLocalsGo = (me : Value) (outer own : Locals) (kept : ℕ) → length outer ≡ kept → back kept (record { me = me; locals = outer ++ own }) ≡ record { me = me; locals = outer }
+
+-- the names of locals
+abbrev pub names_in : Locals → List NameId
+names_in locals = map (λ (b : NameId × Value). b.0) locals
+
+-- The names in scope are those that the text gives, whatever was run: those of the top level or of a method, and behind them those of
+-- each block round the place, outermost first.
+abbrev pub AreInScope : Script → List Cont → List NameId → Type 0
+AreInScope S [] names = names ≡ S.main_names
+AreInScope S (Frame saved ∷ k) names = (m : Method) × (names ≡ S.method_names m) × AreInScope S k (names_in saved.locals)
+AreInScope S (Turn turns block kept ∷ k) names = (outer : List NameId) × (names ≡ outer ++ S.block_names block.at) × (kept ≡ length outer) × AreInScope S k outer
+AreInScope S (c ∷ k) names = AreInScope S k names
+
+-- at each state of a run, until it ends
+abbrev pub KeepsScopes : Script → State → Type 0
+KeepsScopes S (On (Ended how) k sc d left) = Unit {0}
+KeepsScopes S (On c k sc d left) = AreInScope S k (names_in sc.locals)
+
+abbrev pub ScopesFollowTheText : Type 0
+ScopesFollowTheText = (S : Script) (N : ℕ) (b : List ℕ) (h : Private) (s : State) → Runs S N b h s → KeepsScopes S s
+
+-- At the end of an iteration the locals are as many as there were round the block, and then its own; these go, and the others stay with
+-- the values that they have.
+abbrev pub IterationsLeaveTheRest : Type 0
+IterationsLeaveTheRest = (S : Script) (N : ℕ) (b : List ℕ) (h : Private) (v : Value) (turns : Turns) (block : Block) (kept : ℕ) (k : List Cont) (sc : Scope) (d left : ℕ)
+    → Runs S N b h (On (Give v) (Turn turns block kept ∷ k) sc d left)
+    → (outer : Locals) × (own : Locals) × (sc.locals ≡ outer ++ own) × (length outer ≡ kept) × (names_in own ≡ S.block_names block.at)
+    × (move S (On (Give v) (Turn turns block kept ∷ k) sc d left) ≡ Go (On (Turning turns block) k (with_locals sc outer) d left))
+
+-- the receiver of a call is evaluated before its arguments
+abbrev pub ReceiversComeFirst : Type 0
+ReceiversComeFirst = (S : Script) (n receiver : Node) (name : NameId) (args : List Node) (block : Option Block) (at : Span) (k : List Cont) (sc : Scope) (d left : ℕ) (v : Value)
+    → out-Node n ≡ node.Call (Some receiver) name args block at → nat_lt d max_depth ≡ true
+    → (move S (On (Eval n) k sc d (suc left)) ≡ Go (On (Eval receiver) (Then (ReceiverOf (text_of S name) args block at) ∷ Under d ∷ k) sc (d + 1) left))
+    × (move S (On (Give v) (Then (ReceiverOf (text_of S name) args block at) ∷ k) sc d left) ≡ Go (On (Passing (OnReceiver v (text_of S name) block) [] args at) k sc d left))
+
+-- what is asked and answered: a want that is no end
+abbrev pub IsAsked : Coming → Type 0
+IsAsked (Go s) = ⊥
+IsAsked (Stop how) = ⊥
+IsAsked want = Unit {0}
+
+-- from a state to another by moves and by replies, whatever these say
+pub data Way (S : Script) : State → State → Type 0 where
+  arrives : (s : State) → Way S s s
+  goes : (s t u : State) → move S s ≡ Go t → Way S t u → Way S s u
+  gets : (s u : State) (r : Reply) → IsAsked (move S s) → Way S (replied s r) u → Way S s u
+
+abbrev pub IsAlive : Control → Type 0
+IsAlive (Ended how) = ⊥
+IsAlive c = Unit {0}
+
+-- What the machine does is the same whatever waits behind it: so what a part of a script means is that part's alone.
+abbrev pub ContextChangesNothing : Type 0
+ContextChangesNothing = (S : Script) (c c' : Control) (inner inner' k : List Cont) (sc sc' : Scope) (d d' left left' : ℕ) → IsAlive c'
+    → Way S (On c inner sc d left) (On c' inner' sc' d' left') → Way S (On c (inner ++ k) sc d left) (On c' (inner' ++ k) sc' d' left')
+
+-- nodes that give these values, one after the other from the left, from a scope and so many steps left to others
+pub data Evaluates (S : Script) (d : ℕ) : List Node → List Value → Scope → ℕ → Scope → ℕ → Type 0 where
+  nothing : (sc : Scope) (left : ℕ) → Evaluates S d [] [] sc left sc left
+  first : (n : Node) (ns : List Node) (v : Value) (vs : List Value) (sc sc' sc'' : Scope) (left left' left'' : ℕ)
+      → Way S (On (Eval n) [] sc d left) (On (Give v) [] sc' d left') → Evaluates S d ns vs sc' left' sc'' left''
+      → Evaluates S d (n ∷ ns) (v ∷ vs) sc left sc'' left''
+
+-- the arguments are evaluated one after the other from the left, whatever they do, and then the call is made with their values
+abbrev pub ArgumentsComeInTurn : Type 0
+ArgumentsComeInTurn = (S : Script) (aim : Aim) (done vs : List Value) (ns : List Node) (at : Span) (k : List Cont) (sc sc' : Scope) (d left left' : ℕ)
+    → Evaluates S d ns vs sc left sc' left' → Way S (On (Passing aim done ns at) k sc d left) (perform S aim (done ++ vs) at k sc' d left')
+
+-- the first argument that is left is evaluated while the others wait, and its value goes behind those before it, whatever was done
+-- meanwhile
+abbrev pub ArgumentsComeOnce : Type 0
+ArgumentsComeOnce = (S : Script) (aim : Aim) (done : List Value) (v : Value) (n : Node) (ns : List Node) (at : Span) (k : List Cont) (sc : Scope) (d left : ℕ)
+    → (move S (On (Passing aim done (n ∷ ns) at) k sc d left) ≡ Go (On (Eval n) (Then (Argument aim done ns at) ∷ k) sc d left))
+    × (move S (On (Give v) (Then (Argument aim done ns at) ∷ k) sc d left) ≡ Go (On (Passing aim (done ++ v ∷ []) ns at) k sc d left))
+
+-- `||` and `||=` go on to their right side only where the left one is false or nil
+abbrev pub OrGoesOnWhereFalse : Type 0
+OrGoesOnWhereFalse = (S : Script) (v : Value) (place : Place) (right : Node) (at : Span) (k : List Cont) (sc : Scope) (d left : ℕ)
+    → (truthy v ≡ true → move S (On (Give v) (Then (RightOfOr right) ∷ k) sc d left) ≡ Go (On (Give v) k sc d left))
+    × (truthy v ≡ false → move S (On (Give v) (Then (RightOfOr right) ∷ k) sc d left) ≡ Go (On (Eval right) k sc d left))
+    × (truthy v ≡ true → move S (On (Give v) (Then (ReadOf place OrElse right at) ∷ k) sc d left) ≡ Go (On (Give v) k sc d left))
+    × (truthy v ≡ false → move S (On (Give v) (Then (ReadOf place OrElse right at) ∷ k) sc d left) ≡ Go (On (Eval right) (Then (WriteTo place at) ∷ k) sc d left))
+
+-- `&&` and `&&=` only where it is neither
+abbrev pub AndGoesOnWhereTrue : Type 0
+AndGoesOnWhereTrue = (S : Script) (v : Value) (place : Place) (right : Node) (at : Span) (k : List Cont) (sc : Scope) (d left : ℕ)
+    → (truthy v ≡ false → move S (On (Give v) (Then (RightOfAnd right) ∷ k) sc d left) ≡ Go (On (Give v) k sc d left))
+    × (truthy v ≡ true → move S (On (Give v) (Then (RightOfAnd right) ∷ k) sc d left) ≡ Go (On (Eval right) k sc d left))
+    × (truthy v ≡ false → move S (On (Give v) (Then (ReadOf place AndThen right at) ∷ k) sc d left) ≡ Go (On (Give v) k sc d left))
+    × (truthy v ≡ true → move S (On (Give v) (Then (ReadOf place AndThen right at) ∷ k) sc d left) ≡ Go (On (Eval right) (Then (WriteTo place at) ∷ k) sc d left))

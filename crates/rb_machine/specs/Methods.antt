@@ -116,32 +116,32 @@ module _ (names : List Text) where
   abbrev pub any_rows : List Row
   any_rows =
       record { of = AnyValue; name = codes "=="; arity = 1; block = None; does = equal }
-    ∷ record { of = AnyValue; name = codes "nil?"; arity = 0; block = None; does = is_nil }
-    ∷ record { of = AnyValue; name = codes "to_s"; arity = 0; block = None; does = λ v args. text (shown names v) }
-    ∷ record { of = AnyValue; name = codes "inspect"; arity = 0; block = None; does = λ v args. text (inspected names v) }
-    ∷ []
+      ∷ record { of = AnyValue; name = codes "nil?"; arity = 0; block = None; does = is_nil }
+      ∷ record { of = AnyValue; name = codes "to_s"; arity = 0; block = None; does = λ v args. text (shown names v) }
+      ∷ record { of = AnyValue; name = codes "inspect"; arity = 0; block = None; does = λ v args. text (inspected names v) }
+      ∷ []
 
   abbrev pub integer_rows : List Row
   integer_rows =
       record { of = Integer; name = codes "+"; arity = 1; block = None; does = on_integers (λ m n. integer (m +ℤ n)) }
-    ∷ record { of = Integer; name = codes "-"; arity = 1; block = None; does = on_integers (λ m n. integer (m -ℤ n)) }
-    ∷ record { of = Integer; name = codes "*"; arity = 1; block = None; does = on_integers (λ m n. integer (m *ℤ n)) }
-    ∷ record { of = Integer; name = codes "/"; arity = 1; block = None; does = on_integers (unless_zero quotient) }
-    ∷ record { of = Integer; name = codes "%"; arity = 1; block = None; does = on_integers (unless_zero modulo) }
-    ∷ record { of = Integer; name = codes "-@"; arity = 0; block = None; does = negated }
-    ∷ record { of = Integer; name = codes "<"; arity = 1; block = None; does = on_integers (λ m n. Gives (truth (int_lt m n))) }
-    ∷ record { of = Integer; name = codes "<="; arity = 1; block = None; does = on_integers (λ m n. Gives (truth (int_le m n))) }
-    ∷ record { of = Integer; name = codes ">"; arity = 1; block = None; does = on_integers (λ m n. Gives (truth (int_lt n m))) }
-    ∷ record { of = Integer; name = codes ">="; arity = 1; block = None; does = on_integers (λ m n. Gives (truth (int_le n m))) }
-    ∷ record { of = Integer; name = codes "times"; arity = 0; block = Some 1; does = times }
-    ∷ record { of = Integer; name = codes "upto"; arity = 1; block = Some 1; does = on_integers upto }
-    ∷ []
+      ∷ record { of = Integer; name = codes "-"; arity = 1; block = None; does = on_integers (λ m n. integer (m -ℤ n)) }
+      ∷ record { of = Integer; name = codes "*"; arity = 1; block = None; does = on_integers (λ m n. integer (m *ℤ n)) }
+      ∷ record { of = Integer; name = codes "/"; arity = 1; block = None; does = on_integers (unless_zero quotient) }
+      ∷ record { of = Integer; name = codes "%"; arity = 1; block = None; does = on_integers (unless_zero modulo) }
+      ∷ record { of = Integer; name = codes "-@"; arity = 0; block = None; does = negated }
+      ∷ record { of = Integer; name = codes "<"; arity = 1; block = None; does = on_integers (λ m n. Gives (truth (int_lt m n))) }
+      ∷ record { of = Integer; name = codes "<="; arity = 1; block = None; does = on_integers (λ m n. Gives (truth (int_le m n))) }
+      ∷ record { of = Integer; name = codes ">"; arity = 1; block = None; does = on_integers (λ m n. Gives (truth (int_lt n m))) }
+      ∷ record { of = Integer; name = codes ">="; arity = 1; block = None; does = on_integers (λ m n. Gives (truth (int_le n m))) }
+      ∷ record { of = Integer; name = codes "times"; arity = 0; block = Some 1; does = times }
+      ∷ record { of = Integer; name = codes "upto"; arity = 1; block = Some 1; does = on_integers upto }
+      ∷ []
 
   abbrev pub string_rows : List Row
   string_rows =
       record { of = String; name = codes "+"; arity = 1; block = None; does = joined }
-    ∷ record { of = String; name = codes "length"; arity = 0; block = None; does = count_characters }
-    ∷ []
+      ∷ record { of = String; name = codes "length"; arity = 0; block = None; does = count_characters }
+      ∷ []
 
   abbrev pub rows : List Row
   rows = any_rows ++ (integer_rows ++ string_rows)

@@ -1,5 +1,5 @@
 -- The moves of the machine, and what it wants of the outside.
-use Rattle.std.specs.Prelude.{ℕ, zero, suc, ◌+◌, ℤ, pos, ◌+ℤ◌, int_lt, nat_lt, if◌then◌else◌, List, [], ◌∷◌, ◌++◌, length, take}
+use Rattle.std.specs.Prelude.{ℕ, zero, suc, ◌+◌, pos, ◌+ℤ◌, int_lt, nat_lt, if◌then◌else◌, List, [], ◌∷◌, ◌++◌, length, take}
 use Rattle.rb_tree.specs.declared.span.Span.{Span}
 use Rattle.rb_tree.specs.declared.node.Node.{Node, out-Node}
 use Rattle.rb_tree.specs.declared.node.Piece.{Piece, out-Piece}
@@ -16,7 +16,7 @@ use Rattle.rb_model.specs.Ends.{End}
 use Rattle.rb_model.specs.Ends as ending
 use Rattle.rb_model.specs.Things.{Thing}
 use Rattle.rb_machine.specs.Scopes.{Script, Scope, fresh, with_locals}
-use Rattle.rb_machine.specs.Control.{State, On, Cont, Then, Under, Test, Turn, Eval, Give, Leave, Following, Looping, Turning, Passing, Joining, Making, Calling, Showing, Ended, Exit, Rest, Argument, PieceOf, Aim, Turns, Counting}
+use Rattle.rb_machine.specs.Control.{State, On, Cont, Then, Under, Test, Turn, Eval, Give, Leave, Following, Looping, Turning, Passing, Joining, Making, Calling, Showing, Ended, Rest, Argument, PieceOf, Turns, Counting}
 use Rattle.rb_machine.specs.Call.{ended, raised, perform}
 use Rattle.rb_machine.specs.Begin.{begin}
 use Rattle.rb_machine.specs.Give.{join, give, leave}
@@ -56,7 +56,7 @@ module _ (S : Script) where
   start_turn turns block k sc d zero = ended ending.Steps zero
   start_turn turns block k sc d (suc left) =
       On (Following Nil block.body) (Turn (later_turns turns) block (length sc.locals) ∷ k)
-        (with_locals sc (sc.locals ++ fresh (S.block_names block.at) (take (length block.params) (first_of_turn turns)))) d left
+      (with_locals sc (sc.locals ++ fresh (S.block_names block.at) (take (length block.params) (first_of_turn turns)))) d left
 
   -- another iteration, or the answer of the call
   abbrev pub turn : Turns → Block → List Cont → Scope → ℕ → ℕ → State

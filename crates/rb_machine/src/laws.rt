@@ -39,3 +39,62 @@ pub fn next_goes_on()
 pub fn return_ends()
     ensures { law.ReturnEndsMethods }
 {}
+
+/// A greater budget changes nothing that was done with a smaller one: an end that is not for want of steps stays, with its bytes and
+/// its count, and what was shown is shown first. As many steps as were begun are enough; with fewer a script ends for want of them, and
+/// then it has begun all that it may.
+pub fn budgets()
+    ensures kept { law.MoreStepsChangeNothing }
+    ensures front { law.MoreStepsShowMore }
+    ensures enough { law.StepsTakenAreEnough }
+    ensures early { law.FewerStepsEndEarly }
+    ensures used { law.StepsAreUsedUp }
+{}
+
+/// Division rounds toward minus infinity: the quotient and the rest make up the dividend, and the rest is 0, or has the sign of the
+/// divisor and is smaller; no other two numbers do.
+pub fn division()
+    ensures whole { law.DividesBack }
+    ensures rest { law.RestsAreSmall }
+    ensures one { law.DividesOneWay }
+    ensures answered { law.DivisionsAnswer }
+{}
+
+/// Each iteration of a block has its own locals new, and behind it they are gone.
+pub fn block_locals()
+    ensures new { law.OwnLocalsAreNew }
+    ensures given { law.ParametersAreGiven }
+    ensures gone { law.OwnLocalsGo }
+    ensures behind { law.IterationsLeaveTheRest }
+{}
+
+/// The names in scope are at each state those that the text gives: those of the top level or the method, and those of the blocks round
+/// the place.
+pub fn scopes()
+    ensures { law.ScopesFollowTheText }
+{}
+
+/// An assignment changes one name, where it is innermost: one of the block's, or else one round it.
+pub fn assignments()
+    ensures one { law.AssignsOne }
+    ensures own { law.AssignsOwn }
+    ensures outside { law.AssignsOutside }
+{}
+
+/// What a part of a script does is its own: the machine does the same whatever waits behind that part, until it gives a value or is left.
+pub fn any_context()
+    ensures { law.ContextChangesNothing }
+{}
+
+/// The receiver comes first, then the arguments, each once and from the left, and then the call.
+pub fn calls_in_turn()
+    ensures receiver { law.ReceiversComeFirst }
+    ensures once { law.ArgumentsComeOnce }
+    ensures turn { law.ArgumentsComeInTurn }
+{}
+
+/// The right side of `||`, `||=`, `&&` and `&&=` is evaluated only where the left one does not decide.
+pub fn right_sides()
+    ensures or { law.OrGoesOnWhereFalse }
+    ensures and { law.AndGoesOnWhereTrue }
+{}

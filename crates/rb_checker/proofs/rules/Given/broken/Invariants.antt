@@ -1,10 +1,10 @@
 use Rattle.std.proofs.Common.{◌≡◌, List, [], take, reverse}
 use Rattle.rb_tree.specs.declared.span.NameId.{NameId}
+use Rattle.rb_checker.specs.Around.{behind_all}
 use Rattle.rb_checker.specs.Fault.{first_of}
 use Rattle.rb_checker.specs.Owners.{IsOwner}
 use Rattle.rb_checker.specs.Rules as rule
 use Rattle.rb_checker.specs.Sets.{Holds}
-use Rattle.rb_checker.proofs.Placing.{behind_all}
 use Rattle.rb_checker.proofs.rules.Given.broken.Given as goal
 
 abbrev pub invariant-events : goal.invariant-events

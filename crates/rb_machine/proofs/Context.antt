@@ -1,0 +1,216 @@
+-- What the machine does is the same whatever waits behind what it is at.
+use Rattle.std.proofs.Common.{◌≡◌, ℕ, Bool, true, false, cond, List, [], ◌∷◌, ◌++◌, Option, Some, None, length, refl}
+use Rattle.std.specs.Prelude.{nat_lt, nat_eq, codes}
+use Rattle.std.specs.Str.{bytes_eq}
+use Rattle.rb_tree.specs.declared.span.Span.{Span}
+use Rattle.rb_tree.specs.declared.span.NameId.{NameId}
+use Rattle.rb_tree.specs.declared.node.AssignOp.{AssignOp}
+use Rattle.rb_tree.specs.declared.node.AssignOp.TheVariants as op
+use Rattle.rb_tree.specs.declared.node.Node.{Node}
+use Rattle.rb_tree.specs.declared.node.Piece.{Piece}
+use Rattle.rb_tree.specs.declared.node.Target.{Target, out-Target}
+use Rattle.rb_tree.specs.declared.node.Block.{Block}
+use Rattle.rb_tree.specs.declared.node.Method.{Method}
+use Rattle.rb_tree.specs.declared.node.Node.TheOpen.{Piece-F, Target-F}
+use Rattle.rb_tree.specs.declared.node.Node.TheOpen as node
+use Rattle.rb_tree.specs.Layer.{NodeLayer}
+use Rattle.rb_model.specs.Values.{Value, Nil, False, True, Int, Sym, Str, To, truthy}
+use Rattle.rb_model.specs.Acts.{Act, GetField, SetField, Reply}
+use Rattle.rb_model.specs.Acts as reply
+use Rattle.rb_model.specs.Ends as ending
+use Rattle.rb_machine.specs.Scopes.{Script, Text, Scope, text_of}
+use Rattle.rb_machine.specs.Control.{State, On, Cont, Then, Under, Test, Again, Turn, Frame, Step, AssignTo, FieldTo, GlobalTo, Rest, Choose, RightOfAnd, RightOfOr, Negate, ReturnOf, ReceiverOf, ReceiverToStore, Argument, Instead, Create, PieceOf, IndexedBy, MemberOf, IndexOf, ReadOf, RightOf, WriteTo}
+use Rattle.rb_machine.specs.Control.{Eval, Give, Leave, Following, Looping, Turning, Passing, Joining, Making, Calling, Showing, Ended, Exit, Break, Next, Return, Aim, OnReceiver, ByName, Storing, Place, OfLocal, OfField, OfGlobal, OfElement, OfAttribute}
+use Rattle.rb_machine.specs.Methods.{Answer, Gives, Raises, Loops, deed}
+use Rattle.rb_machine.specs.Texts.{max_bytes, shown, puts_text, print_text, p_text}
+use Rattle.rb_machine.specs.Call.{ask_of, named, texted, methods_of, params_of, invoked, top_level, own, last_value, enter, answered, invoke, operator, show, value_of_p, print, perform, read_place, decide, write_place}
+use Rattle.rb_machine.specs.Begin.{begin, begin_call, begin_target, begin_return}
+use Rattle.rb_machine.specs.Give.{join, give_step, give, leave}
+use Rattle.rb_machine.specs.Move.{join_piece}
+use Rattle.rb_machine.specs.Move as move
+
+-- the same state with more that waits behind; an end has nothing behind it
+abbrev pub onto : List Cont → State → State
+onto r (On (Ended how) k sc d left) = On (Ended how) k sc d left
+onto r (On c k sc d left) = On c (k ++ r) sc d left
+
+pub either : (b : Bool) (r : List Cont) (s t s' t' : State) → s' ≡ onto r s → t' ≡ onto r t → cond b s' t' ≡ onto r (cond b s t)
+either true r s t s' t' p q = p
+either false r s t s' t' p q = q
+
+pub ask_of_local : (v : Value) (act : Act) (at : Span) (r k : List Cont) (sc : Scope) (d left : ℕ) → ask_of v act at (k ++ r) sc d left ≡ onto r (ask_of v act at k sc d left)
+ask_of_local (To thing) act at r k sc d left = refl
+ask_of_local Nil act at r k sc d left = refl
+ask_of_local False act at r k sc d left = refl
+ask_of_local True act at r k sc d left = refl
+ask_of_local (Int n) act at r k sc d left = refl
+ask_of_local (Sym name) act at r k sc d left = refl
+ask_of_local (Str bytes) act at r k sc d left = refl
+
+module _ (S : Script) where
+  enter_local : (m : Method) (me : Value) (args : List Value) (at : Span) (r k : List Cont) (sc : Scope) (d left : ℕ) → enter S m me args at (k ++ r) sc d left ≡ onto r (enter S m me args at k sc d left)
+  enter_local m me args at r k sc d left = either (nat_eq (length args) (length m.params)) r _ _ _ _ refl refl
+
+  answered_local : (a : Answer) (block : Option Block) (at : Span) (r k : List Cont) (sc : Scope) (d left : ℕ) → answered S a block at (k ++ r) sc d left ≡ onto r (answered S a block at k sc d left)
+  answered_local (Gives v) block at r k sc d left = refl
+  answered_local (Raises fault) block at r k sc d left = refl
+  answered_local (Loops turns) (Some block) at r k sc d left = refl
+  answered_local (Loops turns) None at r k sc d left = refl
+
+  invoked_local : (m : Option Method) (v : Value) (name : Text) (args : List Value) (block : Option Block) (at : Span) (r k : List Cont) (sc : Scope) (d left : ℕ) → invoked S m v name args block at (k ++ r) sc d left ≡ onto r (invoked S m v name args block at k sc d left)
+  invoked_local (Some m) v name args None at r k sc d left = enter_local m v args at r k sc d left
+  invoked_local (Some m) v name args (Some block) at r k sc d left = refl
+  invoked_local None v name args block at r k sc d left = answered_local (deed S.program.names v name args (params_of S block)) block at r k sc d left
+
+  invoke_local : (v : Value) (name : Text) (args : List Value) (block : Option Block) (at : Span) (r k : List Cont) (sc : Scope) (d left : ℕ) → invoke S v name args block at (k ++ r) sc d left ≡ onto r (invoke S v name args block at k sc d left)
+  invoke_local v name args block at r k sc d left = invoked_local (texted S name (methods_of S v)) v name args block at r k sc d left
+
+  show_local : (bytes : Text) (after : Step) (at : Span) (r k : List Cont) (sc : Scope) (d left : ℕ) → show S bytes after at (k ++ r) sc d left ≡ onto r (show S bytes after at k sc d left)
+  show_local [] after at r k sc d left = refl
+  show_local (b ∷ bs) after at r k sc d left = either (nat_lt max_bytes (length (b ∷ bs))) r _ _ _ _ refl refl
+
+  print_local : (name : Text) (args : List Value) (at : Span) (r k : List Cont) (sc : Scope) (d left : ℕ) → print S name args at (k ++ r) sc d left ≡ onto r (print S name args at k sc d left)
+  print_local name args at r k sc d left =
+      either (bytes_eq name (codes "puts")) r _ _ _ _ (show_local (puts_text S.program.names args) (Instead Nil) at r k sc d left)
+      (either (bytes_eq name (codes "print")) r _ _ _ _ (show_local (print_text S.program.names args) (Instead Nil) at r k sc d left)
+      (either (bytes_eq name (codes "p")) r _ _ _ _ (show_local (p_text S.program.names args) (value_of_p S args) at r k sc d left) refl))
+
+  top_level_local : (m : Option Method) (name : NameId) (args : List Value) (at : Span) (r k : List Cont) (sc : Scope) (d left : ℕ) → top_level S m name args at (k ++ r) sc d left ≡ onto r (top_level S m name args at k sc d left)
+  top_level_local (Some m) name args at r k sc d left = enter_local m Nil args at r k sc d left
+  top_level_local None name args at r k sc d left = print_local (text_of S name) args at r k sc d left
+
+  own_local : (m : Option Method) (name : NameId) (args : List Value) (at : Span) (r k : List Cont) (sc : Scope) (d left : ℕ) → own S m name args at (k ++ r) sc d left ≡ onto r (own S m name args at k sc d left)
+  own_local (Some m) name args at r k sc d left = enter_local m sc.me args at r k sc d left
+  own_local None name args at r k sc d left = top_level_local (named S name S.program.functions) name args at r k sc d left
+
+  pub perform_local : (aim : Aim) (args : List Value) (at : Span) (r k : List Cont) (sc : Scope) (d left : ℕ) → perform S aim args at (k ++ r) sc d left ≡ onto r (perform S aim args at k sc d left)
+  perform_local (OnReceiver v name block) args at r k sc d left = invoke_local v name args block at r k sc d left
+  perform_local (ByName name) args at r k sc d left = own_local (named S name (methods_of S sc.me)) name args at r k sc d left
+  perform_local (Storing v name) args at r k sc d left = invoke_local v name args None at r (Then (Instead (last_value S args)) ∷ k) sc d left
+
+  read_local : (place : Place) (o : AssignOp) (value : Node) (at : Span) (r k : List Cont) (sc : Scope) (d left : ℕ) → read_place S place o value at (k ++ r) sc d left ≡ onto r (read_place S place o value at k sc d left)
+  read_local (OfLocal name) o value at r k sc d left = refl
+  read_local (OfField name) o value at r k sc d left = ask_of_local sc.me (GetField name) at r (Then (ReadOf (OfField name) o value at) ∷ k) sc d left
+  read_local (OfGlobal name) o value at r k sc d left = refl
+  read_local (OfElement v index) o value at r k sc d left = invoke_local v (codes "[]") (index ∷ []) None at r (Then (ReadOf (OfElement v index) o value at) ∷ k) sc d left
+  read_local (OfAttribute v name) o value at r k sc d left = invoke_local v name [] None at r (Then (ReadOf (OfAttribute v name) o value at) ∷ k) sc d left
+
+  decide_local : (v : Value) (place : Place) (o : AssignOp) (value : Node) (at : Span) (r k : List Cont) (sc : Scope) (d left : ℕ) → decide S v place o value at (k ++ r) sc d left ≡ onto r (decide S v place o value at k sc d left)
+  decide_local v place op.OrElse value at r k sc d left = either (truthy v) r _ _ _ _ refl refl
+  decide_local v place op.AndThen value at r k sc d left = either (truthy v) r _ _ _ _ refl refl
+  decide_local v place op.Plus value at r k sc d left = refl
+  decide_local v place op.Minus value at r k sc d left = refl
+  decide_local v place op.Times value at r k sc d left = refl
+  decide_local v place op.Over value at r k sc d left = refl
+  decide_local v place op.Modulo value at r k sc d left = refl
+
+  write_local : (v : Value) (place : Place) (at : Span) (r k : List Cont) (sc : Scope) (d left : ℕ) → write_place S v place at (k ++ r) sc d left ≡ onto r (write_place S v place at k sc d left)
+  write_local v (OfLocal name) at r k sc d left = refl
+  write_local v (OfField name) at r k sc d left = ask_of_local sc.me (SetField name v) at r (Then (Instead v) ∷ k) sc d left
+  write_local v (OfGlobal name) at r k sc d left = refl
+  write_local v (OfElement w index) at r k sc d left = invoke_local w (codes "[]=") (index ∷ v ∷ []) None at r (Then (Instead v) ∷ k) sc d left
+  write_local v (OfAttribute w name) at r k sc d left = invoke_local w (name ++ codes "=") (v ∷ []) None at r (Then (Instead v) ∷ k) sc d left
+
+  join_local : (bytes more : List ℕ) (pieces : List Piece) (at : Span) (r k : List Cont) (sc : Scope) (d left : ℕ) → join bytes more pieces at (k ++ r) sc d left ≡ onto r (join bytes more pieces at k sc d left)
+  join_local bytes more pieces at r k sc d left = either (nat_lt max_bytes (length (bytes ++ more))) r _ _ _ _ refl refl
+
+  pub piece_local : (f : Piece-F Node Piece Target Block) (bytes : List ℕ) (ps : List Piece) (at : Span) (r k : List Cont) (sc : Scope) (d left : ℕ) → join_piece S f bytes ps at (k ++ r) sc d left ≡ onto r (join_piece S f bytes ps at k sc d left)
+  piece_local (node.Text more) bytes ps at r k sc d left = join_local bytes more ps at r k sc d left
+  piece_local (node.Code code) bytes ps at r k sc d left = refl
+
+  give_step_local : (v : Value) (step : Step) (r k : List Cont) (sc : Scope) (d left : ℕ) → give_step S v step (k ++ r) sc d left ≡ onto r (give_step S v step k sc d left)
+  give_step_local v (AssignTo name) r k sc d left = refl
+  give_step_local v (FieldTo name at) r k sc d left = ask_of_local sc.me (SetField name v) at r (Then (Instead v) ∷ k) sc d left
+  give_step_local v (GlobalTo name at) r k sc d left = refl
+  give_step_local v (Rest nodes) r k sc d left = refl
+  give_step_local v (Choose first second) r k sc d left = refl
+  give_step_local v (RightOfAnd right) r k sc d left = either (truthy v) r _ _ _ _ refl refl
+  give_step_local v (RightOfOr right) r k sc d left = either (truthy v) r _ _ _ _ refl refl
+  give_step_local v Negate r k sc d left = refl
+  give_step_local v ReturnOf r k sc d left = refl
+  give_step_local v (ReceiverOf name args block at) r k sc d left = refl
+  give_step_local v (ReceiverToStore name args at) r k sc d left = refl
+  give_step_local v (Argument aim done rest at) r k sc d left = refl
+  give_step_local v (Instead w) r k sc d left = refl
+  give_step_local v (Create thing) r k sc d left = refl
+  give_step_local v (PieceOf bytes pieces at) r k sc d left = join_local bytes (shown S.program.names v) pieces at r k sc d left
+  give_step_local v (IndexedBy index o value at) r k sc d left = refl
+  give_step_local v (MemberOf name o value at) r k sc d left = read_local (OfAttribute v name) o value at r k sc d left
+  give_step_local v (IndexOf w o value at) r k sc d left = read_local (OfElement w v) o value at r k sc d left
+  give_step_local v (ReadOf place o value at) r k sc d left = decide_local v place o value at r k sc d left
+  give_step_local v (RightOf current o at) r k sc d left = invoke_local current (operator S o) (v ∷ []) None at r k sc d left
+  give_step_local v (WriteTo place at) r k sc d left = write_local v place at r k sc d left
+
+  pub give_local : (v : Value) (c : Cont) (r k : List Cont) (sc : Scope) (d left : ℕ) → give S v c (k ++ r) sc d left ≡ onto r (give S v c k sc d left)
+  give_local v (Then step) r k sc d left = give_step_local v step r k sc d left
+  give_local v (Under depth) r k sc d left = refl
+  give_local v (Test condition body) r k sc d left = either (truthy v) r _ _ _ _ refl refl
+  give_local v (Again condition body) r k sc d left = refl
+  give_local v (Turn turns block kept) r k sc d left = refl
+  give_local v (Frame saved) r k sc d left = refl
+
+  begin_call_local : (receiver : Option Node) (name : NameId) (args : List Node) (block : Option Block) (at : Span) (r k : List Cont) (sc : Scope) (d left : ℕ) → begin_call S receiver name args block at (k ++ r) sc d left ≡ onto r (begin_call S receiver name args block at k sc d left)
+  begin_call_local None name args block at r k sc d left = refl
+  begin_call_local (Some receiver) name args block at r k sc d left = refl
+
+  begin_target_local : (f : Target-F Node Piece Target Block) (o : AssignOp) (value : Node) (at : Span) (r k : List Cont) (sc : Scope) (d left : ℕ) → begin_target S f o value at (k ++ r) sc d left ≡ onto r (begin_target S f o value at k sc d left)
+  begin_target_local (node.«Target::Local» name) o value at r k sc d left = refl
+  begin_target_local (node.«Target::Field» name) o value at r k sc d left = read_local (OfField name) o value at r k sc d left
+  begin_target_local (node.«Target::Global» name) o value at r k sc d left = refl
+  begin_target_local (node.Index receiver index) o value at r k sc d left = refl
+  begin_target_local (node.Attribute receiver name) o value at r k sc d left = refl
+
+  begin_return_local : (value : Option Node) (r k : List Cont) (sc : Scope) (d left : ℕ) → begin_return S value (k ++ r) sc d left ≡ onto r (begin_return S value k sc d left)
+  begin_return_local None r k sc d left = refl
+  begin_return_local (Some value) r k sc d left = refl
+
+  pub begin_local : (f : NodeLayer) (r k : List Cont) (sc : Scope) (d left : ℕ) → begin S f (k ++ r) sc d left ≡ onto r (begin S f k sc d left)
+  begin_local (node.«Node::Field» name at) r k sc d left = ask_of_local sc.me (GetField name) at r k sc d left
+  begin_local (node.OpAssign target o value at) r k sc d left = begin_target_local (out-Target target) o value at r k sc d left
+  begin_local (node.Call receiver name args block at) r k sc d left = begin_call_local receiver name args block at r k sc d left
+  begin_local (node.Return value at) r k sc d left = begin_return_local value r k sc d left
+  begin_local other r k sc d left = refl
+
+pub leave_local : (e : Exit) (c : Cont) (r k : List Cont) (sc : Scope) (d left : ℕ) → leave e c (k ++ r) sc d left ≡ onto r (leave e c k sc d left)
+leave_local e (Then step) r k sc d left = refl
+leave_local e (Under depth) r k sc d left = refl
+leave_local Break (Test condition body) r k sc d left = refl
+leave_local Next (Test condition body) r k sc d left = refl
+leave_local (Return v) (Test condition body) r k sc d left = refl
+leave_local Break (Again condition body) r k sc d left = refl
+leave_local Next (Again condition body) r k sc d left = refl
+leave_local (Return v) (Again condition body) r k sc d left = refl
+leave_local Break (Turn turns block kept) r k sc d left = refl
+leave_local Next (Turn turns block kept) r k sc d left = refl
+leave_local (Return v) (Turn turns block kept) r k sc d left = refl
+leave_local Break (Frame saved) r k sc d left = refl
+leave_local Next (Frame saved) r k sc d left = refl
+leave_local (Return v) (Frame saved) r k sc d left = refl
+
+answer_local : (a : Reply) (at : Span) (r k : List Cont) (sc : Scope) (d left : ℕ) → move.answered a at (k ++ r) sc d left ≡ onto r (move.answered a at k sc d left)
+answer_local (reply.Value v) at r k sc d left = refl
+answer_local (reply.Elements vs) at r k sc d left = refl
+answer_local (reply.Pairs ps) at r k sc d left = refl
+answer_local reply.Done at r k sc d left = refl
+answer_local (reply.Ended (ending.Value v)) at r k sc d left = refl
+answer_local (reply.Ended (ending.Raised f p)) at r k sc d left = refl
+answer_local (reply.Ended ending.Steps) at r k sc d left = refl
+answer_local (reply.Ended (ending.Full a b)) at r k sc d left = refl
+answer_local (reply.Ended ending.Sink) at r k sc d left = refl
+answer_local (reply.Ended ending.Memory) at r k sc d left = refl
+answer_local (reply.Failed f) at r k sc d left = refl
+
+-- a reply is taken in the same way
+pub replied_local : (s : State) (a : Reply) (r : List Cont) → move.replied (onto r s) a ≡ onto r (move.replied s a)
+replied_local (On (Making thing) k sc d left) a r = answer_local a _ r k sc d left
+replied_local (On (Calling thing act at) k sc d left) a r = answer_local a at r k sc d left
+replied_local (On (Showing bytes) k sc d left) a r = refl
+replied_local (On (Ended how) k sc d left) a r = refl
+replied_local (On (Eval n) k sc d left) a r = refl
+replied_local (On (Give v) k sc d left) a r = refl
+replied_local (On (Leave e) k sc d left) a r = refl
+replied_local (On (Following v ns) k sc d left) a r = refl
+replied_local (On (Looping condition body) k sc d left) a r = refl
+replied_local (On (Turning turns block) k sc d left) a r = refl
+replied_local (On (Passing aim done ns at) k sc d left) a r = refl
+replied_local (On (Joining bytes ps at) k sc d left) a r = refl

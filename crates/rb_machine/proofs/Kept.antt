@@ -1,0 +1,250 @@
+-- The names in scope follow the text of the script; and an end for want of steps has none left.
+use Rattle.std.proofs.Common.{◌≡◌, ℕ, zero, suc, ◌+◌, Bool, true, false, cond, List, [], ◌∷◌, ◌++◌, take, Option, Some, None, length, refl, sym, ap, ◌∙◌, subst}
+use Rattle.std.specs.Prelude.{nat_lt, nat_eq, int_lt, codes, ◌==◌}
+use Rattle.std.specs.Option.{is_some}
+use Rattle.std.specs.Str.{bytes_eq}
+use Rattle.std.proofs.lemmas.List.{map-append, take-map, length-map}
+use Rattle.std.proofs.Math.Seq.{take-append_seam}
+use Rattle.rb_tree.specs.declared.span.Span.{Span}
+use Rattle.rb_tree.specs.declared.span.NameId.{NameId}
+use Rattle.rb_tree.specs.declared.node.AssignOp.{AssignOp}
+use Rattle.rb_tree.specs.declared.node.AssignOp.TheVariants as op
+use Rattle.rb_tree.specs.declared.node.Node.{Node, out-Node}
+use Rattle.rb_tree.specs.declared.node.Piece.{Piece}
+use Rattle.rb_tree.specs.declared.node.Target.{Target, out-Target}
+use Rattle.rb_tree.specs.declared.node.Block.{Block}
+use Rattle.rb_tree.specs.declared.node.Method.{Method}
+use Rattle.rb_tree.specs.declared.node.Node.TheOpen.{Piece-F, Target-F}
+use Rattle.rb_tree.specs.declared.node.Node.TheOpen as node
+use Rattle.rb_tree.specs.Layer.{NodeLayer}
+use Rattle.rb_tree.specs.Place.{place}
+use Rattle.rb_model.specs.declared.fault.Fault.{Fault}
+use Rattle.rb_model.specs.declared.fault.Fault.TheVariants.{TooDeep}
+use Rattle.rb_model.specs.Values.{Value, Nil, False, True, Int, Sym, Str, To, truthy}
+use Rattle.rb_model.specs.Acts.{Act, GetField, SetField}
+use Rattle.rb_model.specs.Ends.{Steps}
+use Rattle.rb_machine.specs.Scopes.{Script, Text, Scope, Locals, text_of, found, assign, fresh, with_locals}
+use Rattle.rb_machine.specs.Control.{State, On, Cont, Then, Under, Test, Again, Turn, Frame, Step, AssignTo, FieldTo, GlobalTo, Rest, Choose, RightOfAnd, RightOfOr, Negate, ReturnOf, ReceiverOf, ReceiverToStore, Argument, Instead, Create, PieceOf, IndexedBy, MemberOf, IndexOf, ReadOf, RightOf, WriteTo}
+use Rattle.rb_machine.specs.Control.{Ended, Exit, Break, Next, Return, Aim, OnReceiver, ByName, Storing, Place, OfLocal, OfField, OfGlobal, OfElement, OfAttribute, Turns, Counting}
+use Rattle.rb_machine.specs.Methods.{Answer, Gives, Raises, Loops, deed}
+use Rattle.rb_machine.specs.Texts.{max_bytes, shown, puts_text, print_text, p_text}
+use Rattle.rb_machine.specs.Call.{raised, ask_of, named, texted, methods_of, params_of, invoked, top_level, own, last_value, enter, answered, invoke, operator, show, value_of_p, print, perform, read_place, decide, write_place}
+use Rattle.rb_machine.specs.Begin.{begin, begin_call, begin_target, begin_return}
+use Rattle.rb_machine.specs.Give.{back, join, give_step, give, leave}
+use Rattle.rb_machine.specs.Move.{start_node, start_turn, turn, join_piece, max_depth, first_of_turn}
+use Rattle.rb_machine.specs.Laws.{names_in, AreInScope}
+
+-- ---- names
+
+pub names_in-fresh : (ns : List NameId) (vs : List Value) → names_in (fresh ns vs) ≡ ns
+names_in-fresh [] vs = refl
+names_in-fresh (n ∷ ns) [] = ap (λ l. n ∷ l) (names_in-fresh ns [])
+names_in-fresh (n ∷ ns) (v ∷ vs) = ap (λ l. n ∷ l) (names_in-fresh ns vs)
+
+names_in-cond : (s t : Bool) (xs ys zs : Locals) (names : List NameId) → names_in xs ≡ names → names_in ys ≡ names → names_in zs ≡ names → names_in (cond s xs (cond t ys zs)) ≡ names
+names_in-cond true t xs ys zs names p q r = p
+names_in-cond false true xs ys zs names p q r = q
+names_in-cond false false xs ys zs names p q r = r
+
+names_in-assign : (name : NameId) (v : Value) (locals : Locals) → names_in (assign name v locals) ≡ names_in locals
+names_in-assign name v [] = refl
+names_in-assign name v (b ∷ bs) =
+    names_in-cond (is_some (found name bs)) (b.0.0 == name.0) (b ∷ assign name v bs) ((b.0, v) ∷ bs) (b ∷ bs) (names_in (b ∷ bs)) (ap (λ l. b.0 ∷ l) (names_in-assign name v bs)) refl refl
+
+pub names_in-take : (outer own : List NameId) (locals : Locals) (kept : ℕ) → names_in locals ≡ outer ++ own → kept ≡ length outer → names_in (take kept locals) ≡ outer
+names_in-take outer own locals kept e h = sym (take-map (λ (b : NameId × Value). b.0) kept locals) ∙ (ap (take kept) e ∙ (ap (λ n. take n (outer ++ own)) h ∙ take-append_seam outer own))
+
+-- ---- states
+
+module _ (S : Script) where
+  -- a state whose names are in scope; or an end, which has no steps left where it is for want of them
+  abbrev pub Sound : State → Type 0
+  Sound (On (Ended how) k sc d left) = how ≡ Steps → left ≡ 0
+  Sound (On c k sc d left) = AreInScope S k (names_in sc.locals)
+
+  abbrev Inside : List Cont → Scope → Type 0
+  Inside k sc = AreInScope S k (names_in sc.locals)
+
+  pub raised_sound : (fault : Fault) (at : Span) (left : ℕ) → Sound (raised fault at left)
+  raised_sound fault at left e = absurd (cc)
+
+  either_sound : (b : Bool) (s t : State) → Sound s → Sound t → Sound (cond b s t)
+  either_sound true s t p q = p
+  either_sound false s t p q = q
+
+  ask_of_sound : (v : Value) (act : Act) (at : Span) (k : List Cont) (sc : Scope) (d left : ℕ) → Inside k sc → Sound (ask_of v act at k sc d left)
+  ask_of_sound (To thing) act at k sc d left h = h
+  ask_of_sound Nil act at k sc d left h = raised_sound _ at left
+  ask_of_sound False act at k sc d left h = raised_sound _ at left
+  ask_of_sound True act at k sc d left h = raised_sound _ at left
+  ask_of_sound (Int n) act at k sc d left h = raised_sound _ at left
+  ask_of_sound (Sym name) act at k sc d left h = raised_sound _ at left
+  ask_of_sound (Str bytes) act at k sc d left h = raised_sound _ at left
+
+  enter_sound : (m : Method) (me : Value) (args : List Value) (at : Span) (k : List Cont) (sc : Scope) (d left : ℕ) → Inside k sc → Sound (enter S m me args at k sc d left)
+  enter_sound m me args at k sc d left h = either_sound (nat_eq (length args) (length m.params)) _ _ (m, names_in-fresh (S.method_names m) args, h) (raised_sound _ at left)
+
+  answered_sound : (a : Answer) (block : Option Block) (at : Span) (k : List Cont) (sc : Scope) (d left : ℕ) → Inside k sc → Sound (answered S a block at k sc d left)
+  answered_sound (Gives v) block at k sc d left h = h
+  answered_sound (Raises fault) block at k sc d left h = raised_sound fault at left
+  answered_sound (Loops turns) (Some block) at k sc d left h = h
+  answered_sound (Loops turns) None at k sc d left h = raised_sound _ at left
+
+  invoked_sound : (m : Option Method) (v : Value) (name : Text) (args : List Value) (block : Option Block) (at : Span) (k : List Cont) (sc : Scope) (d left : ℕ) → Inside k sc → Sound (invoked S m v name args block at k sc d left)
+  invoked_sound (Some m) v name args None at k sc d left h = enter_sound m v args at k sc d left h
+  invoked_sound (Some m) v name args (Some block) at k sc d left h = raised_sound _ at left
+  invoked_sound None v name args block at k sc d left h = answered_sound (deed S.program.names v name args (params_of S block)) block at k sc d left h
+
+  invoke_sound : (v : Value) (name : Text) (args : List Value) (block : Option Block) (at : Span) (k : List Cont) (sc : Scope) (d left : ℕ) → Inside k sc → Sound (invoke S v name args block at k sc d left)
+  invoke_sound v name args block at k sc d left h = invoked_sound (texted S name (methods_of S v)) v name args block at k sc d left h
+
+  show_sound : (bytes : Text) (after : Step) (at : Span) (k : List Cont) (sc : Scope) (d left : ℕ) → Inside k sc → Sound (show S bytes after at k sc d left)
+  show_sound [] after at k sc d left h = h
+  show_sound (b ∷ bs) after at k sc d left h = either_sound (nat_lt max_bytes (length (b ∷ bs))) _ _ (raised_sound _ at left) h
+
+  print_sound : (name : Text) (args : List Value) (at : Span) (k : List Cont) (sc : Scope) (d left : ℕ) → Inside k sc → Sound (print S name args at k sc d left)
+  print_sound name args at k sc d left h =
+      either_sound (bytes_eq name (codes "puts")) _ _ (show_sound (puts_text S.program.names args) (Instead Nil) at k sc d left h)
+      (either_sound (bytes_eq name (codes "print")) _ _ (show_sound (print_text S.program.names args) (Instead Nil) at k sc d left h)
+      (either_sound (bytes_eq name (codes "p")) _ _ (show_sound (p_text S.program.names args) (value_of_p S args) at k sc d left h) (raised_sound _ at left)))
+
+  top_level_sound : (m : Option Method) (name : NameId) (args : List Value) (at : Span) (k : List Cont) (sc : Scope) (d left : ℕ) → Inside k sc → Sound (top_level S m name args at k sc d left)
+  top_level_sound (Some m) name args at k sc d left h = enter_sound m Nil args at k sc d left h
+  top_level_sound None name args at k sc d left h = print_sound (text_of S name) args at k sc d left h
+
+  own_sound : (m : Option Method) (name : NameId) (args : List Value) (at : Span) (k : List Cont) (sc : Scope) (d left : ℕ) → Inside k sc → Sound (own S m name args at k sc d left)
+  own_sound (Some m) name args at k sc d left h = enter_sound m sc.me args at k sc d left h
+  own_sound None name args at k sc d left h = top_level_sound (named S name S.program.functions) name args at k sc d left h
+
+  pub perform_sound : (aim : Aim) (args : List Value) (at : Span) (k : List Cont) (sc : Scope) (d left : ℕ) → Inside k sc → Sound (perform S aim args at k sc d left)
+  perform_sound (OnReceiver v name block) args at k sc d left h = invoke_sound v name args block at k sc d left h
+  perform_sound (ByName name) args at k sc d left h = own_sound (named S name (methods_of S sc.me)) name args at k sc d left h
+  perform_sound (Storing v name) args at k sc d left h = invoke_sound v name args None at (Then (Instead (last_value S args)) ∷ k) sc d left h
+
+  read_sound : (place : Place) (o : AssignOp) (value : Node) (at : Span) (k : List Cont) (sc : Scope) (d left : ℕ) → Inside k sc → Sound (read_place S place o value at k sc d left)
+  read_sound (OfLocal name) o value at k sc d left h = h
+  read_sound (OfField name) o value at k sc d left h = ask_of_sound sc.me (GetField name) at (Then (ReadOf (OfField name) o value at) ∷ k) sc d left h
+  read_sound (OfGlobal name) o value at k sc d left h = h
+  read_sound (OfElement v index) o value at k sc d left h = invoke_sound v (codes "[]") (index ∷ []) None at (Then (ReadOf (OfElement v index) o value at) ∷ k) sc d left h
+  read_sound (OfAttribute v name) o value at k sc d left h = invoke_sound v name [] None at (Then (ReadOf (OfAttribute v name) o value at) ∷ k) sc d left h
+
+  decide_sound : (v : Value) (place : Place) (o : AssignOp) (value : Node) (at : Span) (k : List Cont) (sc : Scope) (d left : ℕ) → Inside k sc → Sound (decide S v place o value at k sc d left)
+  decide_sound v place op.OrElse value at k sc d left h = either_sound (truthy v) _ _ h h
+  decide_sound v place op.AndThen value at k sc d left h = either_sound (truthy v) _ _ h h
+  decide_sound v place op.Plus value at k sc d left h = h
+  decide_sound v place op.Minus value at k sc d left h = h
+  decide_sound v place op.Times value at k sc d left h = h
+  decide_sound v place op.Over value at k sc d left h = h
+  decide_sound v place op.Modulo value at k sc d left h = h
+
+  assigned_sound : (name : NameId) (v : Value) (k : List Cont) (sc : Scope) → Inside k sc → Inside k (with_locals sc (assign name v sc.locals))
+  assigned_sound name v k sc h = subst (λ names. AreInScope S k names) (sym (names_in-assign name v sc.locals)) h
+
+  write_sound : (v : Value) (place : Place) (at : Span) (k : List Cont) (sc : Scope) (d left : ℕ) → Inside k sc → Sound (write_place S v place at k sc d left)
+  write_sound v (OfLocal name) at k sc d left h = assigned_sound name v k sc h
+  write_sound v (OfField name) at k sc d left h = ask_of_sound sc.me (SetField name v) at (Then (Instead v) ∷ k) sc d left h
+  write_sound v (OfGlobal name) at k sc d left h = h
+  write_sound v (OfElement w index) at k sc d left h = invoke_sound w (codes "[]=") (index ∷ v ∷ []) None at (Then (Instead v) ∷ k) sc d left h
+  write_sound v (OfAttribute w name) at k sc d left h = invoke_sound w (name ++ codes "=") (v ∷ []) None at (Then (Instead v) ∷ k) sc d left h
+
+  join_sound : (bytes more : List ℕ) (pieces : List Piece) (at : Span) (k : List Cont) (sc : Scope) (d left : ℕ) → Inside k sc → Sound (join bytes more pieces at k sc d left)
+  join_sound bytes more pieces at k sc d left h = either_sound (nat_lt max_bytes (length (bytes ++ more))) _ _ (raised_sound _ at left) h
+
+  pub piece_sound : (f : Piece-F Node Piece Target Block) (bytes : List ℕ) (ps : List Piece) (at : Span) (k : List Cont) (sc : Scope) (d left : ℕ) → Inside k sc → Sound (join_piece S f bytes ps at k sc d left)
+  piece_sound (node.Text more) bytes ps at k sc d left h = join_sound bytes more ps at k sc d left h
+  piece_sound (node.Code code) bytes ps at k sc d left h = h
+
+  give_step_sound : (v : Value) (step : Step) (k : List Cont) (sc : Scope) (d left : ℕ) → Inside k sc → Sound (give_step S v step k sc d left)
+  give_step_sound v (AssignTo name) k sc d left h = assigned_sound name v k sc h
+  give_step_sound v (FieldTo name at) k sc d left h = ask_of_sound sc.me (SetField name v) at (Then (Instead v) ∷ k) sc d left h
+  give_step_sound v (GlobalTo name at) k sc d left h = h
+  give_step_sound v (Rest nodes) k sc d left h = h
+  give_step_sound v (Choose first second) k sc d left h = h
+  give_step_sound v (RightOfAnd right) k sc d left h = either_sound (truthy v) _ _ h h
+  give_step_sound v (RightOfOr right) k sc d left h = either_sound (truthy v) _ _ h h
+  give_step_sound v Negate k sc d left h = h
+  give_step_sound v ReturnOf k sc d left h = h
+  give_step_sound v (ReceiverOf name args block at) k sc d left h = h
+  give_step_sound v (ReceiverToStore name args at) k sc d left h = h
+  give_step_sound v (Argument aim done rest at) k sc d left h = h
+  give_step_sound v (Instead w) k sc d left h = h
+  give_step_sound v (Create thing) k sc d left h = h
+  give_step_sound v (PieceOf bytes pieces at) k sc d left h = join_sound bytes (shown S.program.names v) pieces at k sc d left h
+  give_step_sound v (IndexedBy index o value at) k sc d left h = h
+  give_step_sound v (MemberOf name o value at) k sc d left h = read_sound (OfAttribute v name) o value at k sc d left h
+  give_step_sound v (IndexOf w o value at) k sc d left h = read_sound (OfElement w v) o value at k sc d left h
+  give_step_sound v (ReadOf place o value at) k sc d left h = decide_sound v place o value at k sc d left h
+  give_step_sound v (RightOf current o at) k sc d left h = invoke_sound current (operator S o) (v ∷ []) None at k sc d left h
+  give_step_sound v (WriteTo place at) k sc d left h = write_sound v place at k sc d left h
+
+  -- the locals of an iteration go, and those round its block are left
+  back_sound : (turns : Turns) (block : Block) (kept : ℕ) (k : List Cont) (sc : Scope) → Inside (Turn turns block kept ∷ k) sc → Inside k (back kept sc)
+  back_sound turns block kept k sc h = subst (λ names. AreInScope S k names) (sym (names_in-take h.0 (S.block_names block.at) sc.locals kept h.1 h.2)) h.3
+
+  pub give_sound : (v : Value) (c : Cont) (k : List Cont) (sc : Scope) (d left : ℕ) → Inside (c ∷ k) sc → Sound (give S v c k sc d left)
+  give_sound v (Then step) k sc d left h = give_step_sound v step k sc d left h
+  give_sound v (Under depth) k sc d left h = h
+  give_sound v (Test condition body) k sc d left h = either_sound (truthy v) _ _ h h
+  give_sound v (Again condition body) k sc d left h = h
+  give_sound v (Turn turns block kept) k sc d left h = back_sound turns block kept k sc h
+  give_sound v (Frame saved) k sc d left h = h.2
+
+  pub leave_sound : (e : Exit) (c : Cont) (k : List Cont) (sc : Scope) (d left : ℕ) → Inside (c ∷ k) sc → Sound (leave e c k sc d left)
+  leave_sound e (Then step) k sc d left h = h
+  leave_sound e (Under depth) k sc d left h = h
+  leave_sound Break (Test condition body) k sc d left h = h
+  leave_sound Next (Test condition body) k sc d left h = h
+  leave_sound (Return v) (Test condition body) k sc d left h = h
+  leave_sound Break (Again condition body) k sc d left h = h
+  leave_sound Next (Again condition body) k sc d left h = h
+  leave_sound (Return v) (Again condition body) k sc d left h = h
+  leave_sound Break (Turn turns block kept) k sc d left h = back_sound turns block kept k sc h
+  leave_sound Next (Turn turns block kept) k sc d left h = back_sound turns block kept k sc h
+  leave_sound (Return v) (Turn turns block kept) k sc d left h = back_sound turns block kept k sc h
+  leave_sound Break (Frame saved) k sc d left h = h.2
+  leave_sound Next (Frame saved) k sc d left h = h.2
+  leave_sound (Return v) (Frame saved) k sc d left h = h.2
+
+  begin_call_sound : (receiver : Option Node) (name : NameId) (args : List Node) (block : Option Block) (at : Span) (k : List Cont) (sc : Scope) (d left : ℕ) → Inside k sc → Sound (begin_call S receiver name args block at k sc d left)
+  begin_call_sound None name args block at k sc d left h = h
+  begin_call_sound (Some receiver) name args block at k sc d left h = h
+
+  begin_target_sound : (f : Target-F Node Piece Target Block) (o : AssignOp) (value : Node) (at : Span) (k : List Cont) (sc : Scope) (d left : ℕ) → Inside k sc → Sound (begin_target S f o value at k sc d left)
+  begin_target_sound (node.«Target::Local» name) o value at k sc d left h = h
+  begin_target_sound (node.«Target::Field» name) o value at k sc d left h = read_sound (OfField name) o value at k sc d left h
+  begin_target_sound (node.«Target::Global» name) o value at k sc d left h = h
+  begin_target_sound (node.Index receiver index) o value at k sc d left h = h
+  begin_target_sound (node.Attribute receiver name) o value at k sc d left h = h
+
+  begin_return_sound : (value : Option Node) (k : List Cont) (sc : Scope) (d left : ℕ) → Inside k sc → Sound (begin_return S value k sc d left)
+  begin_return_sound None k sc d left h = h
+  begin_return_sound (Some value) k sc d left h = h
+
+  pub begin_sound : (f : NodeLayer) (k : List Cont) (sc : Scope) (d left : ℕ) → Inside k sc → Sound (begin S f k sc d left)
+  begin_sound (node.«Node::Field» name at) k sc d left h = ask_of_sound sc.me (GetField name) at k sc d left h
+  begin_sound (node.OpAssign target o value at) k sc d left h = begin_target_sound (out-Target target) o value at k sc d left h
+  begin_sound (node.Call receiver name args block at) k sc d left h = begin_call_sound receiver name args block at k sc d left h
+  begin_sound (node.Return value at) k sc d left h = begin_return_sound value k sc d left h
+  begin_sound (node.Array items at) k sc d left h = raised_sound _ at left
+  begin_sound (node.Hash pairs at) k sc d left h = raised_sound _ at left
+  begin_sound (node.New class args at) k sc d left h = raised_sound _ at left
+  begin_sound (node.ThreadNew args body at) k sc d left h = raised_sound _ at left
+  begin_sound other k sc d left h = h
+
+  pub node_sound : (n : Node) (k : List Cont) (sc : Scope) (d left : ℕ) → Inside k sc → Sound (start_node S n k sc d left)
+  node_sound n k sc d zero h = λ e. refl
+  node_sound n k sc d (suc left) h =
+      either_sound (nat_lt d max_depth) _ _ (begin_sound (out-Node n) (Under d ∷ k) sc (d + 1) left h) (raised_sound TooDeep (place (out-Node n)) (suc left))
+
+  turn_started : (turns : Turns) (block : Block) (k : List Cont) (sc : Scope) (d left : ℕ) → Inside k sc → Sound (start_turn S turns block k sc d left)
+  turn_started turns block k sc d zero h = λ e. refl
+  turn_started turns block k sc d (suc left) h =
+      let own_locals = fresh (S.block_names block.at) (take (length block.params) (first_of_turn turns)) in (
+        names_in sc.locals,
+        map-append (λ (b : NameId × Value). b.0) sc.locals own_locals ∙ ap (λ l. names_in sc.locals ++ l) (names_in-fresh (S.block_names block.at) _),
+        sym (length-map sc.locals (λ (b : NameId × Value). b.0)),
+        h,
+      )
+
+  pub turn_sound : (turns : Turns) (block : Block) (k : List Cont) (sc : Scope) (d left : ℕ) → Inside k sc → Sound (turn S turns block k sc d left)
+  turn_sound (Counting next last answer) block k sc d left h = either_sound (int_lt next last) _ _ (turn_started (Counting next last answer) block k sc d left h) h

@@ -1,0 +1,219 @@
+-- What the machine does is the same however many steps are left, where it begins none.
+use Rattle.std.proofs.Common.{◌≡◌, ℕ, ◌+◌, Bool, true, false, cond, List, [], ◌∷◌, ◌++◌, Option, Some, None, length, refl}
+use Rattle.std.specs.Prelude.{nat_lt, nat_eq, codes}
+use Rattle.std.specs.Str.{bytes_eq}
+use Rattle.rb_tree.specs.declared.span.Span.{Span}
+use Rattle.rb_tree.specs.declared.span.NameId.{NameId}
+use Rattle.rb_tree.specs.declared.node.AssignOp.{AssignOp}
+use Rattle.rb_tree.specs.declared.node.AssignOp.TheVariants as op
+use Rattle.rb_tree.specs.declared.node.Node.{Node}
+use Rattle.rb_tree.specs.declared.node.Piece.{Piece}
+use Rattle.rb_tree.specs.declared.node.Target.{Target, out-Target}
+use Rattle.rb_tree.specs.declared.node.Block.{Block}
+use Rattle.rb_tree.specs.declared.node.Method.{Method}
+use Rattle.rb_tree.specs.declared.node.Node.TheOpen.{Piece-F, Target-F}
+use Rattle.rb_tree.specs.declared.node.Node.TheOpen as node
+use Rattle.rb_tree.specs.Layer.{NodeLayer}
+use Rattle.rb_model.specs.Values.{Value, Nil, False, True, Int, Sym, Str, To, truthy}
+use Rattle.rb_model.specs.Acts.{Act, GetField, SetField, Reply}
+use Rattle.rb_model.specs.Acts as reply
+use Rattle.rb_model.specs.Ends as ending
+use Rattle.rb_machine.specs.Scopes.{Script, Text, Scope, text_of}
+use Rattle.rb_machine.specs.Control.{State, On, Cont, Then, Under, Test, Again, Turn, Frame, Step, AssignTo, FieldTo, GlobalTo, Rest, Choose, RightOfAnd, RightOfOr, Negate, ReturnOf, ReceiverOf, ReceiverToStore, Argument, Instead, Create, PieceOf, IndexedBy, MemberOf, IndexOf, ReadOf, RightOf, WriteTo}
+use Rattle.rb_machine.specs.Control.{Eval, Give, Leave, Following, Looping, Turning, Passing, Joining, Making, Calling, Showing, Ended, Exit, Break, Next, Return, Aim, OnReceiver, ByName, Storing, Place, OfLocal, OfField, OfGlobal, OfElement, OfAttribute}
+use Rattle.rb_machine.specs.Methods.{Answer, Gives, Raises, Loops, deed}
+use Rattle.rb_machine.specs.Texts.{max_bytes, shown, puts_text, print_text, p_text}
+use Rattle.rb_machine.specs.Call.{ask_of, named, texted, methods_of, params_of, invoked, top_level, own, last_value, enter, answered, invoke, operator, show, value_of_p, print, perform, read_place, decide, write_place}
+use Rattle.rb_machine.specs.Begin.{begin, begin_call, begin_target, begin_return}
+use Rattle.rb_machine.specs.Give.{join, give_step, give, leave}
+use Rattle.rb_machine.specs.Move.{join_piece, replied}
+use Rattle.rb_machine.specs.Move as move
+
+-- the same state with more steps left
+abbrev pub longer : ℕ → State → State
+longer j (On c k sc d left) = On c k sc d (left + j)
+
+-- a part of the machine that gives the same state however many steps are left
+abbrev pub Uniform : (ℕ → State) → Type 0
+Uniform part = (j left : ℕ) → part (left + j) ≡ longer j (part left)
+
+pub either : (b : Bool) (j : ℕ) (s t s' t' : State) → s' ≡ longer j s → t' ≡ longer j t → cond b s' t' ≡ longer j (cond b s t)
+either true j s t s' t' p q = p
+either false j s t s' t' p q = q
+
+pub ask_of_uniform : (v : Value) (act : Act) (at : Span) (k : List Cont) (sc : Scope) (d : ℕ) → Uniform (ask_of v act at k sc d)
+ask_of_uniform (To thing) act at k sc d j left = refl
+ask_of_uniform Nil act at k sc d j left = refl
+ask_of_uniform False act at k sc d j left = refl
+ask_of_uniform True act at k sc d j left = refl
+ask_of_uniform (Int n) act at k sc d j left = refl
+ask_of_uniform (Sym name) act at k sc d j left = refl
+ask_of_uniform (Str bytes) act at k sc d j left = refl
+
+module _ (S : Script) where
+  enter_uniform : (m : Method) (me : Value) (args : List Value) (at : Span) (k : List Cont) (sc : Scope) (d : ℕ) → Uniform (enter S m me args at k sc d)
+  enter_uniform m me args at k sc d j left = either (nat_eq (length args) (length m.params)) j _ _ _ _ refl refl
+
+  answered_uniform : (a : Answer) (block : Option Block) (at : Span) (k : List Cont) (sc : Scope) (d : ℕ) → Uniform (answered S a block at k sc d)
+  answered_uniform (Gives v) block at k sc d j left = refl
+  answered_uniform (Raises fault) block at k sc d j left = refl
+  answered_uniform (Loops turns) (Some block) at k sc d j left = refl
+  answered_uniform (Loops turns) None at k sc d j left = refl
+
+  invoked_uniform : (m : Option Method) (v : Value) (name : Text) (args : List Value) (block : Option Block) (at : Span) (k : List Cont) (sc : Scope) (d : ℕ) → Uniform (invoked S m v name args block at k sc d)
+  invoked_uniform (Some m) v name args None at k sc d j left = enter_uniform m v args at k sc d j left
+  invoked_uniform (Some m) v name args (Some block) at k sc d j left = refl
+  invoked_uniform None v name args block at k sc d j left = answered_uniform (deed S.program.names v name args (params_of S block)) block at k sc d j left
+
+  invoke_uniform : (v : Value) (name : Text) (args : List Value) (block : Option Block) (at : Span) (k : List Cont) (sc : Scope) (d : ℕ) → Uniform (invoke S v name args block at k sc d)
+  invoke_uniform v name args block at k sc d j left = invoked_uniform (texted S name (methods_of S v)) v name args block at k sc d j left
+
+  show_uniform : (bytes : Text) (after : Step) (at : Span) (k : List Cont) (sc : Scope) (d : ℕ) → Uniform (show S bytes after at k sc d)
+  show_uniform [] after at k sc d j left = refl
+  show_uniform (b ∷ bs) after at k sc d j left = either (nat_lt max_bytes (length (b ∷ bs))) j _ _ _ _ refl refl
+
+  print_uniform : (name : Text) (args : List Value) (at : Span) (k : List Cont) (sc : Scope) (d : ℕ) → Uniform (print S name args at k sc d)
+  print_uniform name args at k sc d j left =
+      either (bytes_eq name (codes "puts")) j _ _ _ _ (show_uniform (puts_text S.program.names args) (Instead Nil) at k sc d j left)
+      (either (bytes_eq name (codes "print")) j _ _ _ _ (show_uniform (print_text S.program.names args) (Instead Nil) at k sc d j left)
+      (either (bytes_eq name (codes "p")) j _ _ _ _ (show_uniform (p_text S.program.names args) (value_of_p S args) at k sc d j left) refl))
+
+  top_level_uniform : (m : Option Method) (name : NameId) (args : List Value) (at : Span) (k : List Cont) (sc : Scope) (d : ℕ) → Uniform (top_level S m name args at k sc d)
+  top_level_uniform (Some m) name args at k sc d j left = enter_uniform m Nil args at k sc d j left
+  top_level_uniform None name args at k sc d j left = print_uniform (text_of S name) args at k sc d j left
+
+  own_uniform : (m : Option Method) (name : NameId) (args : List Value) (at : Span) (k : List Cont) (sc : Scope) (d : ℕ) → Uniform (own S m name args at k sc d)
+  own_uniform (Some m) name args at k sc d j left = enter_uniform m sc.me args at k sc d j left
+  own_uniform None name args at k sc d j left = top_level_uniform (named S name S.program.functions) name args at k sc d j left
+
+  pub perform_uniform : (aim : Aim) (args : List Value) (at : Span) (k : List Cont) (sc : Scope) (d : ℕ) → Uniform (perform S aim args at k sc d)
+  perform_uniform (OnReceiver v name block) args at k sc d j left = invoke_uniform v name args block at k sc d j left
+  perform_uniform (ByName name) args at k sc d j left = own_uniform (named S name (methods_of S sc.me)) name args at k sc d j left
+  perform_uniform (Storing v name) args at k sc d j left = invoke_uniform v name args None at (Then (Instead (last_value S args)) ∷ k) sc d j left
+
+  read_uniform : (place : Place) (o : AssignOp) (value : Node) (at : Span) (k : List Cont) (sc : Scope) (d : ℕ) → Uniform (read_place S place o value at k sc d)
+  read_uniform (OfLocal name) o value at k sc d j left = refl
+  read_uniform (OfField name) o value at k sc d j left = ask_of_uniform sc.me (GetField name) at (Then (ReadOf (OfField name) o value at) ∷ k) sc d j left
+  read_uniform (OfGlobal name) o value at k sc d j left = refl
+  read_uniform (OfElement v index) o value at k sc d j left = invoke_uniform v (codes "[]") (index ∷ []) None at (Then (ReadOf (OfElement v index) o value at) ∷ k) sc d j left
+  read_uniform (OfAttribute v name) o value at k sc d j left = invoke_uniform v name [] None at (Then (ReadOf (OfAttribute v name) o value at) ∷ k) sc d j left
+
+  decide_uniform : (v : Value) (place : Place) (o : AssignOp) (value : Node) (at : Span) (k : List Cont) (sc : Scope) (d : ℕ) → Uniform (decide S v place o value at k sc d)
+  decide_uniform v place op.OrElse value at k sc d j left = either (truthy v) j _ _ _ _ refl refl
+  decide_uniform v place op.AndThen value at k sc d j left = either (truthy v) j _ _ _ _ refl refl
+  decide_uniform v place op.Plus value at k sc d j left = refl
+  decide_uniform v place op.Minus value at k sc d j left = refl
+  decide_uniform v place op.Times value at k sc d j left = refl
+  decide_uniform v place op.Over value at k sc d j left = refl
+  decide_uniform v place op.Modulo value at k sc d j left = refl
+
+  write_uniform : (v : Value) (place : Place) (at : Span) (k : List Cont) (sc : Scope) (d : ℕ) → Uniform (write_place S v place at k sc d)
+  write_uniform v (OfLocal name) at k sc d j left = refl
+  write_uniform v (OfField name) at k sc d j left = ask_of_uniform sc.me (SetField name v) at (Then (Instead v) ∷ k) sc d j left
+  write_uniform v (OfGlobal name) at k sc d j left = refl
+  write_uniform v (OfElement w index) at k sc d j left = invoke_uniform w (codes "[]=") (index ∷ v ∷ []) None at (Then (Instead v) ∷ k) sc d j left
+  write_uniform v (OfAttribute w name) at k sc d j left = invoke_uniform w (name ++ codes "=") (v ∷ []) None at (Then (Instead v) ∷ k) sc d j left
+
+  join_uniform : (bytes more : List ℕ) (pieces : List Piece) (at : Span) (k : List Cont) (sc : Scope) (d : ℕ) → Uniform (join bytes more pieces at k sc d)
+  join_uniform bytes more pieces at k sc d j left = either (nat_lt max_bytes (length (bytes ++ more))) j _ _ _ _ refl refl
+
+  pub piece_uniform : (f : Piece-F Node Piece Target Block) (bytes : List ℕ) (ps : List Piece) (at : Span) (k : List Cont) (sc : Scope) (d : ℕ) → Uniform (join_piece S f bytes ps at k sc d)
+  piece_uniform (node.Text more) bytes ps at k sc d j left = join_uniform bytes more ps at k sc d j left
+  piece_uniform (node.Code code) bytes ps at k sc d j left = refl
+
+  give_step_uniform : (v : Value) (step : Step) (k : List Cont) (sc : Scope) (d : ℕ) → Uniform (give_step S v step k sc d)
+  give_step_uniform v (AssignTo name) k sc d j left = refl
+  give_step_uniform v (FieldTo name at) k sc d j left = ask_of_uniform sc.me (SetField name v) at (Then (Instead v) ∷ k) sc d j left
+  give_step_uniform v (GlobalTo name at) k sc d j left = refl
+  give_step_uniform v (Rest nodes) k sc d j left = refl
+  give_step_uniform v (Choose first second) k sc d j left = refl
+  give_step_uniform v (RightOfAnd right) k sc d j left = either (truthy v) j _ _ _ _ refl refl
+  give_step_uniform v (RightOfOr right) k sc d j left = either (truthy v) j _ _ _ _ refl refl
+  give_step_uniform v Negate k sc d j left = refl
+  give_step_uniform v ReturnOf k sc d j left = refl
+  give_step_uniform v (ReceiverOf name args block at) k sc d j left = refl
+  give_step_uniform v (ReceiverToStore name args at) k sc d j left = refl
+  give_step_uniform v (Argument aim done rest at) k sc d j left = refl
+  give_step_uniform v (Instead w) k sc d j left = refl
+  give_step_uniform v (Create thing) k sc d j left = refl
+  give_step_uniform v (PieceOf bytes pieces at) k sc d j left = join_uniform bytes (shown S.program.names v) pieces at k sc d j left
+  give_step_uniform v (IndexedBy index o value at) k sc d j left = refl
+  give_step_uniform v (MemberOf name o value at) k sc d j left = read_uniform (OfAttribute v name) o value at k sc d j left
+  give_step_uniform v (IndexOf w o value at) k sc d j left = read_uniform (OfElement w v) o value at k sc d j left
+  give_step_uniform v (ReadOf place o value at) k sc d j left = decide_uniform v place o value at k sc d j left
+  give_step_uniform v (RightOf current o at) k sc d j left = invoke_uniform current (operator S o) (v ∷ []) None at k sc d j left
+  give_step_uniform v (WriteTo place at) k sc d j left = write_uniform v place at k sc d j left
+
+  pub give_uniform : (v : Value) (c : Cont) (k : List Cont) (sc : Scope) (d : ℕ) → Uniform (give S v c k sc d)
+  give_uniform v (Then step) k sc d j left = give_step_uniform v step k sc d j left
+  give_uniform v (Under depth) k sc d j left = refl
+  give_uniform v (Test condition body) k sc d j left = either (truthy v) j _ _ _ _ refl refl
+  give_uniform v (Again condition body) k sc d j left = refl
+  give_uniform v (Turn turns block kept) k sc d j left = refl
+  give_uniform v (Frame saved) k sc d j left = refl
+
+  begin_call_uniform : (receiver : Option Node) (name : NameId) (args : List Node) (block : Option Block) (at : Span) (k : List Cont) (sc : Scope) (d : ℕ) → Uniform (begin_call S receiver name args block at k sc d)
+  begin_call_uniform None name args block at k sc d j left = refl
+  begin_call_uniform (Some receiver) name args block at k sc d j left = refl
+
+  begin_target_uniform : (f : Target-F Node Piece Target Block) (o : AssignOp) (value : Node) (at : Span) (k : List Cont) (sc : Scope) (d : ℕ) → Uniform (begin_target S f o value at k sc d)
+  begin_target_uniform (node.«Target::Local» name) o value at k sc d j left = refl
+  begin_target_uniform (node.«Target::Field» name) o value at k sc d j left = read_uniform (OfField name) o value at k sc d j left
+  begin_target_uniform (node.«Target::Global» name) o value at k sc d j left = refl
+  begin_target_uniform (node.Index receiver index) o value at k sc d j left = refl
+  begin_target_uniform (node.Attribute receiver name) o value at k sc d j left = refl
+
+  begin_return_uniform : (value : Option Node) (k : List Cont) (sc : Scope) (d : ℕ) → Uniform (begin_return S value k sc d)
+  begin_return_uniform None k sc d j left = refl
+  begin_return_uniform (Some value) k sc d j left = refl
+
+  pub begin_uniform : (f : NodeLayer) (k : List Cont) (sc : Scope) (d : ℕ) → Uniform (begin S f k sc d)
+  begin_uniform (node.«Node::Field» name at) k sc d j left = ask_of_uniform sc.me (GetField name) at k sc d j left
+  begin_uniform (node.OpAssign target o value at) k sc d j left = begin_target_uniform (out-Target target) o value at k sc d j left
+  begin_uniform (node.Call receiver name args block at) k sc d j left = begin_call_uniform receiver name args block at k sc d j left
+  begin_uniform (node.Return value at) k sc d j left = begin_return_uniform value k sc d j left
+  begin_uniform other k sc d j left = refl
+
+pub leave_uniform : (e : Exit) (c : Cont) (k : List Cont) (sc : Scope) (d : ℕ) → Uniform (leave e c k sc d)
+leave_uniform e (Then step) k sc d j left = refl
+leave_uniform e (Under depth) k sc d j left = refl
+leave_uniform Break (Test condition body) k sc d j left = refl
+leave_uniform Next (Test condition body) k sc d j left = refl
+leave_uniform (Return v) (Test condition body) k sc d j left = refl
+leave_uniform Break (Again condition body) k sc d j left = refl
+leave_uniform Next (Again condition body) k sc d j left = refl
+leave_uniform (Return v) (Again condition body) k sc d j left = refl
+leave_uniform Break (Turn turns block kept) k sc d j left = refl
+leave_uniform Next (Turn turns block kept) k sc d j left = refl
+leave_uniform (Return v) (Turn turns block kept) k sc d j left = refl
+leave_uniform Break (Frame saved) k sc d j left = refl
+leave_uniform Next (Frame saved) k sc d j left = refl
+leave_uniform (Return v) (Frame saved) k sc d j left = refl
+
+answer_uniform : (r : Reply) (at : Span) (k : List Cont) (sc : Scope) (d : ℕ) → Uniform (move.answered r at k sc d)
+answer_uniform (reply.Value v) at k sc d j left = refl
+answer_uniform (reply.Elements vs) at k sc d j left = refl
+answer_uniform (reply.Pairs ps) at k sc d j left = refl
+answer_uniform reply.Done at k sc d j left = refl
+answer_uniform (reply.Ended (ending.Value v)) at k sc d j left = refl
+answer_uniform (reply.Ended (ending.Raised f p)) at k sc d j left = refl
+answer_uniform (reply.Ended ending.Steps) at k sc d j left = refl
+answer_uniform (reply.Ended (ending.Full a b)) at k sc d j left = refl
+answer_uniform (reply.Ended ending.Sink) at k sc d j left = refl
+answer_uniform (reply.Ended ending.Memory) at k sc d j left = refl
+answer_uniform (reply.Failed f) at k sc d j left = refl
+
+-- a reply leaves the steps as they are
+pub replied_longer : (j : ℕ) (s : State) (r : Reply) → replied (longer j s) r ≡ longer j (replied s r)
+replied_longer j (On (Making thing) k sc d left) r = answer_uniform r _ k sc d j left
+replied_longer j (On (Calling thing act at) k sc d left) r = answer_uniform r at k sc d j left
+replied_longer j (On (Showing bytes) k sc d left) r = refl
+replied_longer j (On (Ended how) k sc d left) r = refl
+replied_longer j (On (Eval n) k sc d left) r = refl
+replied_longer j (On (Give v) k sc d left) r = refl
+replied_longer j (On (Leave e) k sc d left) r = refl
+replied_longer j (On (Following v ns) k sc d left) r = refl
+replied_longer j (On (Looping condition body) k sc d left) r = refl
+replied_longer j (On (Turning turns block) k sc d left) r = refl
+replied_longer j (On (Passing aim done ns at) k sc d left) r = refl
+replied_longer j (On (Joining bytes ps at) k sc d left) r = refl
