@@ -1,10 +1,10 @@
 -- What the parts of the walk that call nothing of it answer.
-use Rattle.std.specs.Prelude.{◌≡◌, ◌⊎◌, ◌≤◌, ◌<◌, ◌-◌, ℕ, ℤ, Bool, true, false, List, length, map, slice_set, Option, Some, None}
+use Rattle.std.specs.Prelude.{◌≡◌, ◌⊎◌, ◌≤◌, ◌<◌, ◌-◌, ℕ, ℤ, Bool, true, false, List, [], ◌∷◌, length, map, slice_set, Option, Some, None}
 use Rattle.rb_tree.specs.declared.span.Span.{Span}
 use Rattle.rb_tree.specs.declared.span.NameId.{NameId}
 use Rattle.rb_tree.specs.declared.node.AssignOp.{AssignOp}
 use Rattle.rb_tree.specs.declared.node.AssignOp.TheVariants as op
-use Rattle.rb_model.specs.Values.{Value as Val, Int, plain}
+use Rattle.rb_model.specs.Values.{Value as Val, Nil, Int, plain}
 use Rattle.rb_model.specs.declared.value.Value.{Value as Held}
 use Rattle.rb_model.specs.declared.fault.Fault.TheVariants.{ArgumentCount}
 use Rattle.rb_model.specs.Ends.{Raised, Memory}
@@ -16,6 +16,8 @@ use Rattle.rb_machine.specs.Methods.{Answer, Gives, Raises, Loops}
 use Rattle.rb_machine.specs.Follows.{At}
 use Rattle.rb_builtin.specs.declared.builtin.Builtin.{Builtin}
 use Rattle.rb_builtin.specs.declared.builtin.Builtin.TheVariants as builtin
+use Rattle.rb_render.specs.declared.show.Form.{Form}
+use Rattle.rb_render.specs.declared.show.Form.TheVariants as form
 use Rattle.rb_code.specs.declared.code.Code.{Code}
 use Rattle.rb_code.specs.Erase.{erase}
 use Rattle.rb_code.specs.Resolved.{fits}
@@ -53,3 +55,13 @@ method_of op.Over = Some builtin.Over
 method_of op.Modulo = Some builtin.Modulo
 method_of op.OrElse = None
 method_of op.AndThen = None
+
+-- the one of values, or nil
+abbrev pub only_value : List Val → Val
+only_value (v ∷ []) = v
+only_value vs = Nil
+
+-- what a call that shows values gives
+abbrev pub shown_value : Form → List Val → Val
+shown_value form.Inspect vs = only_value vs
+shown_value f vs = Nil

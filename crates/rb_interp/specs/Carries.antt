@@ -100,3 +100,10 @@ abbrev pub Shows : List Text → ℕ → Form → List Val → Span → ℕ → 
 Shows texts N form values at left log log' o =
     (S : Script) (start : State) (h : Private) (after : Step) (k : List Cont) (sc : Scope) (d : ℕ)
     → At S 0 N start log h (show S (written texts form values) after at k sc d left) → Came S N start log' h o (Then after ∷ k) sc d left
+
+-- From where `from` stands, the machine comes to where `to` stands.
+abbrev pub Reaches : CodeScript → List Text → ℕ → (Script → Fits) → (from to : Script → List Cont → Scope → ℕ → ℕ → State) → (base depth left left' : ℕ) → (room room' : List Held) → (log log' : Log) → Type 0
+Reaches script texts N code from to base depth left left' room room' log log' =
+    (S : Script) (start : State) (h : Private) (k : List Cont) (me : Val) (names : List NameId) (size : ℕ)
+    → StandsFor script S → S.program.names ≡ texts → Lies (code S) names size base (length room)
+    → At S 0 N start log h (from S k (scope_of me names room) depth left) → At S 0 N start log' h (to S k (scope_of me names room') depth left')

@@ -1,6 +1,6 @@
 // The walk.
 
-ghost use Rattle.std.specs.Prelude.{◌≡◌, ◌≤◌, ◌<◌, ◌+◌, ◌+ℤ◌, pos, ℕ, true, false, List, [], ◌∷◌, ◌++◌, length, map, slice_get, Some, None, IfSome, OnOk};
+ghost use Rattle.std.specs.Prelude.{◌≡◌, ◌≤◌, ◌<◌, ◌+◌, ◌+ℤ◌, pos, ℕ, true, false, List, [], ◌∷◌, ◌++◌, length, map, take, drop, slice_get, Some, None, IfSome, OnOk};
 ghost use Rattle.rb_tree.specs.declared.node.Node.{Node as Tree, out-Node};
 ghost use Rattle.rb_tree.specs.declared.node.AssignOp.{AssignOp as Op};
 ghost use Rattle.rb_tree.specs.declared.span.NameId.{NameId};
@@ -17,10 +17,10 @@ ghost use Rattle.rb_machine.specs.Methods.{deed};
 ghost use Rattle.rb_builtin.specs.Names.{builtin_of};
 ghost use Rattle.rb_builtin.specs.Integers as integers;
 ghost use Rattle.rb_code.specs.Erase.{erase, erase_block, erase_piece};
-ghost use Rattle.rb_code.specs.Resolved.{fits, block_fits, piece_fits, every};
+ghost use Rattle.rb_code.specs.Resolved.{fits, block_fits, piece_fits, every, form_takes};
 ghost use Rattle.rb_interp.specs.Outcome.{is_left, value_of, outcome, Gave, Over};
 ghost use Rattle.rb_interp.specs.Carries.{Carries, Keeps, Passes, Shows, both, at_slot, numbered, called, printing, goes_on, loop_exit, call_exit};
-ghost use Rattle.rb_interp.specs.Answers.{OrMemory, Writes, outcome_of, IsSmall, method_of};
+ghost use Rattle.rb_interp.specs.Answers.{OrMemory, Writes, outcome_of, IsSmall, method_of, shown_value, only_value};
 
 use crate::came::{Came, Leave, is_left};
 use crate::slots::{clear, start_block};
@@ -71,6 +71,7 @@ fn is_true(value: &Value) -> bool
 }
 
 /// Where a node stands.
+#[tactic(none)]
 fn place_of(code: &Code) -> Span
     ensures { result ≡ place (out-Node (erase code.now)) }
 {
@@ -104,6 +105,7 @@ fn place_of(code: &Code) -> Span
 }
 
 /// An integer that a leaf has.
+#[tactic(none)]
 fn small(code: &Code, room: &[Value]) -> Option<i64>
     ensures { IfSome result (λ n. IsSmall code.now room.now n) }
 {
@@ -237,6 +239,7 @@ impl<'p, O: OneStore + Drop> Walker<'p, O> {
     }
 
     /// Writes the value that came into a slot, and gives it on.
+    #[tactic(none)]
     fn write(&mut self, slot: u32, came: Came, room: &mut [Value]) -> Came
         requires came { is_left came ≡ false }
         ensures written { Writes slot (value_of came self.old.value) room.old room.new (outcome result self.new.value self.new.leave) }
@@ -307,13 +310,14 @@ impl<'p, O: OneStore + Drop> Walker<'p, O> {
     }
 
     /// Shows bytes by one print, where there are any, and gives nil or a value.
+    #[tactic(none)]
     fn show(&mut self, form: Form, args: &[Value], at: Span) -> Came
-        requires open { has_end (O.log self.old.store).entries ≡ false }
+        requires unended { has_end (O.log self.old.store).entries ≡ false }
         requires steps { self.old.left ≤ self.old.context.steps }
         ensures base { self.new.base ≡ self.old.base }
         ensures left { self.new.left ≡ self.old.left }
         ensures context { self.new.context ≡ self.old.context }
-        ensures open { has_end (O.log self.new.store).entries ≡ false }
+        ensures unended { has_end (O.log self.new.store).entries ≡ false }
         ensures came { Shows self.old.context.names.now self.old.context.steps form (map plain args.now) at self.old.left (O.log self.old.store) (O.log self.new.store) (outcome result self.new.value self.new.leave) }
     {
         let bytes = match render(self.context.alloc, self.context.names, form, args) {
@@ -337,17 +341,49 @@ impl<'p, O: OneStore + Drop> Walker<'p, O> {
         }
     }
 
+    /// What a call that shows values gives: `p` gives its one value.
+    fn shown_value(&mut self, form: Form, args: &[Value]) -> Came
+        ensures gives { form_takes form (length args.now) ≡ true → OrMemory (Gave (shown_value form (map plain args.now))) (outcome result self.new.value self.new.leave) }
+        ensures base { self.new.base ≡ self.old.base }
+        ensures left { self.new.left ≡ self.old.left }
+        ensures context { self.new.context ≡ self.old.context }
+        ensures store { self.new.store ≡ self.old.store }
+    {
+        match form {
+            Form::Puts | Form::Print => Came::Nil,
+            Form::Inspect => self.only_value(args),
+        }
+    }
+
+    /// The one of values, or nil.
+    fn only_value(&mut self, args: &[Value]) -> Came
+        ensures gives { OrMemory (Gave (only_value (map plain args.now))) (outcome result self.new.value self.new.leave) }
+        ensures base { self.new.base ≡ self.old.base }
+        ensures left { self.new.left ≡ self.old.left }
+        ensures context { self.new.context ≡ self.old.context }
+        ensures store { self.new.store ≡ self.old.store }
+    {
+        let [value] = args else {
+            return Came::Nil;
+        };
+        match value.share() {
+            Ok(value) => self.give(value),
+            Err(_) => self.over(End::Memory),
+        }
+    }
+
     /// Evaluates a node.
     #[cycle(walk)]
+    #[tactic(none)]
     pub fn walk(&mut self, code: &'p Code, depth: u32, room: &mut [Value]) -> Came
-        requires open { has_end (O.log self.old.store).entries ≡ false }
+        requires unended { has_end (O.log self.old.store).entries ≡ false }
         requires steps { self.old.left ≤ self.old.context.steps }
-        ensures counted { is_left result ≡ false → self.new.left < self.old.left }
+        ensures counted { goes_on (outcome result self.new.value self.new.leave) ≡ true → self.new.left < self.old.left }
         ensures base { self.new.base ≡ self.old.base }
         ensures context { self.new.context ≡ self.old.context }
         ensures room { length room.new ≡ length room.old }
         ensures less { self.new.left ≤ self.old.left }
-        ensures open { has_end (O.log self.new.store).entries ≡ false }
+        ensures unended { has_end (O.log self.new.store).entries ≡ false }
         ensures kept { Keeps self.old.context.script.now self.old.context.names.now (λ S. fits S code.now) self.old.base room.old room.new }
         ensures came { Carries self.old.context.script.now self.old.context.names.now self.old.context.steps (λ S. fits S code.now) (λ S k sc d n. On (Eval (erase code.now)) k sc d n) self.old.base depth self.old.left self.new.left room.old room.new (O.log self.old.store) (O.log self.new.store) (outcome result self.new.value self.new.leave) }
     {
@@ -363,14 +399,15 @@ impl<'p, O: OneStore + Drop> Walker<'p, O> {
 
     /// A node whose step is counted.
     #[cycle(walk)]
+    #[tactic(none)]
     fn begin(&mut self, code: &'p Code, depth: u32, room: &mut [Value]) -> Came
-        requires open { has_end (O.log self.old.store).entries ≡ false }
+        requires unended { has_end (O.log self.old.store).entries ≡ false }
         requires steps { self.old.left ≤ self.old.context.steps }
         ensures base { self.new.base ≡ self.old.base }
         ensures context { self.new.context ≡ self.old.context }
         ensures room { length room.new ≡ length room.old }
         ensures less { self.new.left ≤ self.old.left }
-        ensures open { has_end (O.log self.new.store).entries ≡ false }
+        ensures unended { has_end (O.log self.new.store).entries ≡ false }
         ensures kept { Keeps self.old.context.script.now self.old.context.names.now (λ S. fits S code.now) self.old.base room.old room.new }
         ensures came { Carries self.old.context.script.now self.old.context.names.now self.old.context.steps (λ S. fits S code.now) (λ S k sc d n. begin S (out-Node (erase code.now)) k sc d n) self.old.base depth self.old.left self.new.left room.old room.new (O.log self.old.store) (O.log self.new.store) (outcome result self.new.value self.new.leave) }
     {
@@ -446,14 +483,15 @@ impl<'p, O: OneStore + Drop> Walker<'p, O> {
 
     /// An assignment to a local.
     #[cycle(walk)]
+    #[tactic(none)]
     fn set_local(&mut self, slot: u32, value: &'p Code, depth: u32, room: &mut [Value]) -> Came
-        requires open { has_end (O.log self.old.store).entries ≡ false }
+        requires unended { has_end (O.log self.old.store).entries ≡ false }
         requires steps { self.old.left ≤ self.old.context.steps }
         ensures base { self.new.base ≡ self.old.base }
         ensures context { self.new.context ≡ self.old.context }
         ensures room { length room.new ≡ length room.old }
         ensures less { self.new.left ≤ self.old.left }
-        ensures open { has_end (O.log self.new.store).entries ≡ false }
+        ensures unended { has_end (O.log self.new.store).entries ≡ false }
         ensures kept { (name : NameId) → Keeps self.old.context.script.now self.old.context.names.now (at_slot slot name (λ S. fits S value.now)) self.old.base room.old room.new }
         ensures came { (name : NameId) → Carries self.old.context.script.now self.old.context.names.now self.old.context.steps (at_slot slot name (λ S. fits S value.now)) (λ S k sc d n. On (Eval (erase value.now)) (Then (AssignTo name) ∷ k) sc d n) self.old.base depth self.old.left self.new.left room.old room.new (O.log self.old.store) (O.log self.new.store) (outcome result self.new.value self.new.leave) }
     {
@@ -466,6 +504,7 @@ impl<'p, O: OneStore + Drop> Walker<'p, O> {
 
     /// An assignment with an operator to a local.
     #[cycle(walk)]
+    #[tactic(none)]
     fn update_local(
         &mut self,
         slot: u32,
@@ -475,13 +514,13 @@ impl<'p, O: OneStore + Drop> Walker<'p, O> {
         depth: u32,
         room: &mut [Value],
     ) -> Came
-        requires open { has_end (O.log self.old.store).entries ≡ false }
+        requires unended { has_end (O.log self.old.store).entries ≡ false }
         requires steps { self.old.left ≤ self.old.context.steps }
         ensures base { self.new.base ≡ self.old.base }
         ensures context { self.new.context ≡ self.old.context }
         ensures room { length room.new ≡ length room.old }
         ensures less { self.new.left ≤ self.old.left }
-        ensures open { has_end (O.log self.new.store).entries ≡ false }
+        ensures unended { has_end (O.log self.new.store).entries ≡ false }
         ensures kept { (name : NameId) → Keeps self.old.context.script.now self.old.context.names.now (at_slot slot name (λ S. fits S value.now)) self.old.base room.old room.new }
         ensures came { (name : NameId) → Carries self.old.context.script.now self.old.context.names.now self.old.context.steps (at_slot slot name (λ S. fits S value.now)) (λ S k sc d n. read_place S (OfLocal name) op (erase value.now) at k sc d n) self.old.base depth self.old.left self.new.left room.old room.new (O.log self.old.store) (O.log self.new.store) (outcome result self.new.value self.new.leave) }
     {
@@ -519,6 +558,7 @@ impl<'p, O: OneStore + Drop> Walker<'p, O> {
     }
 
     /// A call with one argument that is evaluated.
+    #[tactic(none)]
     fn operated(&mut self, method: Option<Builtin>, receiver: &Value, arg: Value, at: Span) -> Came
         ensures gives { (name : List ℕ) → builtin_of name ≡ method → OrMemory (outcome_of (deed self.old.context.names.now (plain receiver.now) name (plain arg ∷ []) None) at) (outcome result self.new.value self.new.leave) }
         ensures base { self.new.base ≡ self.old.base }
@@ -535,6 +575,7 @@ impl<'p, O: OneStore + Drop> Walker<'p, O> {
 
     /// An assignment with an operator to an element: no value that there is yet has elements.
     #[cycle(walk)]
+    #[tactic(none)]
     fn read_element(
         &mut self,
         receiver: &'p Code,
@@ -543,13 +584,13 @@ impl<'p, O: OneStore + Drop> Walker<'p, O> {
         depth: u32,
         room: &mut [Value],
     ) -> Came
-        requires open { has_end (O.log self.old.store).entries ≡ false }
+        requires unended { has_end (O.log self.old.store).entries ≡ false }
         requires steps { self.old.left ≤ self.old.context.steps }
         ensures base { self.new.base ≡ self.old.base }
         ensures context { self.new.context ≡ self.old.context }
         ensures room { length room.new ≡ length room.old }
         ensures less { self.new.left ≤ self.old.left }
-        ensures open { has_end (O.log self.new.store).entries ≡ false }
+        ensures unended { has_end (O.log self.new.store).entries ≡ false }
         ensures kept { (op : Op) (value : Tree) → Keeps self.old.context.script.now self.old.context.names.now (both (λ S. fits S receiver.now) (λ S. fits S index.now)) self.old.base room.old room.new }
         ensures came { (op : Op) (value : Tree) → Carries self.old.context.script.now self.old.context.names.now self.old.context.steps (both (λ S. fits S receiver.now) (λ S. fits S index.now)) (λ S k sc d n. On (Eval (erase receiver.now)) (Then (IndexedBy (erase index.now) op value at) ∷ k) sc d n) self.old.base depth self.old.left self.new.left room.old room.new (O.log self.old.store) (O.log self.new.store) (outcome result self.new.value self.new.leave) }
     {
@@ -566,6 +607,7 @@ impl<'p, O: OneStore + Drop> Walker<'p, O> {
 
     /// An assignment with an operator to an attribute: no value that there is yet has attributes.
     #[cycle(walk)]
+    #[tactic(none)]
     fn read_attribute(
         &mut self,
         receiver: &'p Code,
@@ -573,13 +615,13 @@ impl<'p, O: OneStore + Drop> Walker<'p, O> {
         depth: u32,
         room: &mut [Value],
     ) -> Came
-        requires open { has_end (O.log self.old.store).entries ≡ false }
+        requires unended { has_end (O.log self.old.store).entries ≡ false }
         requires steps { self.old.left ≤ self.old.context.steps }
         ensures base { self.new.base ≡ self.old.base }
         ensures context { self.new.context ≡ self.old.context }
         ensures room { length room.new ≡ length room.old }
         ensures less { self.new.left ≤ self.old.left }
-        ensures open { has_end (O.log self.new.store).entries ≡ false }
+        ensures unended { has_end (O.log self.new.store).entries ≡ false }
         ensures kept { (name : NameId) (op : Op) (value : Tree) → Keeps self.old.context.script.now self.old.context.names.now (λ S. fits S receiver.now) self.old.base room.old room.new }
         ensures came { (name : NameId) (op : Op) (value : Tree) → Carries self.old.context.script.now self.old.context.names.now self.old.context.steps (λ S. fits S receiver.now) (λ S k sc d n. On (Eval (erase receiver.now)) (Then (MemberOf (text_of S name) op value at) ∷ k) sc d n) self.old.base depth self.old.left self.new.left room.old room.new (O.log self.old.store) (O.log self.new.store) (outcome result self.new.value self.new.leave) }
     {
@@ -592,6 +634,7 @@ impl<'p, O: OneStore + Drop> Walker<'p, O> {
 
     /// A call with one argument. Over two leaves that are integers it calls nothing of the walk.
     #[cycle(walk)]
+    #[tactic(none)]
     fn operate(
         &mut self,
         method: Option<Builtin>,
@@ -601,13 +644,13 @@ impl<'p, O: OneStore + Drop> Walker<'p, O> {
         depth: u32,
         room: &mut [Value],
     ) -> Came
-        requires open { has_end (O.log self.old.store).entries ≡ false }
+        requires unended { has_end (O.log self.old.store).entries ≡ false }
         requires steps { self.old.left ≤ self.old.context.steps }
         ensures base { self.new.base ≡ self.old.base }
         ensures context { self.new.context ≡ self.old.context }
         ensures room { length room.new ≡ length room.old }
         ensures less { self.new.left ≤ self.old.left }
-        ensures open { has_end (O.log self.new.store).entries ≡ false }
+        ensures unended { has_end (O.log self.new.store).entries ≡ false }
         ensures kept { (name : NameId) → Keeps self.old.context.script.now self.old.context.names.now (numbered method name (both (λ S. fits S left.now) (λ S. fits S right.now))) self.old.base room.old room.new }
         ensures came { (name : NameId) → Carries self.old.context.script.now self.old.context.names.now self.old.context.steps (numbered method name (both (λ S. fits S left.now) (λ S. fits S right.now))) (λ S k sc d n. On (Eval (erase left.now)) (Then (ReceiverOf (text_of S name) (erase right.now ∷ []) None at) ∷ k) sc d n) self.old.base depth self.old.left self.new.left room.old room.new (O.log self.old.store) (O.log self.new.store) (outcome result self.new.value self.new.leave) }
     {
@@ -636,6 +679,7 @@ impl<'p, O: OneStore + Drop> Walker<'p, O> {
 
     /// A call with a receiver, without a block.
     #[cycle(walk)]
+    #[tactic(none)]
     fn send(
         &mut self,
         method: Option<Builtin>,
@@ -645,13 +689,13 @@ impl<'p, O: OneStore + Drop> Walker<'p, O> {
         depth: u32,
         room: &mut [Value],
     ) -> Came
-        requires open { has_end (O.log self.old.store).entries ≡ false }
+        requires unended { has_end (O.log self.old.store).entries ≡ false }
         requires steps { self.old.left ≤ self.old.context.steps }
         ensures base { self.new.base ≡ self.old.base }
         ensures context { self.new.context ≡ self.old.context }
         ensures room { length room.new ≡ length room.old }
         ensures less { self.new.left ≤ self.old.left }
-        ensures open { has_end (O.log self.new.store).entries ≡ false }
+        ensures unended { has_end (O.log self.new.store).entries ≡ false }
         ensures kept { (name : NameId) → Keeps self.old.context.script.now self.old.context.names.now (numbered method name (both (λ S. fits S receiver.now) (λ S. every (map (fits S) args.now)))) self.old.base room.old room.new }
         ensures came { (name : NameId) → Carries self.old.context.script.now self.old.context.names.now self.old.context.steps (numbered method name (both (λ S. fits S receiver.now) (λ S. every (map (fits S) args.now)))) (λ S k sc d n. On (Eval (erase receiver.now)) (Then (ReceiverOf (text_of S name) (map erase args.now) None at) ∷ k) sc d n) self.old.base depth self.old.left self.new.left room.old room.new (O.log self.old.store) (O.log self.new.store) (outcome result self.new.value self.new.leave) }
     {
@@ -666,11 +710,12 @@ impl<'p, O: OneStore + Drop> Walker<'p, O> {
         if is_left(came) {
             return came;
         }
-        self.call_method(&receiver, method, &room[before..before + args.len()], at)
+        self.call_method(&receiver, method, passed(room, before, args.len()), at)
     }
 
     /// An assignment by the call of a method: no value that there is yet has such a method.
     #[cycle(walk)]
+    #[tactic(none)]
     fn store_by(
         &mut self,
         receiver: &'p Code,
@@ -679,13 +724,13 @@ impl<'p, O: OneStore + Drop> Walker<'p, O> {
         depth: u32,
         room: &mut [Value],
     ) -> Came
-        requires open { has_end (O.log self.old.store).entries ≡ false }
+        requires unended { has_end (O.log self.old.store).entries ≡ false }
         requires steps { self.old.left ≤ self.old.context.steps }
         ensures base { self.new.base ≡ self.old.base }
         ensures context { self.new.context ≡ self.old.context }
         ensures room { length room.new ≡ length room.old }
         ensures less { self.new.left ≤ self.old.left }
-        ensures open { has_end (O.log self.new.store).entries ≡ false }
+        ensures unended { has_end (O.log self.new.store).entries ≡ false }
         ensures kept { (name : NameId) → Keeps self.old.context.script.now self.old.context.names.now (both (λ S. fits S receiver.now) (λ S. every (map (fits S) args.now))) self.old.base room.old room.new }
         ensures came { (name : NameId) → Carries self.old.context.script.now self.old.context.names.now self.old.context.steps (both (λ S. fits S receiver.now) (λ S. every (map (fits S) args.now))) (λ S k sc d n. On (Eval (erase receiver.now)) (Then (ReceiverToStore (text_of S name) (map erase args.now) at) ∷ k) sc d n) self.old.base depth self.old.left self.new.left room.old room.new (O.log self.old.store) (O.log self.new.store) (outcome result self.new.value self.new.leave) }
     {
@@ -704,6 +749,7 @@ impl<'p, O: OneStore + Drop> Walker<'p, O> {
 
     /// A call with a receiver and a block.
     #[cycle(walk)]
+    #[tactic(none)]
     fn send_block(
         &mut self,
         method: Option<Builtin>,
@@ -714,13 +760,13 @@ impl<'p, O: OneStore + Drop> Walker<'p, O> {
         depth: u32,
         room: &mut [Value],
     ) -> Came
-        requires open { has_end (O.log self.old.store).entries ≡ false }
+        requires unended { has_end (O.log self.old.store).entries ≡ false }
         requires steps { self.old.left ≤ self.old.context.steps }
         ensures base { self.new.base ≡ self.old.base }
         ensures context { self.new.context ≡ self.old.context }
         ensures room { length room.new ≡ length room.old }
         ensures less { self.new.left ≤ self.old.left }
-        ensures open { has_end (O.log self.new.store).entries ≡ false }
+        ensures unended { has_end (O.log self.new.store).entries ≡ false }
         ensures kept { (name : NameId) → Keeps self.old.context.script.now self.old.context.names.now (numbered method name (both (λ S. fits S receiver.now) (both (λ S. every (map (fits S) args.now)) (λ S. block_fits S block.now)))) self.old.base room.old room.new }
         ensures came { (name : NameId) → Carries self.old.context.script.now self.old.context.names.now self.old.context.steps (numbered method name (both (λ S. fits S receiver.now) (both (λ S. every (map (fits S) args.now)) (λ S. block_fits S block.now)))) (λ S k sc d n. On (Eval (erase receiver.now)) (Then (ReceiverOf (text_of S name) (map erase args.now) (Some (erase_block block.now)) at) ∷ k) sc d n) self.old.base depth self.old.left self.new.left room.old room.new (O.log self.old.store) (O.log self.new.store) (outcome result self.new.value self.new.leave) }
     {
@@ -736,7 +782,7 @@ impl<'p, O: OneStore + Drop> Walker<'p, O> {
             return came;
         }
         let params = block.params.len() as u32;
-        let args = &room[before..before + args.len()];
+        let args = passed(room, before, args.len());
         match deed_of(
             self.context.alloc,
             self.context.names,
@@ -765,6 +811,7 @@ impl<'p, O: OneStore + Drop> Walker<'p, O> {
 
     /// The iterations of a block with the integers from the first up to the last, and then the answer.
     #[cycle(walk)]
+    #[tactic(none)]
     fn turns(
         &mut self,
         first: i64,
@@ -774,13 +821,13 @@ impl<'p, O: OneStore + Drop> Walker<'p, O> {
         depth: u32,
         room: &mut [Value],
     ) -> Came
-        requires open { has_end (O.log self.old.store).entries ≡ false }
+        requires unended { has_end (O.log self.old.store).entries ≡ false }
         requires steps { self.old.left ≤ self.old.context.steps }
         ensures base { self.new.base ≡ self.old.base }
         ensures context { self.new.context ≡ self.old.context }
         ensures room { length room.new ≡ length room.old }
         ensures less { self.new.left ≤ self.old.left }
-        ensures open { has_end (O.log self.new.store).entries ≡ false }
+        ensures unended { has_end (O.log self.new.store).entries ≡ false }
         ensures kept { Keeps self.old.context.script.now self.old.context.names.now (λ S. block_fits S block.now) self.old.base room.old room.new }
         ensures came { Carries self.old.context.script.now self.old.context.names.now self.old.context.steps (λ S. block_fits S block.now) (λ S k sc d n. On (Turning (Counting first (last +ℤ pos 1) (Int answer)) (erase_block block.now)) k sc d n) self.old.base depth self.old.left self.new.left room.old room.new (O.log self.old.store) (O.log self.new.store) (outcome result self.new.value self.new.leave) }
     {
@@ -810,6 +857,7 @@ impl<'p, O: OneStore + Drop> Walker<'p, O> {
 
     /// A call of a top-level method.
     #[cycle(walk)]
+    #[tactic(none)]
     fn function(
         &mut self,
         number: u32,
@@ -818,13 +866,13 @@ impl<'p, O: OneStore + Drop> Walker<'p, O> {
         depth: u32,
         room: &mut [Value],
     ) -> Came
-        requires open { has_end (O.log self.old.store).entries ≡ false }
+        requires unended { has_end (O.log self.old.store).entries ≡ false }
         requires steps { self.old.left ≤ self.old.context.steps }
         ensures base { self.new.base ≡ self.old.base }
         ensures context { self.new.context ≡ self.old.context }
         ensures room { length room.new ≡ length room.old }
         ensures less { self.new.left ≤ self.old.left }
-        ensures open { has_end (O.log self.new.store).entries ≡ false }
+        ensures unended { has_end (O.log self.new.store).entries ≡ false }
         ensures kept { (name : NameId) → Keeps self.old.context.script.now self.old.context.names.now (called number name (λ S. every (map (fits S) args.now))) self.old.base room.old room.new }
         ensures came { (name : NameId) → Carries self.old.context.script.now self.old.context.names.now self.old.context.steps (called number name (λ S. every (map (fits S) args.now))) (λ S k sc d n. On (Passing (ByName name) [] (map erase args.now) at) k sc d n) self.old.base depth self.old.left self.new.left room.old room.new (O.log self.old.store) (O.log self.new.store) (outcome result self.new.value self.new.leave) }
     {
@@ -855,6 +903,7 @@ impl<'p, O: OneStore + Drop> Walker<'p, O> {
 
     /// A call of `puts`, `print` or `p`.
     #[cycle(walk)]
+    #[tactic(none)]
     fn print(
         &mut self,
         form: Form,
@@ -863,13 +912,13 @@ impl<'p, O: OneStore + Drop> Walker<'p, O> {
         depth: u32,
         room: &mut [Value],
     ) -> Came
-        requires open { has_end (O.log self.old.store).entries ≡ false }
+        requires unended { has_end (O.log self.old.store).entries ≡ false }
         requires steps { self.old.left ≤ self.old.context.steps }
         ensures base { self.new.base ≡ self.old.base }
         ensures context { self.new.context ≡ self.old.context }
         ensures room { length room.new ≡ length room.old }
         ensures less { self.new.left ≤ self.old.left }
-        ensures open { has_end (O.log self.new.store).entries ≡ false }
+        ensures unended { has_end (O.log self.new.store).entries ≡ false }
         ensures kept { (name : NameId) → Keeps self.old.context.script.now self.old.context.names.now (printing form name (length args.now) (λ S. every (map (fits S) args.now))) self.old.base room.old room.new }
         ensures came { (name : NameId) → Carries self.old.context.script.now self.old.context.names.now self.old.context.steps (printing form name (length args.now) (λ S. every (map (fits S) args.now))) (λ S k sc d n. On (Passing (ByName name) [] (map erase args.now) at) k sc d n) self.old.base depth self.old.left self.new.left room.old room.new (O.log self.old.store) (O.log self.new.store) (outcome result self.new.value self.new.leave) }
     {
@@ -879,24 +928,18 @@ impl<'p, O: OneStore + Drop> Walker<'p, O> {
         if is_left(came) {
             return came;
         }
-        let args = &room[before..before + args.len()];
-        let shown = self.show(form, args, at);
+        let shown = self.show(form, passed(room, before, args.len()), at);
         if is_left(shown) {
             return shown;
         }
-        match (form, args) {
-            (Form::Inspect, [value]) => match value.share() {
-                Ok(value) => self.give(value),
-                Err(_) => self.over(End::Memory),
-            },
-            _ => Came::Nil,
-        }
+        self.shown_value(form, passed(room, before, args.len()))
     }
 
     /// The arguments, each behind the frame and in it from then on.
     #[cycle(walk)]
+    #[tactic(none)]
     fn arguments(&mut self, args: &'p [Code], depth: u32, room: &mut [Value]) -> Came
-        requires open { has_end (O.log self.old.store).entries ≡ false }
+        requires unended { has_end (O.log self.old.store).entries ≡ false }
         requires steps { self.old.left ≤ self.old.context.steps }
         ensures base { is_left result ≡ false → self.new.base ≡ self.old.base + length args.now }
         ensures rises { self.old.base ≤ self.new.base }
@@ -904,11 +947,11 @@ impl<'p, O: OneStore + Drop> Walker<'p, O> {
         ensures context { self.new.context ≡ self.old.context }
         ensures room { length room.new ≡ length room.old }
         ensures less { self.new.left ≤ self.old.left }
-        ensures open { has_end (O.log self.new.store).entries ≡ false }
+        ensures unended { has_end (O.log self.new.store).entries ≡ false }
         ensures kept { Keeps self.old.context.script.now self.old.context.names.now (λ S. every (map (fits S) args.now)) self.old.base room.old room.new }
         ensures came { Passes self.old.context.script.now self.old.context.names.now self.old.context.steps args.now self.old.base depth self.old.left self.new.left room.old room.new (O.log self.old.store) (O.log self.new.store) result (outcome result self.new.value self.new.leave) }
     {
-        'args: for arg in args {
+        'each: for arg in args {
             let came = self.walk(arg, depth, room);
             if is_left(came) {
                 return came;
@@ -924,14 +967,15 @@ impl<'p, O: OneStore + Drop> Walker<'p, O> {
 
     /// A text.
     #[cycle(walk)]
+    #[tactic(none)]
     fn text(&mut self, pieces: &'p [CodePiece], at: Span, depth: u32, room: &mut [Value]) -> Came
-        requires open { has_end (O.log self.old.store).entries ≡ false }
+        requires unended { has_end (O.log self.old.store).entries ≡ false }
         requires steps { self.old.left ≤ self.old.context.steps }
         ensures base { self.new.base ≡ self.old.base }
         ensures context { self.new.context ≡ self.old.context }
         ensures room { length room.new ≡ length room.old }
         ensures less { self.new.left ≤ self.old.left }
-        ensures open { has_end (O.log self.new.store).entries ≡ false }
+        ensures unended { has_end (O.log self.new.store).entries ≡ false }
         ensures kept { Keeps self.old.context.script.now self.old.context.names.now (λ S. every (map (piece_fits S) pieces.now)) self.old.base room.old room.new }
         ensures came { Carries self.old.context.script.now self.old.context.names.now self.old.context.steps (λ S. every (map (piece_fits S) pieces.now)) (λ S k sc d n. On (Joining [] (map erase_piece pieces.now) at) k sc d n) self.old.base depth self.old.left self.new.left room.old room.new (O.log self.old.store) (O.log self.new.store) (outcome result self.new.value self.new.leave) }
     {
@@ -971,14 +1015,15 @@ impl<'p, O: OneStore + Drop> Walker<'p, O> {
 
     /// `first && second`
     #[cycle(walk)]
+    #[tactic(none)]
     fn both(&mut self, first: &'p Code, second: &'p Code, depth: u32, room: &mut [Value]) -> Came
-        requires open { has_end (O.log self.old.store).entries ≡ false }
+        requires unended { has_end (O.log self.old.store).entries ≡ false }
         requires steps { self.old.left ≤ self.old.context.steps }
         ensures base { self.new.base ≡ self.old.base }
         ensures context { self.new.context ≡ self.old.context }
         ensures room { length room.new ≡ length room.old }
         ensures less { self.new.left ≤ self.old.left }
-        ensures open { has_end (O.log self.new.store).entries ≡ false }
+        ensures unended { has_end (O.log self.new.store).entries ≡ false }
         ensures kept { Keeps self.old.context.script.now self.old.context.names.now (both (λ S. fits S first.now) (λ S. fits S second.now)) self.old.base room.old room.new }
         ensures came { Carries self.old.context.script.now self.old.context.names.now self.old.context.steps (both (λ S. fits S first.now) (λ S. fits S second.now)) (λ S k sc d n. On (Eval (erase first.now)) (Then (RightOfAnd (erase second.now)) ∷ k) sc d n) self.old.base depth self.old.left self.new.left room.old room.new (O.log self.old.store) (O.log self.new.store) (outcome result self.new.value self.new.leave) }
     {
@@ -991,14 +1036,15 @@ impl<'p, O: OneStore + Drop> Walker<'p, O> {
 
     /// `first || second`
     #[cycle(walk)]
+    #[tactic(none)]
     fn either(&mut self, first: &'p Code, second: &'p Code, depth: u32, room: &mut [Value]) -> Came
-        requires open { has_end (O.log self.old.store).entries ≡ false }
+        requires unended { has_end (O.log self.old.store).entries ≡ false }
         requires steps { self.old.left ≤ self.old.context.steps }
         ensures base { self.new.base ≡ self.old.base }
         ensures context { self.new.context ≡ self.old.context }
         ensures room { length room.new ≡ length room.old }
         ensures less { self.new.left ≤ self.old.left }
-        ensures open { has_end (O.log self.new.store).entries ≡ false }
+        ensures unended { has_end (O.log self.new.store).entries ≡ false }
         ensures kept { Keeps self.old.context.script.now self.old.context.names.now (both (λ S. fits S first.now) (λ S. fits S second.now)) self.old.base room.old room.new }
         ensures came { Carries self.old.context.script.now self.old.context.names.now self.old.context.steps (both (λ S. fits S first.now) (λ S. fits S second.now)) (λ S k sc d n. On (Eval (erase first.now)) (Then (RightOfOr (erase second.now)) ∷ k) sc d n) self.old.base depth self.old.left self.new.left room.old room.new (O.log self.old.store) (O.log self.new.store) (outcome result self.new.value self.new.leave) }
     {
@@ -1011,14 +1057,15 @@ impl<'p, O: OneStore + Drop> Walker<'p, O> {
 
     /// `!value`
     #[cycle(walk)]
+    #[tactic(none)]
     fn negate(&mut self, value: &'p Code, depth: u32, room: &mut [Value]) -> Came
-        requires open { has_end (O.log self.old.store).entries ≡ false }
+        requires unended { has_end (O.log self.old.store).entries ≡ false }
         requires steps { self.old.left ≤ self.old.context.steps }
         ensures base { self.new.base ≡ self.old.base }
         ensures context { self.new.context ≡ self.old.context }
         ensures room { length room.new ≡ length room.old }
         ensures less { self.new.left ≤ self.old.left }
-        ensures open { has_end (O.log self.new.store).entries ≡ false }
+        ensures unended { has_end (O.log self.new.store).entries ≡ false }
         ensures kept { Keeps self.old.context.script.now self.old.context.names.now (λ S. fits S value.now) self.old.base room.old room.new }
         ensures came { Carries self.old.context.script.now self.old.context.names.now self.old.context.steps (λ S. fits S value.now) (λ S k sc d n. On (Eval (erase value.now)) (Then Negate ∷ k) sc d n) self.old.base depth self.old.left self.new.left room.old room.new (O.log self.old.store) (O.log self.new.store) (outcome result self.new.value self.new.leave) }
     {
@@ -1035,6 +1082,7 @@ impl<'p, O: OneStore + Drop> Walker<'p, O> {
 
     /// A choice between two bodies.
     #[cycle(walk)]
+    #[tactic(none)]
     fn choose(
         &mut self,
         condition: &'p Code,
@@ -1043,13 +1091,13 @@ impl<'p, O: OneStore + Drop> Walker<'p, O> {
         depth: u32,
         room: &mut [Value],
     ) -> Came
-        requires open { has_end (O.log self.old.store).entries ≡ false }
+        requires unended { has_end (O.log self.old.store).entries ≡ false }
         requires steps { self.old.left ≤ self.old.context.steps }
         ensures base { self.new.base ≡ self.old.base }
         ensures context { self.new.context ≡ self.old.context }
         ensures room { length room.new ≡ length room.old }
         ensures less { self.new.left ≤ self.old.left }
-        ensures open { has_end (O.log self.new.store).entries ≡ false }
+        ensures unended { has_end (O.log self.new.store).entries ≡ false }
         ensures kept { Keeps self.old.context.script.now self.old.context.names.now (both (λ S. fits S condition.now) (both (λ S. every (map (fits S) first.now)) (λ S. every (map (fits S) second.now)))) self.old.base room.old room.new }
         ensures came { Carries self.old.context.script.now self.old.context.names.now self.old.context.steps (both (λ S. fits S condition.now) (both (λ S. every (map (fits S) first.now)) (λ S. every (map (fits S) second.now)))) (λ S k sc d n. On (Eval (erase condition.now)) (Then (Choose (map erase first.now) (map erase second.now)) ∷ k) sc d n) self.old.base depth self.old.left self.new.left room.old room.new (O.log self.old.store) (O.log self.new.store) (outcome result self.new.value self.new.leave) }
     {
@@ -1065,14 +1113,15 @@ impl<'p, O: OneStore + Drop> Walker<'p, O> {
 
     /// The statements of a body, one after another.
     #[cycle(walk)]
+    #[tactic(none)]
     fn body(&mut self, nodes: &'p [Code], depth: u32, room: &mut [Value]) -> Came
-        requires open { has_end (O.log self.old.store).entries ≡ false }
+        requires unended { has_end (O.log self.old.store).entries ≡ false }
         requires steps { self.old.left ≤ self.old.context.steps }
         ensures base { self.new.base ≡ self.old.base }
         ensures context { self.new.context ≡ self.old.context }
         ensures room { length room.new ≡ length room.old }
         ensures less { self.new.left ≤ self.old.left }
-        ensures open { has_end (O.log self.new.store).entries ≡ false }
+        ensures unended { has_end (O.log self.new.store).entries ≡ false }
         ensures kept { Keeps self.old.context.script.now self.old.context.names.now (λ S. every (map (fits S) nodes.now)) self.old.base room.old room.new }
         ensures came { Carries self.old.context.script.now self.old.context.names.now self.old.context.steps (λ S. every (map (fits S) nodes.now)) (λ S k sc d n. On (Following Nil (map erase nodes.now)) k sc d n) self.old.base depth self.old.left self.new.left room.old room.new (O.log self.old.store) (O.log self.new.store) (outcome result self.new.value self.new.leave) }
     {
@@ -1088,6 +1137,7 @@ impl<'p, O: OneStore + Drop> Walker<'p, O> {
 
     /// A loop.
     #[cycle(walk)]
+    #[tactic(none)]
     fn repeat(
         &mut self,
         condition: &'p Code,
@@ -1095,13 +1145,13 @@ impl<'p, O: OneStore + Drop> Walker<'p, O> {
         depth: u32,
         room: &mut [Value],
     ) -> Came
-        requires open { has_end (O.log self.old.store).entries ≡ false }
+        requires unended { has_end (O.log self.old.store).entries ≡ false }
         requires steps { self.old.left ≤ self.old.context.steps }
         ensures base { self.new.base ≡ self.old.base }
         ensures context { self.new.context ≡ self.old.context }
         ensures room { length room.new ≡ length room.old }
         ensures less { self.new.left ≤ self.old.left }
-        ensures open { has_end (O.log self.new.store).entries ≡ false }
+        ensures unended { has_end (O.log self.new.store).entries ≡ false }
         ensures kept { Keeps self.old.context.script.now self.old.context.names.now (both (λ S. fits S condition.now) (λ S. every (map (fits S) body.now))) self.old.base room.old room.new }
         ensures came { Carries self.old.context.script.now self.old.context.names.now self.old.context.steps (both (λ S. fits S condition.now) (λ S. every (map (fits S) body.now))) (λ S k sc d n. On (Looping (erase condition.now) (map erase body.now)) k sc d n) self.old.base depth self.old.left self.new.left room.old room.new (O.log self.old.store) (O.log self.new.store) (outcome result self.new.value self.new.leave) }
     {
@@ -1125,14 +1175,15 @@ impl<'p, O: OneStore + Drop> Walker<'p, O> {
 
     /// A return with a value.
     #[cycle(walk)]
+    #[tactic(none)]
     fn leave_with(&mut self, value: &'p Code, depth: u32, room: &mut [Value]) -> Came
-        requires open { has_end (O.log self.old.store).entries ≡ false }
+        requires unended { has_end (O.log self.old.store).entries ≡ false }
         requires steps { self.old.left ≤ self.old.context.steps }
         ensures base { self.new.base ≡ self.old.base }
         ensures context { self.new.context ≡ self.old.context }
         ensures room { length room.new ≡ length room.old }
         ensures less { self.new.left ≤ self.old.left }
-        ensures open { has_end (O.log self.new.store).entries ≡ false }
+        ensures unended { has_end (O.log self.new.store).entries ≡ false }
         ensures kept { Keeps self.old.context.script.now self.old.context.names.now (λ S. fits S value.now) self.old.base room.old room.new }
         ensures came { Carries self.old.context.script.now self.old.context.names.now self.old.context.steps (λ S. fits S value.now) (λ S k sc d n. On (Eval (erase value.now)) (Then ReturnOf ∷ k) sc d n) self.old.base depth self.old.left self.new.left room.old room.new (O.log self.old.store) (O.log self.new.store) (outcome result self.new.value self.new.leave) }
     {
@@ -1233,6 +1284,14 @@ fn end_of(came: Came, leave: Leave) -> End {
         Leave::Break | Leave::Next | Leave::Return => End::Value(Value::Nil),
         Leave::Over(end) => end,
     }
+}
+
+/// The values of arguments, which lie behind a frame.
+fn passed(room: &[Value], from: usize, count: usize) -> &[Value]
+    requires { from + count ≤ length room.now }
+    ensures { result.now ≡ take count (drop from room.now) }
+{
+    &room[from..from + count]
 }
 
 /// Adds bytes behind others.
