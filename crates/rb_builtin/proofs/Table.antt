@@ -1,12 +1,14 @@
 -- The rows of the table, by the numbers of methods.
 use Rattle.std.proofs.Common.{◌≡◌, ℕ, Bool, true, false, cond, List, [], ◌∷◌, ◌++◌, Option, Some, None, length, refl, sym, ap, ◌∙◌}
-use Rattle.std.specs.Prelude.{ℤ, pos, neg_ℤ, nat_eq, codes}
+use Rattle.std.specs.Prelude.{ℤ, pos, neg_ℤ, nat_eq}
+use Rattle.std.specs.Prelude.{◌||◌}
+use Rattle.std.specs.Ordering.{int_eq}
 use Rattle.std.specs.Str.{bytes_eq}
 use Rattle.std.proofs.lemmas.Slice.Eq.{bytes_eq-Decides}
 use Rattle.rb_model.specs.declared.fault.Fault.{Fault}
-use Rattle.rb_model.specs.declared.fault.Fault.TheVariants.{NoMethod, ArgumentCount, TypeMismatch}
+use Rattle.rb_model.specs.declared.fault.Fault.TheVariants.{NoMethod, TypeMismatch}
 use Rattle.rb_model.specs.Characters.{characters}
-use Rattle.rb_model.specs.Values.{Value, Nil, False, True, Int, Sym, Str, To, truth, same}
+use Rattle.rb_model.specs.Values.{Value, Nil, False, True, Int, Sym, Str, To, truth}
 use Rattle.rb_machine.specs.Scopes.{Text}
 use Rattle.rb_machine.specs.Control.{Counting}
 use Rattle.rb_machine.specs.Texts.{shown, inspected}
@@ -14,7 +16,7 @@ use Rattle.rb_machine.specs.Methods.{Answer, Gives, Raises, Loops, on_integers, 
 use Rattle.rb_builtin.specs.declared.builtin.Builtin.{Builtin}
 use Rattle.rb_builtin.specs.declared.builtin.Builtin.TheVariants as builtin
 use Rattle.rb_builtin.specs.Names.{name_of, builtin_of}
-use Rattle.rb_builtin.specs.Integers.{operated}
+use Rattle.rb_builtin.specs.Integers.{operated, is_operation}
 use Rattle.rb_builtin.specs.Deeds.{only_integer, only_text, by_misfit, fault_or_count, answer_by_number}
 
 abbrev pub by_integer : Option ℤ → (ℤ → Answer) → Answer
@@ -192,3 +194,30 @@ name_is name b e = looked_up name b all e
 pub by_number : (names : List Text) (v : Value) (name : Text) (b : Builtin) (args : List Value) (given : Option ℕ) → builtin_of name ≡ Some b
     → answer_by_number names v b args given ≡ deed names v name args given
 by_number names v name b args given e = sym (by_name names v b args given) ∙ ap (λ n. deed names v n args given) (sym (name_is name b e))
+
+-- an operation on two integers is what the table says of the call
+by_operation : (names : List Text) (b : Builtin) (m n : ℤ) → is_operation b ≡ true → answer_by_number names (Int m) b (Int n ∷ []) None ≡ operated b m n
+by_operation names builtin.Plus m n e = refl
+by_operation names builtin.Minus m n e = refl
+by_operation names builtin.Times m n e = refl
+by_operation names builtin.Over m n e = refl
+by_operation names builtin.Modulo m n e = refl
+by_operation names builtin.Less m n e = refl
+by_operation names builtin.AtMost m n e = refl
+by_operation names builtin.More m n e = refl
+by_operation names builtin.AtLeast m n e = refl
+by_operation names builtin.Equal m n e = equal_integers (int_eq m n)
+  where
+    equal_integers : (t : Bool) → cond (t || true) (Gives (truth t)) (Raises NoMethod) ≡ Gives (truth t)
+    equal_integers true = refl
+    equal_integers false = refl
+by_operation names builtin.IsNil m n e = absurd (cc)
+by_operation names builtin.ToS m n e = absurd (cc)
+by_operation names builtin.Inspect m n e = absurd (cc)
+by_operation names builtin.Negate m n e = absurd (cc)
+by_operation names builtin.TimesLoop m n e = absurd (cc)
+by_operation names builtin.Upto m n e = absurd (cc)
+by_operation names builtin.Length m n e = absurd (cc)
+
+pub operation_is : (names : List Text) (name : Text) (b : Builtin) (m n : ℤ) → is_operation b ≡ true → builtin_of name ≡ Some b → deed names (Int m) name (Int n ∷ []) None ≡ operated b m n
+operation_is names name b m n e f = sym (by_number names (Int m) name b (Int n ∷ []) None f) ∙ by_operation names b m n e

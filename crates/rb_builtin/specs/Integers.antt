@@ -1,5 +1,5 @@
 -- What operations on two integers answer.
-use Rattle.std.specs.Prelude.{ℕ, ℤ, ◌+ℤ◌, ◌-ℤ◌, ◌*ℤ◌, int_lt, int_le, Bool, true, false, List, [], ◌∷◌, Option, Some, None}
+use Rattle.std.specs.Prelude.{ℤ, ◌+ℤ◌, ◌-ℤ◌, ◌*ℤ◌, int_lt, int_le, Option, Some, None, Bool, true, false}
 use Rattle.std.specs.Ordering.{int_eq}
 use Rattle.rb_model.specs.declared.fault.Fault.TheVariants.{NoMethod, ZeroDivision, IntegerOverflow}
 use Rattle.rb_model.specs.Values.{Value, truth}
@@ -37,3 +37,17 @@ operated builtin.More m n = Gives (truth (int_lt n m))
 operated builtin.AtLeast m n = Gives (truth (int_le n m))
 operated builtin.Equal m n = Gives (truth (int_eq m n))
 operated other m n = Raises NoMethod
+
+-- the methods of which one integer and another make an operation
+abbrev pub is_operation : Builtin → Bool
+is_operation builtin.Plus = true
+is_operation builtin.Minus = true
+is_operation builtin.Times = true
+is_operation builtin.Over = true
+is_operation builtin.Modulo = true
+is_operation builtin.Less = true
+is_operation builtin.AtMost = true
+is_operation builtin.More = true
+is_operation builtin.AtLeast = true
+is_operation builtin.Equal = true
+is_operation other = false

@@ -1,5 +1,5 @@
 -- The numbers of built-in methods.
-use Rattle.std.specs.Prelude.{ℕ, Bool, true, false, List, Option, Some, None, if◌then◌else◌, codes}
+use Rattle.std.specs.Prelude.{Bool, true, false, Option, Some, None, if◌then◌else◌, codes}
 use Rattle.std.specs.Str.{bytes_eq}
 use Rattle.rb_machine.specs.Scopes.{Text}
 use Rattle.rb_builtin.specs.declared.builtin.Builtin.{Builtin}

@@ -1,8 +1,11 @@
 // Operations on two integers.
 
-ghost use Rattle.std.specs.Prelude.{◌≡◌, ℤ, Some, None, IfSome, pos};
+ghost use Rattle.std.specs.Prelude.{◌≡◌, ℕ, true, List, [], ◌∷◌, Some, None};
 ghost use Rattle.rb_model.specs.Values.{truth};
 ghost use Rattle.rb_machine.specs.Methods.{Gives, unless_zero, quotient, modulo, leaves_below};
+ghost use Rattle.rb_model.specs.Values as value;
+ghost use Rattle.rb_machine.specs.Methods.{deed};
+ghost use Rattle.rb_builtin.specs.Names.{builtin_of};
 ghost use Rattle.rb_builtin.specs.Integers as spec;
 
 use crate::builtin::Builtin;
@@ -76,9 +79,28 @@ fn modulo(m: i64, n: i64) -> IntegerAnswer
     IntegerAnswer::Int(rest)
 }
 
-/// What an operation on two integers gives.
+/// Whether one integer and another make an operation by a method.
+pub fn is_operation(method: Builtin) -> bool
+    ensures { result ≡ spec.is_operation method }
+{
+    match method {
+        Builtin::Plus
+        | Builtin::Minus
+        | Builtin::Times
+        | Builtin::Over
+        | Builtin::Modulo
+        | Builtin::Less
+        | Builtin::AtMost
+        | Builtin::More
+        | Builtin::AtLeast
+        | Builtin::Equal => true,
+        _ => false,
+    }
+}
+
+/// What an operation gives.
 #[inline]
-pub fn integer_operation(method: Builtin, m: i64, n: i64) -> IntegerAnswer
+fn operation(method: Builtin, m: i64, n: i64) -> IntegerAnswer
     ensures { spec.answer_of result ≡ spec.operated method m n }
 {
     match method {
@@ -94,4 +116,15 @@ pub fn integer_operation(method: Builtin, m: i64, n: i64) -> IntegerAnswer
         Builtin::Equal => truth_of(m == n),
         _ => IntegerAnswer::NoOperation,
     }
+}
+
+/// What an operation on two integers gives.
+#[inline]
+pub fn integer_operation(method: Builtin, m: i64, n: i64) -> IntegerAnswer
+    ensures answer { spec.answer_of result ≡ spec.operated method m n }
+    // Where the method is an operation, that is what the table says of the call.
+    ensures table { spec.is_operation method ≡ true → (names : List (List ℕ)) (name : List ℕ) → builtin_of name ≡ Some method
+        → deed names (value.Int m) name (value.Int n ∷ []) None ≡ spec.answer_of result }
+{
+    operation(method, m, n)
 }

@@ -10,4 +10,4 @@ mod tests;
 
 pub use builtin::{Builtin, builtin_of};
 pub use deed::{Deed, Loop, deed_of};
-pub use integer::{IntegerAnswer, integer_operation};
+pub use integer::{IntegerAnswer, integer_operation, is_operation};

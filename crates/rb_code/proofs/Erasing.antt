@@ -1,11 +1,10 @@
 -- One layer of what code stands for.
-use Rattle.std.proofs.Common.{◌≡◌, ℕ, List, [], ◌∷◌, map, Option, Some, None, refl, ap, ◌∙◌, sym, rules}
+use Rattle.std.proofs.Common.{◌≡◌, ℕ, List, [], ◌∷◌, map, Option, Some, None, rules}
 use Rattle.std.specs.Prelude.{ℤ}
 use Rattle.std.specs.Option.{option_map}
 use Rattle.rb_tree.specs.declared.span.Span.{Span}
 use Rattle.rb_tree.specs.declared.span.NameId.{NameId}
 use Rattle.rb_tree.specs.declared.node.AssignOp.{AssignOp}
-use Rattle.rb_tree.specs.declared.node.Node.{Node}
 use Rattle.rb_tree.specs.declared.node.Node.TheVariants as tree
 use Rattle.rb_tree.specs.declared.node.Piece.TheVariants as piece
 use Rattle.rb_tree.specs.declared.node.Target.TheVariants as target
@@ -15,7 +14,7 @@ use Rattle.rb_code.specs.declared.code.Code.{Code, the_lemmas}
 use Rattle.rb_code.specs.declared.code.Code.TheVariants as is
 use Rattle.rb_code.specs.declared.code.CodePiece.{CodePiece}
 use Rattle.rb_code.specs.declared.code.CodePiece.TheVariants as part
-use Rattle.rb_code.specs.declared.code.CodeBlock.{CodeBlock, out-CodeBlock}
+use Rattle.rb_code.specs.declared.code.CodeBlock.{CodeBlock}
 use Rattle.rb_code.specs.Erase.{erase, erase_piece, erase_block}
 
 pub erase-nil : (at : Span) → erase (is.Nil at) ≡ tree.Nil at

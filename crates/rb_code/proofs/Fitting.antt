@@ -1,22 +1,18 @@
 -- One layer of where code is right.
-use Rattle.std.proofs.Common.{◌≡◌, ℕ, List, [], ◌∷◌, map, Option, Some, None, refl, ap, ◌∙◌, sym, rules}
+use Rattle.std.proofs.Common.{◌≡◌, ℕ, List, map, Option, rules}
 use Rattle.std.specs.Prelude.{ℤ}
 use Rattle.std.specs.Option.{option_map}
 use Rattle.rb_tree.specs.declared.span.Span.{Span}
 use Rattle.rb_tree.specs.declared.span.NameId.{NameId}
 use Rattle.rb_tree.specs.declared.node.AssignOp.{AssignOp}
-use Rattle.rb_tree.specs.declared.node.Node.{Node}
-use Rattle.rb_tree.specs.declared.node.Node.TheVariants as tree
-use Rattle.rb_tree.specs.declared.node.Piece.TheVariants as piece
-use Rattle.rb_tree.specs.declared.node.Target.TheVariants as target
 use Rattle.rb_builtin.specs.declared.builtin.Builtin.{Builtin}
 use Rattle.rb_render.specs.declared.show.Form.{Form}
 use Rattle.rb_code.specs.declared.code.Code.{Code, the_lemmas}
 use Rattle.rb_code.specs.declared.code.Code.TheVariants as is
 use Rattle.rb_code.specs.declared.code.CodePiece.{CodePiece}
 use Rattle.rb_code.specs.declared.code.CodePiece.TheVariants as part
-use Rattle.rb_code.specs.declared.code.CodeBlock.{CodeBlock, out-CodeBlock}
-use Rattle.std.specs.Prelude.{◌&&◌, Bool, true, is_none, length}
+use Rattle.rb_code.specs.declared.code.CodeBlock.{CodeBlock}
+use Rattle.std.specs.Prelude.{◌&&◌, true, is_none, length}
 use Rattle.std.specs.Str.{bytes_eq}
 use Rattle.rb_machine.specs.Scopes.{Script, text_of}
 use Rattle.rb_code.specs.Layout.{has_slot, is_at}

@@ -1,14 +1,12 @@
 -- One layer of the node that code stands for.
-use Rattle.std.proofs.Common.{◌≡◌, ℕ, List, [], ◌∷◌, map, Option, Some, None, refl, ap, ◌∙◌, sym, rules}
+use Rattle.std.proofs.Common.{◌≡◌, ℕ, List, [], ◌∷◌, map, Option, Some, None, ap, ◌∙◌, rules}
 use Rattle.std.specs.Prelude.{ℤ}
 use Rattle.std.specs.Option.{option_map}
 use Rattle.rb_tree.specs.declared.span.Span.{Span}
 use Rattle.rb_tree.specs.declared.span.NameId.{NameId}
 use Rattle.rb_tree.specs.declared.node.AssignOp.{AssignOp}
-use Rattle.rb_tree.specs.declared.node.Node.{Node, out-Node}
-use Rattle.rb_tree.specs.declared.node.Node.TheVariants as tree
+use Rattle.rb_tree.specs.declared.node.Node.{out-Node}
 use Rattle.rb_tree.specs.declared.node.Node.TheOpen as node
-use Rattle.rb_tree.specs.declared.node.Piece.TheVariants as piece
 use Rattle.rb_tree.specs.declared.node.Target.TheVariants as target
 use Rattle.rb_builtin.specs.declared.builtin.Builtin.{Builtin}
 use Rattle.rb_render.specs.declared.show.Form.{Form}
@@ -16,8 +14,7 @@ use Rattle.rb_tree.specs.declared.node.Node.{the_lemmas}
 use Rattle.rb_code.specs.declared.code.Code.{Code}
 use Rattle.rb_code.specs.declared.code.Code.TheVariants as is
 use Rattle.rb_code.specs.declared.code.CodePiece.{CodePiece}
-use Rattle.rb_code.specs.declared.code.CodePiece.TheVariants as part
-use Rattle.rb_code.specs.declared.code.CodeBlock.{CodeBlock, out-CodeBlock}
+use Rattle.rb_code.specs.declared.code.CodeBlock.{CodeBlock}
 use Rattle.rb_code.specs.Erase.{erase, erase_piece, erase_block}
 use Rattle.rb_code.proofs.Erasing.{erase-nil, erase-false, erase-true, erase-int, erase-sym, erase-str, erase-local, erase-set_local, erase-update_local, erase-update_element, erase-update_attribute, erase-store, erase-operate, erase-send, erase-walk, erase-function, erase-print, erase-and, erase-or, erase-not, erase-if, erase-while, erase-return, erase-break, erase-next}
 

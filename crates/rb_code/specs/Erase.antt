@@ -1,5 +1,5 @@
 -- The syntax tree that a resolved tree stands for.
-use Rattle.std.specs.Prelude.{List, [], ◌∷◌, Option, Some, None, map}
+use Rattle.std.specs.Prelude.{[], ◌∷◌, Some, None, map}
 use Rattle.rb_tree.specs.declared.node.Node.{Node}
 use Rattle.rb_tree.specs.declared.node.Node.TheVariants as tree
 use Rattle.rb_tree.specs.declared.node.Piece.{Piece}

@@ -1,5 +1,5 @@
 -- Where the numbers of a resolved tree are right for a script.
-use Rattle.std.specs.Prelude.{ℕ, suc, ◌+◌, Bool, true, false, ◌&&◌, ◌||◌, not, ◌==◌, nat_lt, nat_le, is_none, List, [], ◌∷◌, ◌++◌, length, map, position, Option, Some, None, codes}
+use Rattle.std.specs.Prelude.{ℕ, ◌+◌, Bool, true, ◌&&◌, ◌==◌, nat_le, is_none, List, [], ◌∷◌, ◌++◌, length, map, position, Option, Some, None, codes}
 use Rattle.std.specs.List.{list_all}
 use Rattle.std.specs.Str.{bytes_eq}
 use Rattle.rb_tree.specs.declared.span.NameId.{NameId}
@@ -17,7 +17,7 @@ use Rattle.rb_code.specs.declared.code.Code.TheOpen as code
 use Rattle.rb_code.specs.declared.scripted.CodeMethod.{CodeMethod}
 use Rattle.rb_code.specs.declared.scripted.CodeScript.{CodeScript}
 use Rattle.rb_code.specs.Layout.{is_at, has_slot}
-use Rattle.rb_code.specs.Erase.{erase, erase_method}
+use Rattle.rb_code.specs.Erase.{erase_method}
 
 -- whether code is right where these names are in scope, in a frame of this size
 abbrev pub Fits : Type 0

@@ -12,10 +12,11 @@ use Rattle.rb_model.specs.Log.{Log}
 use Rattle.rb_model.specs.Private.{Private}
 use Rattle.rb_machine.specs.Scopes.{Script}
 use Rattle.rb_machine.specs.Control.{State, Cont, On, Eval, Give}
-use Rattle.rb_machine.specs.Methods.{Answer, Gives, Raises, Loops}
+use Rattle.rb_machine.specs.Methods.{Answer, Gives, Raises, Loops, deed}
 use Rattle.rb_machine.specs.Follows.{At}
 use Rattle.rb_builtin.specs.declared.builtin.Builtin.{Builtin}
 use Rattle.rb_builtin.specs.declared.builtin.Builtin.TheVariants as builtin
+use Rattle.rb_builtin.specs.Names.{builtin_of}
 use Rattle.rb_render.specs.declared.show.Form.{Form}
 use Rattle.rb_render.specs.declared.show.Form.TheVariants as form
 use Rattle.rb_code.specs.declared.code.Code.{Code}
@@ -45,6 +46,12 @@ IsSmall code room n =
     (S : Script) (N : ℕ) (names : List NameId) (size depth left : ℕ) (start : State) (h : Private) (log : Log) (k : List Cont) (me : Val)
     → fits S code names size ≡ true → length names ≤ length room → 0 < left → depth < 1000
     → At S 0 N start log h (On (Eval (erase code)) k (scope_of me names room) depth left) → At S 0 N start log h (On (Give (Int n)) k (scope_of me names room) depth (left - 1))
+
+-- an operation over two leaves gives this answer in two steps, which leave the scope as it is
+abbrev pub IsQuick : Option Builtin → (left right : Code) → List Held → Answer → Type 0
+IsQuick method left right room answer =
+    (m : ℤ) × (n : ℤ) × IsSmall left room m × IsSmall right room n
+    × ((texts : List (List ℕ)) (name : List ℕ) → builtin_of name ≡ method → deed texts (Int m) name (Int n ∷ []) None ≡ answer)
 
 -- the built-in method of an assignment's operator; none for the two that decide
 abbrev pub method_of : AssignOp → Option Builtin

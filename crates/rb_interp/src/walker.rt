@@ -20,11 +20,11 @@ ghost use Rattle.rb_code.specs.Erase.{erase, erase_block, erase_piece};
 ghost use Rattle.rb_code.specs.Resolved.{fits, block_fits, piece_fits, every, form_takes};
 ghost use Rattle.rb_interp.specs.Outcome.{is_left, value_of, outcome, Gave, Over};
 ghost use Rattle.rb_interp.specs.Carries.{Carries, Keeps, Passes, Shows, both, at_slot, numbered, called, printing, goes_on, loop_exit, call_exit};
-ghost use Rattle.rb_interp.specs.Answers.{OrMemory, Writes, outcome_of, IsSmall, method_of, shown_value, only_value};
+ghost use Rattle.rb_interp.specs.Answers.{OrMemory, Writes, outcome_of, IsSmall, IsQuick, method_of, shown_value, only_value};
 
 use crate::came::{Came, Leave, is_left};
 use crate::slots::{clear, start_block};
-use rb_builtin::{Builtin, Deed, IntegerAnswer, Loop, deed_of, integer_operation};
+use rb_builtin::{Builtin, Deed, IntegerAnswer, Loop, deed_of, integer_operation, is_operation};
 use rb_code::{Code, CodeBlock, CodePiece, CodeScript};
 use rb_model::{Answer, Call, End, Fault, OneStore, SharedText, Value};
 use rb_render::{Form, MAX_BYTES, RenderFault, add_shown, render};
@@ -117,6 +117,44 @@ fn small(code: &Code, room: &[Value]) -> Option<i64>
         },
         _ => None,
     }
+}
+
+/// What an operation on two integers gives, where this is one.
+fn operation_by(method: Option<Builtin>, m: i64, n: i64) -> Option<IntegerAnswer>
+    ensures { IfSome result (λ answer. (texts : List (List ℕ)) (name : List ℕ) → builtin_of name ≡ method → deed texts (Int m) name (Int n ∷ []) None ≡ integers.answer_of answer) }
+{
+    let method = method?;
+    if !is_operation(method) {
+        return None;
+    }
+    Some(integer_operation(method, m, n))
+}
+
+/// What an operation on two values gives, where they are integers and this is one.
+fn operation_on(method: Option<Builtin>, receiver: &Value, arg: &Value) -> Option<IntegerAnswer>
+    ensures { IfSome result (λ answer. (texts : List (List ℕ)) (name : List ℕ) → builtin_of name ≡ method → deed texts (plain receiver.now) name (plain arg.now ∷ []) None ≡ integers.answer_of answer) }
+{
+    let Value::Int(m) = receiver else {
+        return None;
+    };
+    let Value::Int(n) = arg else {
+        return None;
+    };
+    operation_by(method, *m, *n)
+}
+
+/// What an operation over two leaves gives, where they are integers and this is one.
+fn quick(
+    method: Option<Builtin>,
+    left: &Code,
+    right: &Code,
+    room: &[Value],
+) -> Option<IntegerAnswer>
+    ensures { IfSome result (λ answer. IsQuick method left.now right.now room.now (integers.answer_of answer)) }
+{
+    let m = small(left, room)?;
+    let n = small(right, room)?;
+    operation_by(method, m, n)
 }
 
 /// The built-in method of an assignment's operator; none for the two that decide.
@@ -566,11 +604,13 @@ impl<'p, O: OneStore + Drop> Walker<'p, O> {
         ensures context { self.new.context ≡ self.old.context }
         ensures store { self.new.store ≡ self.old.store }
     {
-        if let (Some(method), Value::Int(m), Value::Int(n)) = (method, receiver, &arg) {
-            return self.answer(integer_operation(method, *m, *n), at);
+        match operation_on(method, receiver, &arg) {
+            Some(answer) => self.answer(answer, at),
+            None => {
+                let args = [arg];
+                self.call_method(receiver, method, args.as_slice(), at)
+            }
         }
-        let args = [arg];
-        self.call_method(receiver, method, args.as_slice(), at)
     }
 
     /// An assignment with an operator to an element: no value that there is yet has elements.
@@ -655,13 +695,9 @@ impl<'p, O: OneStore + Drop> Walker<'p, O> {
         ensures came { (name : NameId) → Carries self.old.context.script.now self.old.context.names.now self.old.context.steps (numbered method name (both (λ S. fits S left.now) (λ S. fits S right.now))) (λ S k sc d n. On (Eval (erase left.now)) (Then (ReceiverOf (text_of S name) (erase right.now ∷ []) None at) ∷ k) sc d n) self.old.base depth self.old.left self.new.left room.old room.new (O.log self.old.store) (O.log self.new.store) (outcome result self.new.value self.new.leave) }
     {
         if self.left > 1 && depth < MAX_DEPTH {
-            if let (Some(method), Some(m), Some(n)) = (
-                method,
-                small(left, room),
-                small(right, room),
-            ) {
+            if let Some(answer) = quick(method, left, right, room) {
                 self.left -= 2;
-                return self.answer(integer_operation(method, m, n), at);
+                return self.answer(answer, at);
             }
         }
         let came = self.walk(left, depth, room);

@@ -1,5 +1,5 @@
 -- What is asked of a thing, and what it answers.
-use Rattle.std.specs.Prelude.{ℕ, ℤ, List, [], ◌∷◌}
+use Rattle.std.specs.Prelude.{ℤ, List, [], ◌∷◌}
 use Rattle.rb_tree.specs.declared.span.NameId.{NameId}
 use Rattle.rb_model.specs.declared.fault.Fault.{Fault}
 use Rattle.rb_model.specs.Values.{Value as Val}

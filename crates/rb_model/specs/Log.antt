@@ -1,5 +1,5 @@
 -- What a thread asked of what is shared, and what it was answered.
-use Rattle.std.specs.Prelude.{◌≡◌, ℕ, Bool, true, false, ◌||◌, List, [], ◌∷◌, ◌++◌, length, ⊤}
+use Rattle.std.specs.Prelude.{◌≡◌, ℕ, Bool, true, false, ◌||◌, List, [], ◌∷◌, ◌++◌, length}
 use Rattle.std.specs.List.{flat_map}
 use Rattle.rb_model.specs.declared.call.Call.{Call as Held}
 use Rattle.rb_model.specs.declared.call.Call.TheVariants as held

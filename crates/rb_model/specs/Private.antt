@@ -1,7 +1,6 @@
 -- The private store of a thread, and what leaves it where references get into the shared store.
 use Rattle.std.specs.Prelude.{◌≡◌, ℕ, ◌==◌, if◌then◌else◌, List, [], ◌∷◌, ◌++◌, length, set, Option, Some, None, slice_get}
 use Rattle.rb_model.specs.declared.value.Id.{Id}
-use Rattle.rb_model.specs.declared.value.Sort.{Sort}
 use Rattle.rb_model.specs.Values.{Value as Val, To, Reference}
 use Rattle.rb_model.specs.Things.{Thing, mentioned}
 

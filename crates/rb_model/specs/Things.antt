@@ -1,9 +1,9 @@
 -- Things, and the plain step on one thing, which private and shared things have in common.
-use Rattle.std.specs.Prelude.{ℕ, suc, ◌+◌, ◌-◌, ℤ, pos, negsuc, ◌+ℤ◌, Bool, true, false, ◌==◌, ◌||◌, ◌&&◌, nat_lt, nat_le, not, if◌then◌else◌, List, [], ◌∷◌, ◌++◌, length, map, take, drop, replicate, slice_get, slice_set, remove, reverse, Option, Some, None}
+use Rattle.std.specs.Prelude.{ℕ, suc, ◌-◌, ℤ, pos, negsuc, Bool, true, false, ◌==◌, ◌||◌, nat_lt, not, if◌then◌else◌, List, [], ◌∷◌, ◌++◌, length, map, take, drop, replicate, slice_get, slice_set, Option, Some, None}
 use Rattle.std.specs.List.{list_any, flat_map}
 use Rattle.rb_tree.specs.declared.span.NameId.{NameId}
 use Rattle.rb_model.specs.declared.fault.Fault.TheVariants.{IndexTooSmall, ArrayTooLong, NoMethod}
-use Rattle.rb_model.specs.Values.{Value as Val, Nil, Int, True, False, truth, same, or_nil}
+use Rattle.rb_model.specs.Values.{Value as Val, Nil, Int, truth, same, or_nil}
 use Rattle.rb_model.specs.Acts.{Act, GetField, SetField, At, Put, Push, Unshift, Pop, Shift, DeleteAt, KGet, KHas, KPut, KDelete, Clear, Len, Copy, Reply, Done}
 use Rattle.rb_model.specs.Acts as reply
 
