@@ -1278,10 +1278,11 @@ impl<'p, O: OneStore + Drop> Walker<'p, O> {
 
     /// Runs the top level of the script, in this row of slots, to its end entry.
     pub fn run(mut self, room: &mut [Value]) -> (O, End) {
-        let size = self.context.script.main_size as usize;
+        let script = self.context.script;
+        let size = script.main_size as usize;
         self.base = size;
         let came = if size <= room.len() {
-            self.body(self.context.script.main.as_slice(), 0, room)
+            self.body(script.main.as_slice(), 0, room)
         } else {
             self.over(End::Memory)
         };
