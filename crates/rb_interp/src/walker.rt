@@ -7,6 +7,7 @@ ghost use Rattle.rb_tree.specs.declared.span.NameId.{NameId};
 ghost use Rattle.rb_tree.specs.Place.{place};
 ghost use Rattle.rb_model.specs.Values.{Nil, Int, plain, truthy};
 ghost use Rattle.rb_model.specs.declared.value.Value.{Value as Held};
+ghost use Rattle.rb_model.specs.declared.value.Value.TheVariants as held;
 ghost use Rattle.rb_model.specs.Ends.{Raised, over};
 ghost use Rattle.rb_model.specs.Log.{has_end};
 ghost use Rattle.rb_machine.specs.Scopes.{text_of};
@@ -104,6 +105,16 @@ fn place_of(code: &Code) -> Span
     }
 }
 
+/// The integer in a slot.
+fn integer_at(room: &[Value], slot: u32) -> Option<i64>
+    ensures { IfSome result (λ n. slice_get room.now slot ≡ Some (held.Int n)) }
+{
+    match room.get(slot as usize)? {
+        Value::Int(n) => Some(*n),
+        _ => None,
+    }
+}
+
 /// An integer that a leaf has.
 #[tactic(none)]
 fn small(code: &Code, room: &[Value]) -> Option<i64>
@@ -111,10 +122,7 @@ fn small(code: &Code, room: &[Value]) -> Option<i64>
 {
     match code {
         Code::Int(n, _) => Some(*n),
-        Code::Local(slot, _, _) => match room.get(*slot as usize) {
-            Some(Value::Int(n)) => Some(*n),
-            _ => None,
-        },
+        Code::Local(slot, _, _) => integer_at(room, *slot),
         _ => None,
     }
 }
@@ -144,6 +152,7 @@ fn operation_on(method: Option<Builtin>, receiver: &Value, arg: &Value) -> Optio
 }
 
 /// What an operation over two leaves gives, where they are integers and this is one.
+#[tactic(none)]
 fn quick(
     method: Option<Builtin>,
     left: &Code,
