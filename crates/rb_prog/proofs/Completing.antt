@@ -22,7 +22,7 @@ ended ending.Memory sunk cause never = inr (inr refl)
 source_ends : (bytes : List ℕ) (program : Program) (sunk : Type 0) (old new : Option (List ℕ)) (status : ℕ) (front : Option (List Entry)) → Accepts bytes program → RunsSource bytes old new status front
     → (status ≡ 5 → sunk) → (sunk → ⊥) → (status ≡ 0) ⊎ (status ≡ 1) ⊎ (status ≡ 8)
 source_ends bytes program sunk old new _ _ a (shown {end} p r e) cause never = ended end sunk cause never
-source_ends bytes program sunk old new _ _ a (refused r n) cause never = absurd (r program a)
+source_ends bytes program sunk old new _ _ a (refused w r n) cause never = absurd (r program a)
 source_ends bytes program sunk old new _ _ a (run.RunsSource.out_of_memory n) cause never = inr (inr refl)
 
 -- a source that has tokens is short

@@ -9,3 +9,4 @@ pub mod Marks
 pub mod Keeps
 pub mod Walk
 pub mod Run
+pub mod Accepting

@@ -1,31 +1,25 @@
 // The top call.
 
-ghost use Rattle.std.specs.Prelude.{◌≡◌, ◌⊎◌, ◌≤◌, ◌↔◌, ℕ, List, [], true, false, Option, Some, None, IfOk, OnOk, Err, map, length, string_bytes};
+ghost use Rattle.std.specs.Prelude.{◌≡◌, ◌⊎◌, ◌≤◌, ℕ, List, [], Option, Some, None, IfOk, map, length, string_bytes};
 ghost use Rattle.std.specs.Option.{option_map};
 ghost use Rattle.std.specs.Borrow.{Bor};
 ghost use Rattle.std.specs.Process.{exit_status};
 ghost use Rattle.rb_tree.specs.declared.node.Program.{Program as Tree};
-ghost use Rattle.rb_lexer.specs.declared.fault.LexFault.TheVariants as Unread;
-ghost use Rattle.rb_prog.specs.Lines.{are_lines};
+ghost use Rattle.rb_command.specs.Words as asked;
 ghost use Rattle.rb_prog.specs.Edge.{Bytes, Adds, Rose};
 ghost use Rattle.rb_prog.specs.Run as spec;
-ghost use Rattle.rb_prog.specs.Run.{Accepts, IsRefused, RunsSource, Runs};
+ghost use Rattle.rb_prog.specs.Run.{Accepts, RunsSource, Runs};
 
-use crate::check::are_lines;
 use crate::edge::{Files, Gate, Sink};
 use crate::history::RunFront;
 use crate::model::End;
+use crate::source::{Unaccepted, accept};
 use crate::transfer::{ReadFault, read_source};
 use crate::walk::{Ran, run_main};
-use rb_lexer::{LexFault, lex};
-use rb_parser::{ParseFault, parse};
-use rb_tree::Program;
-use std::alloc::Global;
+use rb_command::{Command, command_of};
+use std::alloc::{AllocError, Global};
 use std::process::ExitCode;
 use std::sync::Arc;
-
-/// The statements of a program that are walked over at most.
-const MAX_STATEMENTS: usize = 2_097_153;
 
 /// What a run gives back: its status, the sink with all that was written, and the history of the run.
 /// There is no history where nothing was run: with the statuses 2, 3 and 4, and with 8 where no run could begin.
@@ -45,34 +39,13 @@ impl<K> Report<K> {
     }
 }
 
-/// Why a source has no program.
-#[derive(Clone, Copy, Debug, PartialEq, Eq)]
-enum Refusal {
-    Source,
-    Memory,
-}
-
-/// The path, where the words are `run FILE`.
-fn path_of(words: &[String]) -> Option<&str>
-    ensures { option_map (λ (b : Bor (List ℕ)). b.now) result ≡ spec.path_of (map string_bytes words.now) }
+/// The path of the script that the words name.
+fn path_of(alloc: Global, words: &[String]) -> Result<Option<&str>, AllocError>
+    ensures { IfOk result (λ found. option_map (λ (b : Bor (List ℕ)). b.now) found ≡ spec.path_of (map string_bytes words.now)) }
 {
-    let [command, path] = words else {
-        return None;
-    };
-    if command.as_str() == "run" && !is_option(path.as_bytes()) {
-        Some(path.as_str())
-    } else {
-        None
-    }
-}
-
-/// Whether a word begins with `-`.
-fn is_option(word: &[u8]) -> bool
-    ensures { result ≡ spec.is_option word.now }
-{
-    match word {
-        [] => false,
-        [first, ..] => *first == b'-',
+    match command_of(alloc, words)? {
+        Some(Command::Run(run)) => Ok(Some(run.file)),
+        None => Ok(None),
     }
 }
 
@@ -88,52 +61,6 @@ fn status_of(end: End) -> u8
     }
 }
 
-/// Why a source without tokens has no program.
-fn refusal_of(fault: LexFault) -> Refusal
-    ensures { (result ≡ Refusal.Memory) ↔ (fault ≡ Unread.Memory) }
-{
-    match fault {
-        LexFault::Memory => Refusal::Memory,
-        _ => Refusal::Source,
-    }
-}
-
-/// A program, where it is one of those that run. More statements than a source of at most 1 MiB can have are taken for want
-/// of memory.
-fn runnable(alloc: Global, program: Program) -> Result<Program, Refusal>
-    ensures same { IfOk result (λ found. found ≡ program) }
-    ensures lines { OnOk result (are_lines program ≡ true) }
-    ensures short { OnOk result (length program.main ≤ 2097153) }
-    ensures refused { result ≡ Err Refusal.Source → are_lines program ≡ false }
-{
-    if program.main.len() > MAX_STATEMENTS {
-        return Err(Refusal::Memory);
-    }
-    match are_lines(alloc, &program) {
-        Ok(true) => Ok(program),
-        Ok(false) => Err(Refusal::Source),
-        Err(_) => Err(Refusal::Memory),
-    }
-}
-
-/// The program of a source.
-fn accept(alloc: Global, source: &[u8]) -> Result<Program, Refusal>
-    ensures accepted { IfOk result (Accepts source.now) }
-    ensures short { IfOk result (λ program. length program.main ≤ 2097153) }
-    ensures refused { result ≡ Err Refusal.Source → IsRefused source.now }
-{
-    let tokens = match lex(alloc, source) {
-        Ok(tokens) => tokens,
-        Err(fault) => return Err(refusal_of(fault)),
-    };
-    match parse(alloc, tokens.as_slice()) {
-        Ok(program) => runnable(alloc, program),
-        Err(ParseFault::Memory) => Err(Refusal::Memory),
-        Err(ParseFault::Syntax(_)) => Err(Refusal::Source),
-        Err(ParseFault::TooNested(_)) => Err(Refusal::Source),
-    }
-}
-
 /// A source that was read, accepted and run.
 fn run_source<K: Sink>(alloc: Global, bytes: &[u8], mut out: K) -> Report<K>
     ensures runs { RunsSource bytes.now (K.told out) (K.told result.out) result.status result.front }
@@ -142,8 +69,8 @@ fn run_source<K: Sink>(alloc: Global, bytes: &[u8], mut out: K) -> Report<K>
 {
     let program = match accept(alloc, bytes) {
         Ok(program) => program,
-        Err(Refusal::Source) => return unrun(3, out),
-        Err(Refusal::Memory) => return unrun(8, out),
+        Err(Unaccepted::Refused(_)) => return unrun(3, out),
+        Err(Unaccepted::Memory) => return unrun(8, out),
     };
     let Some(ran) = run_main(alloc, &program, &mut out) else {
         return unrun(8, out);
@@ -204,9 +131,11 @@ pub fn run<F: Files, K: Sink + Send, E: Sink, G: Gate + Send + Sync + Drop>(
     ensures runs { (path : List ℕ) → spec.path_of (map string_bytes words.now) ≡ Some path
         → Runs (F.held files.old path) (Rose (F.faults files.old) (F.faults files.new)) (K.told out) (K.told result.out) result.status result.front }
 
-    // Status 2 comes exactly where the words are not the program's, and then nothing is done.
-    ensures usage { (result.status ≡ 2) ↔ (spec.path_of (map string_bytes words.now) ≡ None) }
-    ensures idle { spec.path_of (map string_bytes words.now) ≡ None → (result.out ≡ out) × (result.front ≡ None) × (files.new ≡ files.old) }
+    // Status 2 comes only where the words are not the program's. Where they are not, it comes, or memory is wanted, and nothing is
+    // done.
+    ensures usage { result.status ≡ 2 → asked.command_of (map string_bytes words.now) ≡ None }
+    ensures unusable { asked.command_of (map string_bytes words.now) ≡ None → (result.status ≡ 2) ⊎ (result.status ≡ 8) }
+    ensures idle { asked.command_of (map string_bytes words.now) ≡ None → (result.out ≡ out) × (result.front ≡ None) × (files.new ≡ files.old) }
 
     // Status 5 comes only where the count of the sink's faults rose.
     ensures cause { result.status ≡ 5 → Rose (K.faults out) (K.faults result.out) }
@@ -225,7 +154,11 @@ pub fn run<F: Files, K: Sink + Send, E: Sink, G: Gate + Send + Sync + Drop>(
 {
     let _ = err;
     let _ = gate;
-    match path_of(words) {
+    let found = match path_of(alloc, words) {
+        Ok(found) => found,
+        Err(_) => return unrun(8, out),
+    };
+    match found {
         Some(path) => run_path(alloc, path, files, out),
         None => unrun(2, out),
     }
