@@ -1,5 +1,5 @@
 -- From what is answered to a program to what is answered to its source.
-use Rattle.std.proofs.Common.{◌≡◌, ℕ, List, Option, Some, Result, Ok, Err, sym, ap, refl, subst}
+use Rattle.std.proofs.Common.{◌≡◌, ℕ, List, [], Option, Some, None, Result, Ok, Err, sym, ap, refl, subst}
 use Rattle.rb_tree.specs.declared.node.Program.{Program}
 use Rattle.rb_lexer.specs.declared.token.Token.{Token}
 use Rattle.rb_lexer.specs.declared.fault.LexFault.{LexFault}
@@ -18,9 +18,12 @@ use Rattle.rb_prog.specs.declared.refusal.Refusal.{Refusal}
 use Rattle.rb_prog.specs.declared.refusal.Refusal.TheVariants as refusal
 use Rattle.rb_prog.specs.declared.source.Unaccepted.{Unaccepted}
 use Rattle.rb_prog.specs.declared.source.Unaccepted.TheVariants as unaccepted
-use Rattle.rb_prog.specs.Accepting.{Keeps_out, IsRunnable, Judges, AcceptsOf}
+use Rattle.rb_prog.specs.Edge.{Adds}
+use Rattle.rb_prog.specs.Accepting.{Keeps_out, IsRunnable, Judges, AcceptsOf, rejected_status, rejected_line}
 use Rattle.rb_prog.specs.Accepting as spec
-use Rattle.rb_prog.specs.Run.{Accepts, RefusedBy, unread, syntax, too_nested, broken, not_built}
+use Rattle.rb_prog.specs.Run as run
+use Rattle.rb_prog.specs.Run.{Accepts, RefusedBy, unread, syntax, too_nested, broken, not_built, RunsSource}
+use Rattle.rb_prog.proofs.Refusing.{is_refused}
 
 -- a program that its tokens spell
 pub judged : (source : List ℕ) (tokens : List Token) (program : Program) (result : Result Program Unaccepted) → Lexes source (Ok tokens) → IsProgram max_height max_levels tokens program
@@ -58,3 +61,9 @@ pub breaks : (program : Program) (fault : CheckError) (why : Unaccepted) → ((f
     → why ≡ spec.broken fault → Judges program (Err why)
 breaks program (error.Fault f) why b e = subst (λ w. Judges program (Err w)) (sym e) (b f refl)
 breaks program error.Memory why b e = subst (λ w. Judges program (Err w)) (sym e) tt
+
+-- what a source that is not accepted comes to
+pub not_run : (source : List ℕ) (why : Unaccepted) (old new : Option (List ℕ)) → AcceptsOf source (Err why) → Adds old new []
+    → RunsSource source old new (rejected_status why) None (rejected_line source why)
+not_run source (unaccepted.Refused why) old new r a = run.refused r (is_refused source why r) a
+not_run source unaccepted.Memory old new r a = run.RunsSource.out_of_memory a

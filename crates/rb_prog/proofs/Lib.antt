@@ -7,4 +7,5 @@ pub mod Refusing
 pub mod Runnable
 pub mod Judging
 pub mod Wording
+pub mod Telling
 pub mod Completing

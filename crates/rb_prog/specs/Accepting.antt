@@ -14,6 +14,7 @@ use Rattle.rb_prog.specs.declared.refusal.Refusal.TheVariants as refusal
 use Rattle.rb_prog.specs.declared.source.Unaccepted.{Unaccepted}
 use Rattle.rb_prog.specs.declared.source.Unaccepted.TheVariants as unaccepted
 use Rattle.rb_prog.specs.Lines.{first_unbuilt}
+use Rattle.rb_prog.specs.Remarks.{refusal_line, memory_line}
 use Rattle.rb_prog.specs.Run.{Accepts, RefusedBy}
 
 -- want of memory is no refusal
@@ -53,3 +54,12 @@ abbrev pub AcceptsOf : List ℕ → Result Program Unaccepted → Type 0
 AcceptsOf source (Ok program) = Accepts source program × (length program.main ≤ 2097153)
 AcceptsOf source (Err (unaccepted.Refused why)) = RefusedBy source why
 AcceptsOf source (Err unaccepted.Memory) = Unit {0}
+
+-- the status of a source that is not accepted, and the line that says why
+abbrev pub rejected_status : Unaccepted → ℕ
+rejected_status (unaccepted.Refused why) = 3
+rejected_status unaccepted.Memory = 8
+
+abbrev pub rejected_line : List ℕ → Unaccepted → List ℕ
+rejected_line source (unaccepted.Refused why) = refusal_line source why
+rejected_line source unaccepted.Memory = memory_line

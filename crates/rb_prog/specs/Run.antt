@@ -20,6 +20,7 @@ use Rattle.rb_prog.specs.declared.model.End.TheVariants as ending
 use Rattle.rb_prog.specs.declared.refusal.Refusal.{Refusal}
 use Rattle.rb_prog.specs.declared.refusal.Refusal.TheVariants as refusal
 use Rattle.rb_prog.specs.Lines.{first_unbuilt}
+use Rattle.rb_prog.specs.Remarks.{refusal_line, end_line, memory_line, missing_line, failed_line}
 use Rattle.rb_prog.specs.Meaning.{meaning}
 use Rattle.rb_prog.specs.History.{IsRun, Written, end_of}
 
@@ -72,17 +73,19 @@ pub record IsRunOf (program : Program) (old new : Option (List ℕ)) (entries : 
   pub run : IsRun whole entries refused
   pub written : Written old new entries refused
 
--- What a run of a source answers, by what the sink told before and tells now, the status and the history that is shown.
-pub data RunsSource (source : List ℕ) (old new : Option (List ℕ)) : ℕ → Option (List Entry) → Type 0 where
+-- What a run of a source answers, by what the sink told before and tells now: the status, the history that is shown, and the line that
+-- goes to standard error.
+pub data RunsSource (source : List ℕ) (old new : Option (List ℕ)) : ℕ → Option (List Entry) → List ℕ → Type 0 where
   -- the source is a program, and the history is a run of it
   shown : {program : Program} {entries : List Entry} {end : End} → Accepts source program → IsRunOf program old new entries → end_of entries ≡ Some end
-      → RunsSource source old new (status_of end) (Some entries)
-  refused : {why : Refusal} → RefusedBy source why → IsRefused source → Adds old new [] → RunsSource source old new 3 None
-  out_of_memory : Adds old new [] → RunsSource source old new 8 None
+      → RunsSource source old new (status_of end) (Some entries) (end_line source end)
+  refused : {why : Refusal} → RefusedBy source why → IsRefused source → Adds old new [] → RunsSource source old new 3 None (refusal_line source why)
+  out_of_memory : Adds old new [] → RunsSource source old new 8 None memory_line
 
 -- What a run of a path answers, by what is held under it and whether a read failed.
-pub data Runs (held : Held) (read_failed : Type 0) (old new : Option (List ℕ)) : ℕ → Option (List Entry) → Type 0 where
-  read : {bytes : List ℕ} {status : ℕ} {front : Option (List Entry)} → ReadOf held bytes → RunsSource bytes old new status front → Runs held read_failed old new status front
-  missing : NotHeld held → Adds old new [] → Runs held read_failed old new 4 None
-  failed : read_failed → Adds old new [] → Runs held read_failed old new 4 None
-  out_of_memory : Adds old new [] → Runs held read_failed old new 8 None
+pub data Runs (held : Held) (read_failed : Type 0) (old new : Option (List ℕ)) : ℕ → Option (List Entry) → List ℕ → Type 0 where
+  read : {bytes : List ℕ} {status : ℕ} {front : Option (List Entry)} {line : List ℕ} → ReadOf held bytes → RunsSource bytes old new status front line
+      → Runs held read_failed old new status front line
+  missing : NotHeld held → Adds old new [] → Runs held read_failed old new 4 None missing_line
+  failed : read_failed → Adds old new [] → Runs held read_failed old new 4 None failed_line
+  out_of_memory : Adds old new [] → Runs held read_failed old new 8 None memory_line

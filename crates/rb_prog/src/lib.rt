@@ -9,6 +9,7 @@ mod lines;
 mod locals;
 pub mod model;
 mod refusal;
+mod remarks;
 mod source;
 #[cfg(test)]
 mod tests;

@@ -6,7 +6,7 @@ use Rattle.rb_prog.proofs.Completing.{complete}
 use Rattle.rb_prog.proofs.top.run.Goals as goal
 
 pub returns-in-Err-clause-runs : goal.returns-in-Err-clause-runs
-returns-in-Err-clause-runs g c = λ path w. rw c.unrun.ensures (spec.Runs.out_of_memory (adds_none (g.K.Sink.told c.args.out)))
+returns-in-Err-clause-runs g c = λ path w. rw c.stopped.ensures.report (_, spec.Runs.out_of_memory (adds_none (g.K.Sink.told c.args.out)), c.stopped.ensures.told)
 
 pub returns-in-Some-clause-runs : goal.returns-in-Some-clause-runs
 returns-in-Some-clause-runs g c = λ path w.
@@ -16,7 +16,7 @@ returns-in-Some-clause-runs g c = λ path w.
 pub returns-in-Some-clause-complete : goal.returns-in-Some-clause-complete
 returns-in-Some-clause-complete g c = λ path bytes program w h a calm never.
     let e : c.in-Some.path.now ≡ path = same_path c.in-Ok.found c.in-Some.path _ path c.in-Ok.ensures c.in-Some.is w in
-    complete (g.F.Files.held c.args.files.now c.in-Some.path.now) bytes program _ _ _ _ _ _ c.run_path.ensures.runs
+    complete (g.F.Files.held c.args.files.now c.in-Some.path.now) bytes program _ _ _ _ _ _ _ c.run_path.ensures.runs.1
     (ap (g.F.Files.held c.args.files.now) e ∙ h) a calm c.run_path.ensures.cause never
 
 pub returns-in-Some-clause-unusable : goal.returns-in-Some-clause-unusable
