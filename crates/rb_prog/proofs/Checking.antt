@@ -1,6 +1,6 @@
 -- Line by line through a check.
 use Rattle.std.proofs.Common.{◌≡◌, ℕ, zero, suc, ◌+◌, ◌<◌, ◌≤◌, Bool, true, false, cond, List, [], ◌∷◌, Option, Some, None, length, drop, get_or, refl, sym, ap, ◌∙◌, arith, replicate}
-use Rattle.std.specs.Prelude.{◌==◌, ◌||◌, ◌&&◌, is_some, slice_get, slice_set}
+use Rattle.std.specs.Prelude.{◌==◌, ◌||◌, is_some, slice_get, slice_set}
 use Rattle.std.proofs.lemmas.Bool.Decides.{nat_tests}
 use Rattle.std.proofs.lemmas.List.{drop_all}
 use Rattle.std.proofs.lemmas.Option.{slice_get_within}

@@ -2,12 +2,11 @@
 use Rattle.std.proofs.Common.{◌≡◌, ℕ, List, Option, Some, None, Ok, Err, sym, ap, ◌∙◌, subst}
 use Rattle.rb_tree.specs.declared.node.Program.{Program}
 use Rattle.rb_lexer.specs.declared.token.Token.{Token}
-use Rattle.rb_lexer.specs.Tokens.{Lexes, Outcome}
+use Rattle.rb_lexer.specs.Tokens.{Lexes}
 use Rattle.rb_lexer.proofs.Unique.{lexes-unique}
 use Rattle.rb_grammar.specs.Script.{IsScript, BeginsNone}
 use Rattle.rb_grammar.specs.Program.{IsProgram, max_height, max_levels}
 use Rattle.rb_grammar.proofs.Whole.{one_program}
-use Rattle.rb_parser.specs.Limits.{PassesLimits}
 use Rattle.rb_checker.specs.Check.{fault_of}
 use Rattle.rb_prog.specs.declared.refusal.Refusal.{Refusal}
 use Rattle.rb_prog.specs.Lines.{first_unbuilt}

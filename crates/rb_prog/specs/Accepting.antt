@@ -1,6 +1,5 @@
 -- How a source comes to a program that is run, or to its refusal.
-use Rattle.std.specs.Prelude.{◌≡◌, ℕ, ◌≤◌, List, length, Option, Some, None, Result, Ok, Err}
-use Rattle.rb_tree.specs.declared.span.Span.{Span}
+use Rattle.std.specs.Prelude.{◌≡◌, ℕ, ◌≤◌, List, length, Some, None, Result, Ok, Err}
 use Rattle.rb_tree.specs.declared.node.Program.{Program}
 use Rattle.rb_lexer.specs.declared.fault.LexFault.{LexFault}
 use Rattle.rb_lexer.specs.declared.fault.LexFault.TheVariants as lex

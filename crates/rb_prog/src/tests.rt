@@ -33,7 +33,7 @@ fn words(alloc: Global, texts: &[&str]) -> Result<Vec<String>, AllocError> {
 
 /// What a run gives back, and what it wrote to `err`.
 #[derive(Drop)]
-struct Ran {
+struct Outcome {
     report: Report<MemorySink>,
     err: MemorySink,
 }
@@ -45,13 +45,13 @@ fn ran_over(
     files: &mut MemoryFiles,
     failing: Vec<u64>,
     err_failing: Vec<u64>,
-) -> Result<Ran, Fail> {
+) -> Result<Outcome, Fail> {
     let words = words(alloc, texts)?;
     let out = MemorySink::new(alloc, failing, ROOM)?;
     let mut err = MemorySink::new(alloc, err_failing, ROOM)?;
     let gate = Arc::new(alloc, OpenGate {})?;
     let report = run(alloc, words.as_slice(), files, out, &mut err, gate);
-    Ok(Ran { report, err })
+    Ok(Outcome { report, err })
 }
 
 /// A run of words over files, with writes to `out` that fail at the listed numbers.
@@ -60,12 +60,12 @@ fn ran(
     texts: &[&str],
     files: &mut MemoryFiles,
     failing: Vec<u64>,
-) -> Result<Ran, Fail> {
+) -> Result<Outcome, Fail> {
     ran_over(alloc, texts, files, failing, Vec::new(alloc))
 }
 
 /// A run of a source with nothing that fails.
-fn ran_source(alloc: Global, source: &[u8]) -> Result<Ran, Fail> {
+fn ran_source(alloc: Global, source: &[u8]) -> Result<Outcome, Fail> {
     let mut files = script(alloc, source, Vec::new(alloc))?;
     ran(alloc, &["run", "a.rb"], &mut files, Vec::new(alloc))
 }
@@ -123,7 +123,7 @@ const SCRIPTS: [(&str, &str, u8); 42] = [
 #[test]
 fn scripts_have_their_output_and_status(rt: HostRuntime) -> Result<(), Fail> {
     for (source, output, status) in SCRIPTS {
-        let Ran { report, err } = ran_source(rt.alloc(), source.as_bytes())?;
+        let Outcome { report, err } = ran_source(rt.alloc(), source.as_bytes())?;
         assert_eq!(rt; report.status, status, "{source}");
         assert_eq!(rt; report.out.bytes(), output.as_bytes(), "{source}");
         assert_eq!(rt; report.front.is_some(), status < 2, "{source}");
@@ -149,7 +149,7 @@ fn words_other_than_those_of_a_run_are_status_2(rt: HostRuntime) -> Result<(), F
     ];
     for texts in all {
         let mut files = script(alloc, b"puts 1", Vec::new(alloc))?;
-        let Ran { report, err } = ran(alloc, texts, &mut files, Vec::new(alloc))?;
+        let Outcome { report, err } = ran(alloc, texts, &mut files, Vec::new(alloc))?;
         assert_eq!(rt; report.status, 2);
         assert!(rt; report.out.bytes().is_empty());
         assert_eq!(rt; err.bytes(), b"rbso: usage\n".as_slice());
@@ -167,7 +167,7 @@ fn options_may_stand_beside_the_file(rt: HostRuntime) -> Result<(), Fail> {
     ];
     for texts in all {
         let mut files = script(alloc, b"puts 1", Vec::new(alloc))?;
-        let Ran { report, err } = ran(alloc, texts, &mut files, Vec::new(alloc))?;
+        let Outcome { report, err } = ran(alloc, texts, &mut files, Vec::new(alloc))?;
         assert_eq!(rt; report.status, 0);
         assert_eq!(rt; report.out.bytes(), b"1\n".as_slice());
         assert!(rt; err.bytes().is_empty());
@@ -179,7 +179,7 @@ fn options_may_stand_beside_the_file(rt: HostRuntime) -> Result<(), Fail> {
 fn a_missing_file_and_a_failing_read_are_status_4(rt: HostRuntime) -> Result<(), Fail> {
     let alloc = rt.alloc();
     let mut files = script(alloc, b"puts 1", Vec::new(alloc))?;
-    let Ran { report, err } = ran(alloc, &["run", "none.rb"], &mut files, Vec::new(alloc))?;
+    let Outcome { report, err } = ran(alloc, &["run", "none.rb"], &mut files, Vec::new(alloc))?;
     assert_eq!(rt; report.status, 4);
     assert_eq!(rt; err.bytes(), b"rbso: source missing\n".as_slice());
     // The script is read in two calls, the second of which finds its end.
@@ -189,7 +189,7 @@ fn a_missing_file_and_a_failing_read_are_status_4(rt: HostRuntime) -> Result<(),
         (3, 0, ""),
     ] {
         let mut files = script(alloc, b"puts 1", vec![in alloc; failing]?)?;
-        let Ran { report, err } = ran(alloc, &["run", "a.rb"], &mut files, Vec::new(alloc))?;
+        let Outcome { report, err } = ran(alloc, &["run", "a.rb"], &mut files, Vec::new(alloc))?;
         assert_eq!(rt; report.status, status);
         assert_eq!(rt; err.bytes(), line.as_bytes());
     }
@@ -208,7 +208,7 @@ fn a_failing_write_ends_the_run_behind_the_prints_before_it(rt: HostRuntime) -> 
     for (failing, output, status, line) in runs {
         let mut files = script(alloc, b"puts 1\nputs 2\nputs 3", Vec::new(alloc))?;
         let failing = vec![in alloc; failing]?;
-        let Ran { report, err } = ran(alloc, &["run", "a.rb"], &mut files, failing)?;
+        let Outcome { report, err } = ran(alloc, &["run", "a.rb"], &mut files, failing)?;
         assert_eq!(rt; report.status, status);
         assert_eq!(rt; report.out.bytes(), output.as_bytes());
         assert_eq!(rt; err.bytes(), line.as_bytes());
@@ -235,7 +235,7 @@ fn a_failing_write_to_err_cuts_the_line_alone(rt: HostRuntime) -> Result<(), Fai
     for (source, failing, output, status, line) in runs {
         let mut files = script(alloc, source.as_bytes(), Vec::new(alloc))?;
         let failing = vec![in alloc; failing]?;
-        let Ran { report, err } = ran_over(
+        let Outcome { report, err } = ran_over(
             alloc,
             &["run", "a.rb"],
             &mut files,
@@ -259,7 +259,7 @@ fn a_source_has_at_most_1048576_bytes(rt: HostRuntime) -> Result<(), Fail> {
         (1_100_000, 3, "rbso: refused 6 TooLarge\n"),
     ] {
         let source = vec![in alloc; b' '; size]?;
-        let Ran { report, err } = ran_source(alloc, source.as_slice())?;
+        let Outcome { report, err } = ran_source(alloc, source.as_slice())?;
         assert_eq!(rt; report.status, status);
         assert_eq!(rt; err.bytes(), line.as_bytes());
     }
@@ -283,7 +283,7 @@ const HISTORIES: [(&str, &[u64], End, u64); 4] = [
 fn a_history_has_each_print_and_the_end_with_their_steps(rt: HostRuntime) -> Result<(), Fail> {
     let alloc = rt.alloc();
     for (source, prints, end, last) in HISTORIES {
-        let Ran { report, .. } = ran_source(alloc, source.as_bytes())?;
+        let Outcome { report, .. } = ran_source(alloc, source.as_bytes())?;
         let front = report.front.expect(&rt, "a history");
         let mut steps = Vec::new(alloc);
         let mut ends = Vec::new(alloc);
@@ -317,7 +317,7 @@ fn long_script(alloc: Global, names: u32) -> Result<(String, String), AllocError
 fn a_script_of_thousands_of_lines_names_and_prints_runs(rt: HostRuntime) -> Result<(), Fail> {
     let alloc = rt.alloc();
     let (source, output) = long_script(alloc, 2000)?;
-    let Ran { report, .. } = ran_source(alloc, source.as_bytes())?;
+    let Outcome { report, .. } = ran_source(alloc, source.as_bytes())?;
     assert_eq!(rt; report.status, 0);
     assert!(rt; report.out.bytes() == output.as_bytes());
     let front = report.front.expect(&rt, "a history");

@@ -1,6 +1,6 @@
 // Each refusal and each fault, with its whole line on standard error.
 
-use super::{Ran, ran_source};
+use super::{Outcome, ran_source};
 use std::alloc::{AllocError, Global};
 use std::test::Fail;
 
@@ -73,7 +73,7 @@ fn refused(alloc: Global, said: &str) -> Result<String, AllocError> {
 #[test]
 fn each_refusal_has_its_line(rt: HostRuntime) -> Result<(), Fail> {
     for (source, said) in REFUSED {
-        let Ran { report, err } = ran_source(rt.alloc(), source)?;
+        let Outcome { report, err } = ran_source(rt.alloc(), source)?;
         let line = refused(rt.alloc(), said)?;
         assert_eq!(rt; report.status, 3, "{said}");
         assert_eq!(rt; err.bytes(), line.as_bytes(), "{said}");
@@ -102,7 +102,7 @@ fn more_than_64_open_brackets_are_too_nested(rt: HostRuntime) -> Result<(), Fail
         let opened = repeated(rt.alloc(), front, "(", 65)?;
         let mut source = repeated(rt.alloc(), opened.as_str(), "1", 1)?;
         source.push_str(repeated(rt.alloc(), "", ")", 65)?.as_str())?;
-        let Ran { err, .. } = ran_source(rt.alloc(), source.as_bytes())?;
+        let Outcome { err, .. } = ran_source(rt.alloc(), source.as_bytes())?;
         assert_eq!(rt;
             err.bytes(),
             refused(rt.alloc(), said)?.as_bytes(),
@@ -156,7 +156,7 @@ fn too_many_variables_and_classes_are_told_at_the_first_that_is_too_many(
         if beginning.starts_with("class") {
             source.push_str("end\nend\n")?;
         }
-        let Ran { err, .. } = ran_source(rt.alloc(), source.as_bytes())?;
+        let Outcome { err, .. } = ran_source(rt.alloc(), source.as_bytes())?;
         assert_eq!(rt;
             err.bytes(),
             refused(rt.alloc(), said)?.as_bytes(),
@@ -182,7 +182,7 @@ fn a_fault_has_its_line(rt: HostRuntime) -> Result<(), Fail> {
             "rbso: fault IntegerOverflow at 2:8\n",
         ),
     ] {
-        let Ran { report, err } = ran_source(rt.alloc(), source.as_bytes())?;
+        let Outcome { report, err } = ran_source(rt.alloc(), source.as_bytes())?;
         assert_eq!(rt; report.status, 1, "{source}");
         assert_eq!(rt; err.bytes(), line.as_bytes(), "{source}");
     }
