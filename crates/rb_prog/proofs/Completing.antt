@@ -19,11 +19,11 @@ ended (ending.Raised fault at) sunk cause never = inr (inl refl)
 ended ending.Sink sunk cause never = absurd (never (cause refl))
 ended ending.Memory sunk cause never = inr (inr refl)
 
-source_ends : (bytes : List ℕ) (program : Program) (sunk : Type 0) (old new : Option (List ℕ)) (status : ℕ) (front : Option (List Entry)) → Accepts bytes program → RunsSource bytes old new status front
+source_ends : (bytes : List ℕ) (program : Program) (sunk : Type 0) (old new : Option (List ℕ)) (status : ℕ) (front : Option (List Entry)) (line : List ℕ) → Accepts bytes program → RunsSource bytes old new status front line
     → (status ≡ 5 → sunk) → (sunk → ⊥) → (status ≡ 0) ⊎ (status ≡ 1) ⊎ (status ≡ 8)
-source_ends bytes program sunk old new _ _ a (shown {end} p r e) cause never = ended end sunk cause never
-source_ends bytes program sunk old new _ _ a (refused r n) cause never = absurd (r program a)
-source_ends bytes program sunk old new _ _ a (run.RunsSource.out_of_memory n) cause never = inr (inr refl)
+source_ends bytes program sunk old new _ _ _ a (shown {end} p r e) cause never = ended end sunk cause never
+source_ends bytes program sunk old new _ _ _ a (refused w r n) cause never = absurd (r program a)
+source_ends bytes program sunk old new _ _ _ a (run.RunsSource.out_of_memory n) cause never = inr (inr refl)
 
 -- a source that has tokens is short
 short_of_tokens : (held : List ℕ) (outcome : Outcome) (tokens : List Token) → Lexes held outcome → outcome ≡ Ok tokens → length held ≤ 1048576
@@ -35,11 +35,11 @@ short_of_tokens held _ tokens (lexer.Lexes.read l u r) e = l
 all_read : (held bytes : List ℕ) (program : Program) → Accepts held program → bytes ≡ take 1048577 held → bytes ≡ held
 all_read held bytes program a e = let l = short_of_tokens held (Ok a.tokens) a.tokens a.lexed refl in e ∙ take_all 1048577 held (omega arith)
 
-pub complete : (h : Held) (held : List ℕ) (program : Program) (read_failed sunk : Type 0) (old new : Option (List ℕ)) (status : ℕ) (front : Option (List Entry)) → Runs h read_failed old new status front
+pub complete : (h : Held) (held : List ℕ) (program : Program) (read_failed sunk : Type 0) (old new : Option (List ℕ)) (status : ℕ) (front : Option (List Entry)) (line : List ℕ) → Runs h read_failed old new status front line
     → h ≡ Bytes held → Accepts held program → (read_failed → ⊥) → (status ≡ 5 → sunk) → (sunk → ⊥) → (status ≡ 0) ⊎ (status ≡ 1) ⊎ (status ≡ 8)
-complete h held program read_failed sunk old new _ _ (read {bytes} {status} {front} r s) e a calm cause never =
+complete h held program read_failed sunk old new _ _ _ (read {bytes} {status} {front} {line} r s) e a calm cause never =
     let same : bytes ≡ held = all_read held bytes program a (subst (λ h. ReadOf h bytes) e r) in
-    source_ends held program sunk old new status front a (subst (λ b. RunsSource b old new status front) same s) cause never
-complete h held program read_failed sunk old new _ _ (missing m k) e a calm cause never = absurd (subst NotHeld e m)
-complete h held program read_failed sunk old new _ _ (failed f k) e a calm cause never = absurd (calm f)
-complete h held program read_failed sunk old new _ _ (run.Runs.out_of_memory k) e a calm cause never = inr (inr refl)
+    source_ends held program sunk old new status front line a (subst (λ b. RunsSource b old new status front line) same s) cause never
+complete h held program read_failed sunk old new _ _ _ (missing m k) e a calm cause never = absurd (subst NotHeld e m)
+complete h held program read_failed sunk old new _ _ _ (failed f k) e a calm cause never = absurd (calm f)
+complete h held program read_failed sunk old new _ _ _ (run.Runs.out_of_memory k) e a calm cause never = inr (inr refl)

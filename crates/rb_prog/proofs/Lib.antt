@@ -4,4 +4,8 @@ pub mod Histories
 pub mod Meant
 pub mod Checking
 pub mod Refusing
+pub mod Runnable
+pub mod Judging
+pub mod Wording
+pub mod Telling
 pub mod Completing

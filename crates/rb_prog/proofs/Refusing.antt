@@ -1,32 +1,39 @@
--- Why no program is accepted of a source.
-use Rattle.std.proofs.Common.{◌≡◌, ℕ, true, false, List, Ok, sym, ap, ◌∙◌, subst}
+-- No program is accepted of a source that is refused.
+use Rattle.std.proofs.Common.{◌≡◌, ℕ, List, Option, Some, None, Ok, Err, sym, ap, ◌∙◌, subst}
 use Rattle.rb_tree.specs.declared.node.Program.{Program}
 use Rattle.rb_lexer.specs.declared.token.Token.{Token}
+use Rattle.rb_lexer.specs.Tokens.{Lexes}
+use Rattle.rb_lexer.proofs.Unique.{lexes-unique}
 use Rattle.rb_grammar.specs.Script.{IsScript, BeginsNone}
 use Rattle.rb_grammar.specs.Program.{IsProgram, max_height, max_levels}
 use Rattle.rb_grammar.proofs.Whole.{one_program}
-use Rattle.rb_parser.specs.Limits.{PassesLimits}
-use Rattle.rb_prog.specs.Lines.{are_lines}
-use Rattle.rb_prog.specs.Run.{IsRefused}
-use Rattle.rb_lexer.specs.Tokens.{Lexes, Outcome}
+use Rattle.rb_checker.specs.Check.{fault_of}
+use Rattle.rb_prog.specs.declared.refusal.Refusal.{Refusal}
+use Rattle.rb_prog.specs.Lines.{first_unbuilt}
+use Rattle.rb_prog.specs.Run.{Accepts, RefusedBy, unread, syntax, too_nested, broken, not_built, IsRefused}
 
--- nothing is accepted of tokens that spell no program
-pub none_spelled : (source : List ℕ) (tokens : List Token) → ((o : Outcome) → Lexes source o → Ok tokens ≡ o)
-    → ((program : Program) → IsProgram max_height max_levels tokens program → are_lines program ≡ true → ⊥) → IsRefused source
-none_spelled source tokens one none program a =
-    let same : tokens ≡ a.tokens = let e : Ok tokens ≡ Ok a.tokens = one (Ok a.tokens) a.lexed in cc in
-    none program (subst (λ ts. IsProgram max_height max_levels ts program) (sym same) a.spelled) a.lines
-
-pub begins_no_program : (tokens : List Token) (at : ℕ) → BeginsNone tokens at → (program : Program) → IsProgram max_height max_levels tokens program → ⊥
+begins_no_program : (tokens : List Token) (at : ℕ) → BeginsNone tokens at → (program : Program) → IsProgram max_height max_levels tokens program → ⊥
 begins_no_program tokens at b program p = b.none max_height max_levels b.post p.found (subst (λ ts. IsScript max_height max_levels ts p.found) b.split p.script)
 
-pub passes_no_program : (tokens : List Token) (at : ℕ) → PassesLimits tokens at → (program : Program) → IsProgram max_height max_levels tokens program → ⊥
-passes_no_program tokens at l program p = l.none p.found p.script
+-- what is accepted of a source is spelled by its tokens
+spelled_by : (source : List ℕ) (tokens : List Token) (program : Program) → Lexes source (Ok tokens) → Accepts source program → IsProgram max_height max_levels tokens program
+spelled_by source tokens program l a =
+    let e : Ok tokens ≡ Ok a.tokens = lexes-unique l a.lexed in
+    let same : a.tokens ≡ tokens = cc in
+    subst (λ ts. IsProgram max_height max_levels ts program) same a.spelled
 
--- where the one program is not of lines, there is none of lines
-pub no_other_lines : (tokens : List Token) (found : Program) → IsProgram max_height max_levels tokens found → are_lines found ≡ false
-    → (program : Program) → IsProgram max_height max_levels tokens program → are_lines program ≡ true → ⊥
-no_other_lines tokens found p n program q l =
-    let same : found ≡ program = one_program max_height max_height max_levels max_levels tokens found program p q in
-    let clash : false ≡ true = sym n ∙ (ap are_lines same ∙ l) in
-    cc
+-- and is the one program that they spell
+one_accepted : (source : List ℕ) (tokens : List Token) (found program : Program) → Lexes source (Ok tokens) → IsProgram max_height max_levels tokens found → Accepts source program → found ≡ program
+one_accepted source tokens found program l p a = one_program max_height max_height max_levels max_levels tokens found program p (spelled_by source tokens program l a)
+
+some_none : {A : Type 0} (o : Option A) (a : A) → o ≡ Some a → o ≡ None → ⊥
+some_none o a h k = let e : Some a ≡ None = sym h ∙ k in cc
+
+pub is_refused : (source : List ℕ) (why : Refusal) → RefusedBy source why → IsRefused source
+is_refused source _ (unread {fault} l) = λ program a. let e : Err fault ≡ Ok a.tokens = lexes-unique l a.lexed in cc
+is_refused source _ (syntax {tokens} {at} l b) = λ program a. begins_no_program tokens at b program (spelled_by source tokens program l a)
+is_refused source _ (too_nested {tokens} {at} l p) = λ program a. let s = spelled_by source tokens program l a in p.none s.found s.script
+is_refused source _ (broken {tokens} {program} {fault} l p f) = λ other a.
+    some_none (fault_of program) fault f (ap fault_of (one_accepted source tokens program other l p a) ∙ a.checked)
+is_refused source _ (not_built {tokens} {program} {at} l p f n) = λ other a.
+    some_none (first_unbuilt program) at n (ap first_unbuilt (one_accepted source tokens program other l p a) ∙ a.built)

@@ -40,3 +40,7 @@ Adds (Some old) (Some new) bytes = new ≡ old ++ bytes
 abbrev pub Writes : Option (List ℕ) → Option (List ℕ) → List ℕ → Write → Type 0
 Writes old new bytes (write.Took n) = (n ≤ length bytes) × (0 < length bytes → 0 < n) × Adds old new (take n bytes)
 Writes old new bytes write.Failed = Adds old new []
+
+-- a line was handed to a sink: what it tells grew by the line, or by a front of it that is not the whole, and then its count of faults rose
+abbrev pub Told : (old new : Option (List ℕ)) → List ℕ → Type 0 → Type 0
+Told old new line rose = Adds old new line ⊎ (rose × (n : ℕ) × (n < length line) × Adds old new (take n line))

@@ -8,4 +8,7 @@ pub mod Lines
 pub mod Marks
 pub mod Keeps
 pub mod Walk
+pub mod Refusals
+pub mod Remarks
 pub mod Run
+pub mod Accepting

@@ -1,13 +1,18 @@
 -- The programs that run: those of integer lines alone. The rest of the language is parsed, and refused here until it is built.
-use Rattle.std.specs.Prelude.{ℕ, Bool, true, false, is_some, ◌&&◌, ◌||◌, ◌==◌, List, [], ◌∷◌, length, Option, Some, None, slice_get, codes}
-use Rattle.std.specs.List.{list_any}
+use Rattle.std.specs.Prelude.{ℕ, Bool, true, false, is_some, ◌&&◌, ◌||◌, ◌==◌, nat_lt, List, [], ◌∷◌, length, Option, Some, None, if◌then◌else◌, map, slice_get, codes}
+use Rattle.std.specs.List.{list_any, fold}
+use Rattle.std.specs.Option.{unwrap_or}
 use Rattle.std.specs.Str.{bytes_eq}
 use Rattle.rb_tree.specs.declared.span.NameId.{NameId}
+use Rattle.rb_tree.specs.declared.span.Span.{Span}
 use Rattle.rb_tree.specs.declared.node.Node.{Node, out-Node}
 use Rattle.rb_tree.specs.declared.node.Block.{Block}
 use Rattle.rb_tree.specs.declared.node.Node.TheOpen as node
 use Rattle.rb_tree.specs.declared.node.Program.{Program}
+use Rattle.rb_tree.specs.declared.node.Class.{Class}
+use Rattle.rb_tree.specs.declared.node.Method.{Method}
 use Rattle.rb_tree.specs.Layer.{NodeLayer}
+use Rattle.rb_tree.specs.Place.{place}
 
 -- whether a name is among those that earlier lines assigned, the newest first
 abbrev pub is_assigned : List NameId → NameId → Bool
@@ -72,3 +77,29 @@ is_empty items = length items == 0
 -- a program of lines alone, before which nothing is assigned
 abbrev pub are_lines : Program → Bool
 are_lines program = is_empty program.classes && (is_empty program.functions && (is_empty program.bodies && are_lines_behind program.names program.main []))
+
+-- the place of the first statement that is no line, where there is one
+abbrev pub first_other : List (List ℕ) → List Node → List NameId → Option Span
+first_other names [] = λ known. None
+first_other names (line ∷ lines) = λ known.
+    if is_line names known (out-Node line) then first_other names lines (assigned_behind known (out-Node line)) else Some (place (out-Node line))
+
+-- of two places the one that stands first
+abbrev pub earlier : Option Span → Option Span → Option Span
+earlier None other = other
+earlier (Some one) None = Some one
+earlier (Some one) (Some other) = if nat_lt other.from one.from then Some other else Some one
+
+-- of places the one that stands first
+abbrev pub earliest : List Span → Option Span
+earliest places = fold (λ found at. earlier found (Some at)) None places
+
+-- the start of a source
+abbrev pub start : Span
+start = record { from = 0; to = 0 }
+
+-- the place of what stands first of a program that is not run: a class, a method of the top level, a statement that is no line
+abbrev pub first_unbuilt : Program → Option Span
+first_unbuilt program = if are_lines program then None else
+    Some (unwrap_or (earlier (earlier (earliest (map (λ (c : Class). c.at) program.classes)) (earliest (map (λ (m : Method). m.at) program.functions)))
+    (first_other program.names program.main [])) start)

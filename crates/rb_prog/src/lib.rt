@@ -2,12 +2,15 @@
 #![tactic(auto)]
 
 mod assigned;
-mod check;
+mod built;
 pub mod edge;
 mod history;
 mod lines;
 mod locals;
 pub mod model;
+mod refusal;
+mod remarks;
+mod source;
 #[cfg(test)]
 mod tests;
 mod top;
@@ -15,4 +18,5 @@ mod transfer;
 mod walk;
 
 pub use history::RunFront;
+pub use refusal::Refusal;
 pub use top::{Report, run};

@@ -1,5 +1,7 @@
 // Whole runs over files and sinks in memory. The expected values are worked out by hand from the language.
 
+mod refusals;
+
 use crate::edge::{Gate, MemoryFiles, MemorySink, OpenGate};
 use crate::model::{Call, End, Fault, Reply, Value};
 use crate::{Report, run};
@@ -14,9 +16,9 @@ use std::test::Fail;
 const ROOM: usize = 16_384;
 
 /// The files that hold one script under `a.rb`.
-fn script(alloc: Global, source: &str, failing: Vec<u64>) -> Result<MemoryFiles, AllocError> {
+fn script(alloc: Global, source: &[u8], failing: Vec<u64>) -> Result<MemoryFiles, AllocError> {
     let path = Items::from_slice(alloc, b"a.rb")?;
-    let bytes: Text = Items::from_slice(alloc, source.as_bytes())?;
+    let bytes: Text = Items::from_slice(alloc, source)?;
     Ok(MemoryFiles::new(vec![in alloc; (path, bytes)]?, failing))
 }
 
@@ -29,18 +31,43 @@ fn words(alloc: Global, texts: &[&str]) -> Result<Vec<String>, AllocError> {
     Ok(all)
 }
 
-/// A run of words over files, with writes that fail at the listed numbers.
+/// What a run gives back, and what it wrote to `err`.
+#[derive(Drop)]
+struct Outcome {
+    report: Report<MemorySink>,
+    err: MemorySink,
+}
+
+/// A run of words over files, with writes to `out` and to `err` that fail at the listed numbers.
+fn ran_over(
+    alloc: Global,
+    texts: &[&str],
+    files: &mut MemoryFiles,
+    failing: Vec<u64>,
+    err_failing: Vec<u64>,
+) -> Result<Outcome, Fail> {
+    let words = words(alloc, texts)?;
+    let out = MemorySink::new(alloc, failing, ROOM)?;
+    let mut err = MemorySink::new(alloc, err_failing, ROOM)?;
+    let gate = Arc::new(alloc, OpenGate {})?;
+    let report = run(alloc, words.as_slice(), files, out, &mut err, gate);
+    Ok(Outcome { report, err })
+}
+
+/// A run of words over files, with writes to `out` that fail at the listed numbers.
 fn ran(
     alloc: Global,
     texts: &[&str],
     files: &mut MemoryFiles,
     failing: Vec<u64>,
-) -> Result<Report<MemorySink>, Fail> {
-    let words = words(alloc, texts)?;
-    let out = MemorySink::new(alloc, failing, ROOM)?;
-    let mut err = MemorySink::new(alloc, Vec::new(alloc), ROOM)?;
-    let gate = Arc::new(alloc, OpenGate {})?;
-    Ok(run(alloc, words.as_slice(), files, out, &mut err, gate))
+) -> Result<Outcome, Fail> {
+    ran_over(alloc, texts, files, failing, Vec::new(alloc))
+}
+
+/// A run of a source with nothing that fails.
+fn ran_source(alloc: Global, source: &[u8]) -> Result<Outcome, Fail> {
+    let mut files = script(alloc, source, Vec::new(alloc))?;
+    ran(alloc, &["run", "a.rb"], &mut files, Vec::new(alloc))
 }
 
 /// A script, its output and its status.
@@ -95,35 +122,55 @@ const SCRIPTS: [(&str, &str, u8); 42] = [
 
 #[test]
 fn scripts_have_their_output_and_status(rt: HostRuntime) -> Result<(), Fail> {
-    let alloc = rt.alloc();
     for (source, output, status) in SCRIPTS {
-        let mut files = script(alloc, source, Vec::new(alloc))?;
-        let report = ran(alloc, &["run", "a.rb"], &mut files, Vec::new(alloc))?;
+        let Outcome { report, err } = ran_source(rt.alloc(), source.as_bytes())?;
         assert_eq!(rt; report.status, status, "{source}");
         assert_eq!(rt; report.out.bytes(), output.as_bytes(), "{source}");
         assert_eq!(rt; report.front.is_some(), status < 2, "{source}");
+        assert_eq!(rt; err.bytes().is_empty(), status == 0, "{source}");
         assert!(rt; report.exit_code() == ExitCode::from(status), "{source}");
     }
     Ok(())
 }
 
 #[test]
-fn words_other_than_run_file_are_status_2(rt: HostRuntime) -> Result<(), Fail> {
+fn words_other_than_those_of_a_run_are_status_2(rt: HostRuntime) -> Result<(), Fail> {
     let alloc = rt.alloc();
-    let all: [&[&str]; 7] = [
+    let all: [&[&str]; 9] = [
         &[],
         &["run"],
         &["a.rb"],
         &["run", "a.rb", "a.rb"],
         &["run", "-"],
         &["run", "--help"],
+        &["--help"],
+        &["run", "--steps", "0", "a.rb"],
         &["runs", "a.rb"],
     ];
     for texts in all {
-        let mut files = script(alloc, "puts 1", Vec::new(alloc))?;
-        let report = ran(alloc, texts, &mut files, Vec::new(alloc))?;
+        let mut files = script(alloc, b"puts 1", Vec::new(alloc))?;
+        let Outcome { report, err } = ran(alloc, texts, &mut files, Vec::new(alloc))?;
         assert_eq!(rt; report.status, 2);
         assert!(rt; report.out.bytes().is_empty());
+        assert_eq!(rt; err.bytes(), b"rbso: usage\n".as_slice());
+    }
+    Ok(())
+}
+
+#[test]
+fn options_may_stand_beside_the_file(rt: HostRuntime) -> Result<(), Fail> {
+    let alloc = rt.alloc();
+    let all: [&[&str]; 3] = [
+        &["run", "--steps", "1000", "a.rb"],
+        &["run", "a.rb", "--heap-words=4096"],
+        &["run", "--", "a.rb"],
+    ];
+    for texts in all {
+        let mut files = script(alloc, b"puts 1", Vec::new(alloc))?;
+        let Outcome { report, err } = ran(alloc, texts, &mut files, Vec::new(alloc))?;
+        assert_eq!(rt; report.status, 0);
+        assert_eq!(rt; report.out.bytes(), b"1\n".as_slice());
+        assert!(rt; err.bytes().is_empty());
     }
     Ok(())
 }
@@ -131,14 +178,20 @@ fn words_other_than_run_file_are_status_2(rt: HostRuntime) -> Result<(), Fail> {
 #[test]
 fn a_missing_file_and_a_failing_read_are_status_4(rt: HostRuntime) -> Result<(), Fail> {
     let alloc = rt.alloc();
-    let mut files = script(alloc, "puts 1", Vec::new(alloc))?;
-    let missing = ran(alloc, &["run", "none.rb"], &mut files, Vec::new(alloc))?;
-    assert_eq!(rt; missing.status, 4);
+    let mut files = script(alloc, b"puts 1", Vec::new(alloc))?;
+    let Outcome { report, err } = ran(alloc, &["run", "none.rb"], &mut files, Vec::new(alloc))?;
+    assert_eq!(rt; report.status, 4);
+    assert_eq!(rt; err.bytes(), b"rbso: source missing\n".as_slice());
     // The script is read in two calls, the second of which finds its end.
-    for (failing, status) in [(1, 4), (2, 4), (3, 0)] {
-        let mut files = script(alloc, "puts 1", vec![in alloc; failing]?)?;
-        let report = ran(alloc, &["run", "a.rb"], &mut files, Vec::new(alloc))?;
+    for (failing, status, line) in [
+        (1, 4, "rbso: source failed\n"),
+        (2, 4, "rbso: source failed\n"),
+        (3, 0, ""),
+    ] {
+        let mut files = script(alloc, b"puts 1", vec![in alloc; failing]?)?;
+        let Outcome { report, err } = ran(alloc, &["run", "a.rb"], &mut files, Vec::new(alloc))?;
         assert_eq!(rt; report.status, status);
+        assert_eq!(rt; err.bytes(), line.as_bytes());
     }
     Ok(())
 }
@@ -147,17 +200,51 @@ fn a_missing_file_and_a_failing_read_are_status_4(rt: HostRuntime) -> Result<(),
 fn a_failing_write_ends_the_run_behind_the_prints_before_it(rt: HostRuntime) -> Result<(), Fail> {
     let alloc = rt.alloc();
     let runs = [
-        (1, "", 5),
-        (2, "1\n", 5),
-        (3, "1\n2\n", 5),
-        (4, "1\n2\n3\n", 0),
+        (1, "", 5, "rbso: sink failed\n"),
+        (2, "1\n", 5, "rbso: sink failed\n"),
+        (3, "1\n2\n", 5, "rbso: sink failed\n"),
+        (4, "1\n2\n3\n", 0, ""),
     ];
-    for (failing, output, status) in runs {
-        let mut files = script(alloc, "puts 1\nputs 2\nputs 3", Vec::new(alloc))?;
+    for (failing, output, status, line) in runs {
+        let mut files = script(alloc, b"puts 1\nputs 2\nputs 3", Vec::new(alloc))?;
         let failing = vec![in alloc; failing]?;
-        let report = ran(alloc, &["run", "a.rb"], &mut files, failing)?;
+        let Outcome { report, err } = ran(alloc, &["run", "a.rb"], &mut files, failing)?;
         assert_eq!(rt; report.status, status);
         assert_eq!(rt; report.out.bytes(), output.as_bytes());
+        assert_eq!(rt; err.bytes(), line.as_bytes());
+    }
+    Ok(())
+}
+
+#[test]
+fn a_failing_write_to_err_cuts_the_line_alone(rt: HostRuntime) -> Result<(), Fail> {
+    let alloc = rt.alloc();
+    let runs = [
+        ("puts 1\nputs 9223372036854775807 + 1", 1, "1\n", 1, ""),
+        (
+            "puts 1\nputs 9223372036854775807 + 1",
+            3,
+            "1\n",
+            1,
+            "rbso: fault IntegerOverflow",
+        ),
+        ("foo", 1, "", 3, ""),
+        ("foo", 2, "", 3, "rbso: refused "),
+        ("puts 1", 1, "1\n", 0, ""),
+    ];
+    for (source, failing, output, status, line) in runs {
+        let mut files = script(alloc, source.as_bytes(), Vec::new(alloc))?;
+        let failing = vec![in alloc; failing]?;
+        let Outcome { report, err } = ran_over(
+            alloc,
+            &["run", "a.rb"],
+            &mut files,
+            Vec::new(alloc),
+            failing,
+        )?;
+        assert_eq!(rt; report.status, status, "{source}");
+        assert_eq!(rt; report.out.bytes(), output.as_bytes(), "{source}");
+        assert_eq!(rt; err.bytes(), line.as_bytes(), "{source}");
     }
     Ok(())
 }
@@ -165,13 +252,16 @@ fn a_failing_write_ends_the_run_behind_the_prints_before_it(rt: HostRuntime) -> 
 #[test]
 fn a_source_has_at_most_1048576_bytes(rt: HostRuntime) -> Result<(), Fail> {
     let alloc = rt.alloc();
-    for (size, status) in [(1_048_576, 0), (1_048_577, 3), (1_100_000, 3)] {
-        let path = Items::from_slice(alloc, b"a.rb")?;
-        let bytes = Items::from_vec(vec![in alloc; b' '; size]?);
-        let files = vec![in alloc; (path, bytes)]?;
-        let mut files = MemoryFiles::new(files, Vec::new(alloc));
-        let report = ran(alloc, &["run", "a.rb"], &mut files, Vec::new(alloc))?;
+    for (size, status, line) in [
+        (1_048_576, 0, ""),
+        (1_048_577, 3, "rbso: refused 6 TooLarge\n"),
+        (1_048_578, 3, "rbso: refused 6 TooLarge\n"),
+        (1_100_000, 3, "rbso: refused 6 TooLarge\n"),
+    ] {
+        let source = vec![in alloc; b' '; size]?;
+        let Outcome { report, err } = ran_source(alloc, source.as_slice())?;
         assert_eq!(rt; report.status, status);
+        assert_eq!(rt; err.bytes(), line.as_bytes());
     }
     Ok(())
 }
@@ -193,8 +283,7 @@ const HISTORIES: [(&str, &[u64], End, u64); 4] = [
 fn a_history_has_each_print_and_the_end_with_their_steps(rt: HostRuntime) -> Result<(), Fail> {
     let alloc = rt.alloc();
     for (source, prints, end, last) in HISTORIES {
-        let mut files = script(alloc, source, Vec::new(alloc))?;
-        let report = ran(alloc, &["run", "a.rb"], &mut files, Vec::new(alloc))?;
+        let Outcome { report, .. } = ran_source(alloc, source.as_bytes())?;
         let front = report.front.expect(&rt, "a history");
         let mut steps = Vec::new(alloc);
         let mut ends = Vec::new(alloc);
@@ -228,8 +317,7 @@ fn long_script(alloc: Global, names: u32) -> Result<(String, String), AllocError
 fn a_script_of_thousands_of_lines_names_and_prints_runs(rt: HostRuntime) -> Result<(), Fail> {
     let alloc = rt.alloc();
     let (source, output) = long_script(alloc, 2000)?;
-    let mut files = script(alloc, source.as_str(), Vec::new(alloc))?;
-    let report = ran(alloc, &["run", "a.rb"], &mut files, Vec::new(alloc))?;
+    let Outcome { report, .. } = ran_source(alloc, source.as_bytes())?;
     assert_eq!(rt; report.status, 0);
     assert!(rt; report.out.bytes() == output.as_bytes());
     let front = report.front.expect(&rt, "a history");
@@ -256,7 +344,7 @@ impl Gate for Counting {
 #[test]
 fn the_gate_is_not_called_where_nothing_is_shared(rt: HostRuntime) -> Result<(), Fail> {
     let alloc = rt.alloc();
-    let mut files = script(alloc, "puts 1\nputs 2", Vec::new(alloc))?;
+    let mut files = script(alloc, b"puts 1\nputs 2", Vec::new(alloc))?;
     let words = words(alloc, &["run", "a.rb"])?;
     let out = MemorySink::new(alloc, Vec::new(alloc), ROOM)?;
     let mut err = MemorySink::new(alloc, Vec::new(alloc), ROOM)?;

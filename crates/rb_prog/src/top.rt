@@ -1,31 +1,28 @@
 // The top call.
 
-ghost use Rattle.std.specs.Prelude.{◌≡◌, ◌⊎◌, ◌≤◌, ◌↔◌, ℕ, List, [], true, false, Option, Some, None, IfOk, OnOk, Err, map, length, string_bytes};
+ghost use Rattle.std.specs.Prelude.{◌≡◌, ◌⊎◌, ◌≤◌, ℕ, List, [], Option, Some, None, IfOk, map, length, string_bytes};
 ghost use Rattle.std.specs.Option.{option_map};
 ghost use Rattle.std.specs.Borrow.{Bor};
 ghost use Rattle.std.specs.Process.{exit_status};
 ghost use Rattle.rb_tree.specs.declared.node.Program.{Program as Tree};
-ghost use Rattle.rb_lexer.specs.declared.fault.LexFault.TheVariants as Unread;
-ghost use Rattle.rb_prog.specs.Lines.{are_lines};
-ghost use Rattle.rb_prog.specs.Edge.{Bytes, Adds, Rose};
+ghost use Rattle.rb_command.specs.Words as asked;
+ghost use Rattle.rb_prog.specs.Edge.{Bytes, Rose, Told};
+ghost use Rattle.rb_prog.specs.Accepting.{rejected_status, rejected_line};
+ghost use Rattle.rb_prog.specs.Remarks.{usage_line, memory_line};
 ghost use Rattle.rb_prog.specs.Run as spec;
-ghost use Rattle.rb_prog.specs.Run.{Accepts, IsRefused, RunsSource, Runs};
+ghost use Rattle.rb_prog.specs.Run.{Accepts, RunsSource, Runs};
 
-use crate::check::are_lines;
 use crate::edge::{Files, Gate, Sink};
 use crate::history::RunFront;
 use crate::model::End;
+use crate::remarks::{MEMORY, SOURCE_FAILED, SOURCE_MISSING, USAGE, tell, tell_end, tell_refusal};
+use crate::source::{Unaccepted, accept};
 use crate::transfer::{ReadFault, read_source};
 use crate::walk::{Ran, run_main};
-use rb_lexer::{LexFault, lex};
-use rb_parser::{ParseFault, parse};
-use rb_tree::Program;
-use std::alloc::Global;
+use rb_command::{Command, command_of};
+use std::alloc::{AllocError, Global};
 use std::process::ExitCode;
 use std::sync::Arc;
-
-/// The statements of a program that are walked over at most.
-const MAX_STATEMENTS: usize = 2_097_153;
 
 /// What a run gives back: its status, the sink with all that was written, and the history of the run.
 /// There is no history where nothing was run: with the statuses 2, 3 and 4, and with 8 where no run could begin.
@@ -45,34 +42,13 @@ impl<K> Report<K> {
     }
 }
 
-/// Why a source has no program.
-#[derive(Clone, Copy, Debug, PartialEq, Eq)]
-enum Refusal {
-    Source,
-    Memory,
-}
-
-/// The path, where the words are `run FILE`.
-fn path_of(words: &[String]) -> Option<&str>
-    ensures { option_map (λ (b : Bor (List ℕ)). b.now) result ≡ spec.path_of (map string_bytes words.now) }
+/// The path of the script that the words name.
+fn path_of(alloc: Global, words: &[String]) -> Result<Option<&str>, AllocError>
+    ensures { IfOk result (λ found. option_map (λ (b : Bor (List ℕ)). b.now) found ≡ spec.path_of (map string_bytes words.now)) }
 {
-    let [command, path] = words else {
-        return None;
-    };
-    if command.as_str() == "run" && !is_option(path.as_bytes()) {
-        Some(path.as_str())
-    } else {
-        None
-    }
-}
-
-/// Whether a word begins with `-`.
-fn is_option(word: &[u8]) -> bool
-    ensures { result ≡ spec.is_option word.now }
-{
-    match word {
-        [] => false,
-        [first, ..] => *first == b'-',
+    match command_of(alloc, words)? {
+        Some(Command::Run(run)) => Ok(Some(run.file)),
+        None => Ok(None),
     }
 }
 
@@ -88,74 +64,6 @@ fn status_of(end: End) -> u8
     }
 }
 
-/// Why a source without tokens has no program.
-fn refusal_of(fault: LexFault) -> Refusal
-    ensures { (result ≡ Refusal.Memory) ↔ (fault ≡ Unread.Memory) }
-{
-    match fault {
-        LexFault::Memory => Refusal::Memory,
-        _ => Refusal::Source,
-    }
-}
-
-/// A program, where it is one of those that run. More statements than a source of at most 1 MiB can have are taken for want
-/// of memory.
-fn runnable(alloc: Global, program: Program) -> Result<Program, Refusal>
-    ensures same { IfOk result (λ found. found ≡ program) }
-    ensures lines { OnOk result (are_lines program ≡ true) }
-    ensures short { OnOk result (length program.main ≤ 2097153) }
-    ensures refused { result ≡ Err Refusal.Source → are_lines program ≡ false }
-{
-    if program.main.len() > MAX_STATEMENTS {
-        return Err(Refusal::Memory);
-    }
-    match are_lines(alloc, &program) {
-        Ok(true) => Ok(program),
-        Ok(false) => Err(Refusal::Source),
-        Err(_) => Err(Refusal::Memory),
-    }
-}
-
-/// The program of a source.
-fn accept(alloc: Global, source: &[u8]) -> Result<Program, Refusal>
-    ensures accepted { IfOk result (Accepts source.now) }
-    ensures short { IfOk result (λ program. length program.main ≤ 2097153) }
-    ensures refused { result ≡ Err Refusal.Source → IsRefused source.now }
-{
-    let tokens = match lex(alloc, source) {
-        Ok(tokens) => tokens,
-        Err(fault) => return Err(refusal_of(fault)),
-    };
-    match parse(alloc, tokens.as_slice()) {
-        Ok(program) => runnable(alloc, program),
-        Err(ParseFault::Memory) => Err(Refusal::Memory),
-        Err(ParseFault::Syntax(_)) => Err(Refusal::Source),
-        Err(ParseFault::TooNested(_)) => Err(Refusal::Source),
-    }
-}
-
-/// A source that was read, accepted and run.
-fn run_source<K: Sink>(alloc: Global, bytes: &[u8], mut out: K) -> Report<K>
-    ensures runs { RunsSource bytes.now (K.told out) (K.told result.out) result.status result.front }
-    ensures cause { result.status ≡ 5 → Rose (K.faults out) (K.faults result.out) }
-    ensures rises { K.faults out ≤ K.faults result.out }
-{
-    let program = match accept(alloc, bytes) {
-        Ok(program) => program,
-        Err(Refusal::Source) => return unrun(3, out),
-        Err(Refusal::Memory) => return unrun(8, out),
-    };
-    let Some(ran) = run_main(alloc, &program, &mut out) else {
-        return unrun(8, out);
-    };
-    let Ran { front, end } = ran;
-    Report {
-        status: status_of(end),
-        out,
-        front: Some(front),
-    }
-}
-
 /// The report where nothing was run.
 fn unrun<K>(status: u8, out: K) -> Report<K>
     ensures { result ≡ record { status = status; out = out; front = None } }
@@ -167,29 +75,89 @@ fn unrun<K>(status: u8, out: K) -> Report<K>
     }
 }
 
+/// The report where nothing was run, of which a line tells.
+fn stopped<K, E: Sink>(status: u8, line: &str, out: K, err: &mut E) -> Report<K>
+    ensures report { result ≡ record { status = status; out = out; front = None } }
+    ensures told { Told (E.told err.old) (E.told err.new) line.now (Rose (E.faults err.old) (E.faults err.new)) }
+    ensures rises { E.faults err.old ≤ E.faults err.new }
+{
+    tell(err, line);
+    unrun(status, out)
+}
+
+/// The report where a source is not accepted, of which a line tells.
+fn rejected<K, E: Sink>(source: &[u8], why: Unaccepted, out: K, err: &mut E) -> Report<K>
+    requires { length source.now ≤ 1048577 }
+    ensures report { result ≡ record { status = rejected_status why; out = out; front = None } }
+    ensures told { Told (E.told err.old) (E.told err.new) (rejected_line source.now why) (Rose (E.faults err.old) (E.faults err.new)) }
+    ensures rises { E.faults err.old ≤ E.faults err.new }
+{
+    match why {
+        Unaccepted::Refused(refusal) => {
+            tell_refusal(err, source, refusal);
+            unrun(3, out)
+        }
+        Unaccepted::Memory => stopped(8, MEMORY, out, err),
+    }
+}
+
+/// A source that was read, accepted and run.
+fn run_source<K: Sink, E: Sink>(alloc: Global, bytes: &[u8], mut out: K, err: &mut E) -> Report<K>
+    requires { length bytes.now ≤ 1048577 }
+    ensures runs { (line : List ℕ) × RunsSource bytes.now (K.told out) (K.told result.out) result.status result.front line
+        × Told (E.told err.old) (E.told err.new) line (Rose (E.faults err.old) (E.faults err.new)) }
+    ensures cause { result.status ≡ 5 → Rose (K.faults out) (K.faults result.out) }
+    ensures rises { K.faults out ≤ K.faults result.out }
+    ensures err_rises { E.faults err.old ≤ E.faults err.new }
+{
+    let program = match accept(alloc, bytes) {
+        Ok(program) => program,
+        Err(why) => return rejected(bytes, why, out, err),
+    };
+    let Some(ran) = run_main(alloc, &program, &mut out) else {
+        return stopped(8, MEMORY, out, err);
+    };
+    let Ran { front, end } = ran;
+    tell_end(err, bytes, end);
+    Report {
+        status: status_of(end),
+        out,
+        front: Some(front),
+    }
+}
+
 /// The file under a path, read and run.
-fn run_path<F: Files, K: Sink>(alloc: Global, path: &str, files: &mut F, out: K) -> Report<K>
-    ensures runs { Runs (F.held files.old path.now) (Rose (F.faults files.old) (F.faults files.new)) (K.told out) (K.told result.out) result.status result.front }
+fn run_path<F: Files, K: Sink, E: Sink>(
+    alloc: Global,
+    path: &str,
+    files: &mut F,
+    out: K,
+    err: &mut E,
+) -> Report<K>
+    ensures runs { (line : List ℕ)
+        × Runs (F.held files.old path.now) (Rose (F.faults files.old) (F.faults files.new)) (K.told out) (K.told result.out) result.status result.front line
+        × Told (E.told err.old) (E.told err.new) line (Rose (E.faults err.old) (E.faults err.new)) }
     ensures cause { result.status ≡ 5 → Rose (K.faults out) (K.faults result.out) }
     ensures not_usage { result.status ≡ 2 → ⊥ }
     ensures kept { (p : List ℕ) → F.held files.new p ≡ F.held files.old p }
     ensures files_rise { F.faults files.old ≤ F.faults files.new }
     ensures rises { K.faults out ≤ K.faults result.out }
+    ensures err_rises { E.faults err.old ≤ E.faults err.new }
 {
     match read_source(alloc, files, path) {
-        Ok(bytes) => run_source(alloc, bytes.as_slice(), out),
-        Err(ReadFault::Missing) => unrun(4, out),
-        Err(ReadFault::Failed) => unrun(4, out),
-        Err(ReadFault::Memory) => unrun(8, out),
+        Ok(bytes) => run_source(alloc, bytes.as_slice(), out, err),
+        Err(ReadFault::Missing) => stopped(4, SOURCE_MISSING, out, err),
+        Err(ReadFault::Failed) => stopped(4, SOURCE_FAILED, out, err),
+        Err(ReadFault::Memory) => stopped(8, MEMORY, out, err),
     }
 }
 
 /// All that the program does: `run FILE` reads a script of integer lines, runs it and writes what it prints to `out`.
-/// `words` are the arguments without the program's own name.
+/// `words` are the arguments without the program's own name. The steps and the heap words that they give have no effect yet.
 ///
 /// The status is 0 where the script ended with a value and 1 where it raised a fault; 2 where the words are none of the
 /// program's; 3 where the script is refused; 4 where it is missing or could not be read; 5 where `out` failed; 8 for want
-/// of memory. Nothing is written to `err` yet.
+/// of memory. But for the status 0, one line on `err` tells why.
 pub fn run<F: Files, K: Sink + Send, E: Sink, G: Gate + Send + Sync + Drop>(
     alloc: Global,
     words: &[String],
@@ -201,12 +169,21 @@ pub fn run<F: Files, K: Sink + Send, E: Sink, G: Gate + Send + Sync + Drop>(
     // The headline. Whatever the files hold, the history that is shown is a run of the program that was read: all that
     // it means, or a part of it that want of memory or the sink cut short and that is then ended; and the bytes written
     // are that history's prints, with a proper prefix of the one print that the sink refused. Each status has its cause.
-    ensures runs { (path : List ℕ) → spec.path_of (map string_bytes words.now) ≡ Some path
-        → Runs (F.held files.old path) (Rose (F.faults files.old) (F.faults files.new)) (K.told out) (K.told result.out) result.status result.front }
+    // And `err` is told the one line that names that cause, or a front of it, and then its count of faults rose.
+    ensures runs { (path : List ℕ) → spec.path_of (map string_bytes words.now) ≡ Some path → (line : List ℕ)
+        × Runs (F.held files.old path) (Rose (F.faults files.old) (F.faults files.new)) (K.told out) (K.told result.out) result.status result.front line
+        × Told (E.told err.old) (E.told err.new) line (Rose (E.faults err.old) (E.faults err.new)) }
 
-    // Status 2 comes exactly where the words are not the program's, and then nothing is done.
-    ensures usage { (result.status ≡ 2) ↔ (spec.path_of (map string_bytes words.now) ≡ None) }
-    ensures idle { spec.path_of (map string_bytes words.now) ≡ None → (result.out ≡ out) × (result.front ≡ None) × (files.new ≡ files.old) }
+    // Status 2 comes only where the words are not the program's. Where they are not, it comes, or memory is wanted, and nothing is
+    // done.
+    ensures usage { result.status ≡ 2 → asked.command_of (map string_bytes words.now) ≡ None }
+    ensures unusable { asked.command_of (map string_bytes words.now) ≡ None → (result.status ≡ 2) ⊎ (result.status ≡ 8) }
+    ensures idle { asked.command_of (map string_bytes words.now) ≡ None → (result.out ≡ out) × (result.front ≡ None) × (files.new ≡ files.old) }
+
+    // Then too one line is told: of the usage, or of memory.
+    ensures usage_told { result.status ≡ 2 → Told (E.told err.old) (E.told err.new) usage_line (Rose (E.faults err.old) (E.faults err.new)) }
+    ensures memory_told { asked.command_of (map string_bytes words.now) ≡ None → result.status ≡ 8
+        → Told (E.told err.old) (E.told err.new) memory_line (Rose (E.faults err.old) (E.faults err.new)) }
 
     // Status 5 comes only where the count of the sink's faults rose.
     ensures cause { result.status ≡ 5 → Rose (K.faults out) (K.faults result.out) }
@@ -217,16 +194,19 @@ pub fn run<F: Files, K: Sink + Send, E: Sink, G: Gate + Send + Sync + Drop>(
         → (Rose (F.faults files.old) (F.faults files.new) → ⊥) → (Rose (K.faults out) (K.faults result.out) → ⊥)
         → (result.status ≡ 0) ⊎ (result.status ≡ 1) ⊎ (result.status ≡ 8) }
 
-    // What is held stays, and counts of faults never fall. Nothing is written to `err`.
+    // What is held stays, and counts of faults never fall.
     ensures kept { (p : List ℕ) → F.held files.new p ≡ F.held files.old p }
     ensures files_rise { F.faults files.old ≤ F.faults files.new }
     ensures rises { K.faults out ≤ K.faults result.out }
-    ensures quiet { err.new ≡ err.old }
+    ensures err_rises { E.faults err.old ≤ E.faults err.new }
 {
-    let _ = err;
     let _ = gate;
-    match path_of(words) {
-        Some(path) => run_path(alloc, path, files, out),
-        None => unrun(2, out),
+    let found = match path_of(alloc, words) {
+        Ok(found) => found,
+        Err(_) => return stopped(8, MEMORY, out, err),
+    };
+    match found {
+        Some(path) => run_path(alloc, path, files, out, err),
+        None => stopped(2, USAGE, out, err),
     }
 }

@@ -4,7 +4,7 @@ use Rattle.rb_tree.specs.declared.node.Node.{out-Node}
 use Rattle.rb_tree.proofs.Layers.{out-set_local}
 use Rattle.rb_prog.specs.Lines.{assigned_behind}
 use Rattle.rb_prog.proofs.Checking.{marks_set, name_within}
-use Rattle.rb_prog.proofs.check.take_line.Goals as goal
+use Rattle.rb_prog.proofs.built.take_line.Goals as goal
 
 pub returns-else-not-is_sum-clause-behind : goal.returns-else-not-is_sum-clause-behind
 returns-else-not-is_sum-clause-behind c = λ known marks taken.

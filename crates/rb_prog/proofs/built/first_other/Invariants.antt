@@ -1,6 +1,6 @@
 use Rattle.std.proofs.Common.{◌≡◌, length}
 use Rattle.rb_prog.proofs.Checking.{Passed}
-use Rattle.rb_prog.proofs.check.are_lines_behind.Given as goal
+use Rattle.rb_prog.proofs.built.first_other.Given as goal
 
 abbrev pub invariant-loop-line : goal.invariant-loop-line
 invariant-loop-line l = record {

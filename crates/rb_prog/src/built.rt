@@ -1,15 +1,20 @@
-// Whether a program is of integer lines alone, which are all that is run yet.
+// What of a program is not run yet: all but integer lines.
 
-ghost use Rattle.std.specs.Prelude.{◌≡◌, true, [], IfOk, List, length, is_some, slice_get};
+ghost use Rattle.std.specs.Prelude.{◌≡◌, ◌&&◌, true, [], IfOk, List, length, map, not, is_some, slice_get};
 ghost use Rattle.rb_tree.specs.declared.span.NameId.{NameId as Id};
 ghost use Rattle.rb_tree.specs.declared.node.Node.{out-Node};
+ghost use Rattle.rb_tree.specs.declared.node.Class.{Class as ClassTree};
+ghost use Rattle.rb_tree.specs.declared.node.Method.{Method as MethodTree};
 ghost use Rattle.rb_prog.specs.Marks.{Marks};
 ghost use Rattle.rb_prog.specs.Lines as spec;
 
 use crate::assigned::Assigned;
 use crate::lines::text_of;
-use rb_tree::{Block, Boxed, NameId, Names, Node, Program};
+use rb_tree::{Block, Boxed, Class, Method, NameId, Names, Node, Program, Span, place_of};
 use std::alloc::{AllocError, Global};
+
+/// The start of a source, where there is nothing else to name.
+const START: Span = Span { from: 0, to: 0 };
 
 /// Whether this is the name of the method that prints.
 fn is_puts(text: &[u8]) -> bool
@@ -142,25 +147,80 @@ fn take_line(names: &Names, assigned: &mut Assigned, line: &Node) -> bool
     }
 }
 
-/// Whether nodes are lines, one behind the other, before which nothing is assigned.
-fn are_lines_behind(alloc: Global, names: &Names, lines: &[Node]) -> Result<bool, AllocError>
-    ensures { IfOk result (λ all. all ≡ spec.are_lines_behind names.now lines.now []) }
+/// The place of the first statement that is no line, where nothing is assigned before them.
+fn first_other(alloc: Global, names: &Names, lines: &[Node]) -> Result<Option<Span>, AllocError>
+    ensures { IfOk result (λ found. found ≡ spec.first_other names.now lines.now []) }
 {
     let mut assigned = Assigned::new(alloc, names.len())?;
     for line in lines {
         if !take_line(names, &mut assigned, line) {
-            return Ok(false);
+            return Ok(Some(place_of(line)));
         }
     }
-    Ok(true)
+    Ok(None)
 }
 
-/// Whether a program is of integer lines alone.
-pub(crate) fn are_lines(alloc: Global, program: &Program) -> Result<bool, AllocError>
-    ensures { IfOk result (λ all. all ≡ spec.are_lines program.now) }
+/// Of two places the one that stands first.
+fn earlier(one: Option<Span>, other: Option<Span>) -> Option<Span>
+    ensures { result ≡ spec.earlier one other }
 {
-    if !program.classes.is_empty() || !program.functions.is_empty() || !program.bodies.is_empty() {
-        return Ok(false);
+    match (one, other) {
+        (None, found) => found,
+        (Some(first), None) => Some(first),
+        (Some(first), Some(second)) => {
+            if second.from < first.from {
+                Some(second)
+            } else {
+                Some(first)
+            }
+        }
     }
-    are_lines_behind(alloc, &program.names, program.main.as_slice())
+}
+
+/// The place of the class that stands first.
+fn first_class(classes: &[Class]) -> Option<Span>
+    ensures { result ≡ spec.earliest (map (λ (c : ClassTree). c.at) classes.now) }
+{
+    let mut found = None;
+    'classes: for class in classes {
+        found = earlier(found, Some(class.at));
+    }
+    found
+}
+
+/// The place of the method that stands first.
+fn first_method(methods: &[Method]) -> Option<Span>
+    ensures { result ≡ spec.earliest (map (λ (m : MethodTree). m.at) methods.now) }
+{
+    let mut found = None;
+    'methods: for method in methods {
+        found = earlier(found, Some(method.at));
+    }
+    found
+}
+
+/// Whether a program is of integer lines alone, given its first statement that is no line.
+fn is_of_lines(program: &Program, other: Option<Span>) -> bool
+    ensures { result ≡ (not (is_some other) && (spec.is_empty program.now.classes && (spec.is_empty program.now.functions && spec.is_empty program.now.bodies))) }
+{
+    match other {
+        Some(_) => false,
+        None => {
+            program.classes.is_empty() && program.functions.is_empty() && program.bodies.is_empty()
+        }
+    }
+}
+
+/// The place of what stands first of a program that is not run; none where it is of integer lines alone.
+pub(crate) fn first_unbuilt(alloc: Global, program: &Program) -> Result<Option<Span>, AllocError>
+    ensures { IfOk result (λ found. found ≡ spec.first_unbuilt program.now) }
+{
+    let other = first_other(alloc, &program.names, program.main.as_slice())?;
+    if is_of_lines(program, other) {
+        return Ok(None);
+    }
+    let classes = first_class(program.classes.as_slice());
+    let methods = first_method(program.functions.as_slice());
+    let found = earlier(earlier(classes, methods), other);
+    Ok(Some(found.unwrap_or(START)))
 }

@@ -1,0 +1,10 @@
+use Rattle.rb_prog.proofs.remarks.tell_end.Goals as goal
+
+pub returns-in-Raised-clause-told : goal.returns-in-Raised-clause-told
+returns-in-Raised-clause-told g c = rw c.in-Raised.is c.tell_fault.ensures.told
+
+pub returns-in-Sink-clause-told : goal.returns-in-Sink-clause-told
+returns-in-Sink-clause-told g c = rw c.in-Sink.is c.tell.ensures.told
+
+pub returns-in-Memory-clause-told : goal.returns-in-Memory-clause-told
+returns-in-Memory-clause-told g c = rw c.in-Memory.is c.tell-in-Memory.ensures.told

@@ -1,0 +1,156 @@
+// The lines on standard error.
+
+ghost use Rattle.std.specs.Prelude.{◌≡◌, ◌≤◌, ◌<◌, ℕ, List, map, length};
+ghost use Rattle.std.specs.List.{concat};
+ghost use Rattle.std.specs.Borrow.{Bor};
+ghost use Rattle.rb_tree.specs.Place.{line_of, column_of};
+ghost use Rattle.rb_prog.specs.Edge.{Rose, Told};
+ghost use Rattle.rb_prog.specs.Remarks.{fault_name, fault_line, refused_as, refusal_line, end_line};
+
+use crate::edge::Sink;
+use crate::model::{End, Fault};
+use crate::refusal::{Refusal, Row, row_of};
+use crate::transfer::write_all;
+use itoa::Buffer;
+use rb_tree::line_column;
+
+/// The words are none of the program's.
+pub(crate) const USAGE: &str = "rbso: usage\n";
+
+/// There is no file under the path.
+pub(crate) const SOURCE_MISSING: &str = "rbso: source missing\n";
+
+/// A read of the file failed.
+pub(crate) const SOURCE_FAILED: &str = "rbso: source failed\n";
+
+/// Memory is wanted.
+pub(crate) const MEMORY: &str = "rbso: memory\n";
+
+/// Standard output failed.
+const SINK_FAILED: &str = "rbso: sink failed\n";
+
+/// Writes a line. Where it fails, nothing more is done.
+pub(crate) fn tell<E: Sink>(err: &mut E, line: &str)
+    ensures told { Told (E.told err.old) (E.told err.new) line.now (Rose (E.faults err.old) (E.faults err.new)) }
+    ensures rises { E.faults err.old ≤ E.faults err.new }
+{
+    if let Err(_) = write_all(err, line.as_bytes()) {
+        return;
+    }
+}
+
+/// Writes the pieces of a line, one behind the other, up to the first that fails.
+fn tell_pieces<E: Sink>(err: &mut E, pieces: &[&str])
+    ensures told { Told (E.told err.old) (E.told err.new) (concat (map (λ (piece : Bor (List ℕ)). piece.now) pieces.now)) (Rose (E.faults err.old) (E.faults err.new)) }
+    ensures rises { E.faults err.old ≤ E.faults err.new }
+{
+    'pieces: for piece in pieces {
+        if let Err(_) = write_all(err, piece.as_bytes()) {
+            return;
+        }
+    }
+}
+
+/// The line and the column of a byte of a source; for a byte behind its end, those of the end.
+fn position(source: &[u8], at: u32) -> (u32, u32)
+    requires { length source.now ≤ 1048577 }
+    ensures line { result.0 ≡ line_of source.now at }
+    ensures column { result.1 ≡ column_of source.now at }
+{
+    if at as usize > source.len() {
+        line_column(source, source.len() as u32)
+    } else {
+        line_column(source, at)
+    }
+}
+
+/// Writes a refusal, with its place where it has one.
+fn tell_row<E: Sink>(err: &mut E, source: &[u8], row: Row)
+    requires { length source.now ≤ 1048577 }
+    ensures told { Told (E.told err.old) (E.told err.new) (refused_as source.now row.number row.name.now row.place) (Rose (E.faults err.old) (E.faults err.new)) }
+    ensures rises { E.faults err.old ≤ E.faults err.new }
+{
+    let mut numbers = Buffer::new();
+    let number = numbers.format(row.number);
+    match row.place {
+        None => tell_pieces(err, &["rbso: refused ", number, " ", row.name, "\n"]),
+        Some(at) => {
+            let (line, column) = position(source, at);
+            let mut lines = Buffer::new();
+            let mut columns = Buffer::new();
+            let line = lines.format(line);
+            let column = columns.format(column);
+            tell_pieces(
+                err,
+                &[
+                    "rbso: refused ",
+                    number,
+                    " ",
+                    row.name,
+                    " at ",
+                    line,
+                    ":",
+                    column,
+                    "\n",
+                ],
+            );
+        }
+    }
+}
+
+/// Writes why a source has no run.
+pub(crate) fn tell_refusal<E: Sink>(err: &mut E, source: &[u8], refusal: Refusal)
+    requires { length source.now ≤ 1048577 }
+    ensures told { Told (E.told err.old) (E.told err.new) (refusal_line source.now refusal) (Rose (E.faults err.old) (E.faults err.new)) }
+    ensures rises { E.faults err.old ≤ E.faults err.new }
+{
+    tell_row(err, source, row_of(refusal));
+}
+
+/// The name of a fault.
+fn name_of(fault: Fault) -> &'static str
+    ensures { result.now ≡ fault_name fault }
+{
+    match fault {
+        Fault::IntegerOverflow => "IntegerOverflow",
+    }
+}
+
+/// Writes by which fault a run ended, and where.
+fn tell_fault<E: Sink>(err: &mut E, source: &[u8], fault: Fault, at: u32)
+    requires { length source.now ≤ 1048577 }
+    ensures told { Told (E.told err.old) (E.told err.new) (fault_line source.now fault at) (Rose (E.faults err.old) (E.faults err.new)) }
+    ensures rises { E.faults err.old ≤ E.faults err.new }
+{
+    let (line, column) = position(source, at);
+    let mut lines = Buffer::new();
+    let mut columns = Buffer::new();
+    let line = lines.format(line);
+    let column = columns.format(column);
+    tell_pieces(
+        err,
+        &[
+            "rbso: fault ",
+            name_of(fault),
+            " at ",
+            line,
+            ":",
+            column,
+            "\n",
+        ],
+    )
+}
+
+/// Writes how a run ended; of a value nothing.
+pub(crate) fn tell_end<E: Sink>(err: &mut E, source: &[u8], end: End)
+    requires { length source.now ≤ 1048577 }
+    ensures told { Told (E.told err.old) (E.told err.new) (end_line source.now end) (Rose (E.faults err.old) (E.faults err.new)) }
+    ensures rises { E.faults err.old ≤ E.faults err.new }
+{
+    match end {
+        End::Value(_) => {}
+        End::Raised(fault, at) => tell_fault(err, source, fault, at.from),
+        End::Sink => tell(err, SINK_FAILED),
+        End::Memory => tell(err, MEMORY),
+    }
+}

@@ -1,0 +1,85 @@
+// From a source to a program that is run, or to its refusal.
+
+ghost use Rattle.std.specs.Prelude.{◌≡◌};
+ghost use Rattle.rb_prog.specs.Accepting.{Judges, AcceptsOf, unread, unparsed, broken};
+
+use crate::built::first_unbuilt;
+use crate::refusal::Refusal;
+use rb_checker::{CheckError, check};
+use rb_lexer::{LexFault, lex};
+use rb_parser::{ParseFault, parse};
+use rb_tree::Program;
+use std::alloc::Global;
+
+/// The statements of a program that are walked over at most.
+const MAX_STATEMENTS: usize = 2_097_153;
+
+/// Why a source has no program that is run.
+#[derive(Clone, Copy, Debug, PartialEq, Eq)]
+pub(crate) enum Unaccepted {
+    Refused(Refusal),
+    Memory,
+}
+
+/// Why a source without tokens is not accepted.
+fn unread(fault: LexFault) -> Unaccepted
+    ensures { result ≡ unread fault }
+{
+    match fault {
+        LexFault::Memory => Unaccepted::Memory,
+        _ => Unaccepted::Refused(Refusal::Unread(fault)),
+    }
+}
+
+/// Why tokens that spell no program are not accepted.
+fn unparsed(fault: ParseFault) -> Unaccepted
+    ensures { result ≡ unparsed fault }
+{
+    match fault {
+        ParseFault::Memory => Unaccepted::Memory,
+        _ => Unaccepted::Refused(Refusal::Unparsed(fault)),
+    }
+}
+
+/// Why a program that the check does not pass is not accepted.
+fn broken(error: CheckError) -> Unaccepted
+    ensures { result ≡ broken error }
+{
+    match error {
+        CheckError::Fault(fault) => Unaccepted::Refused(Refusal::Broken(fault)),
+        CheckError::Memory => Unaccepted::Memory,
+    }
+}
+
+/// A program, where it keeps the rules of names and is one of those that run. More statements than a source of at most 1 MiB can
+/// have are taken for want of memory.
+fn judged(alloc: Global, program: Program) -> Result<Program, Unaccepted>
+    ensures { Judges program result }
+{
+    if program.main.len() > MAX_STATEMENTS {
+        return Err(Unaccepted::Memory);
+    }
+    match check(alloc, &program) {
+        Ok(()) => {}
+        Err(error) => return Err(broken(error)),
+    }
+    match first_unbuilt(alloc, &program) {
+        Ok(None) => Ok(program),
+        Ok(Some(at)) => Err(Unaccepted::Refused(Refusal::NotBuilt(at))),
+        Err(_) => Err(Unaccepted::Memory),
+    }
+}
+
+/// The program of a source that is run.
+pub(crate) fn accept(alloc: Global, source: &[u8]) -> Result<Program, Unaccepted>
+    ensures { AcceptsOf source.now result }
+{
+    let tokens = match lex(alloc, source) {
+        Ok(tokens) => tokens,
+        Err(fault) => return Err(unread(fault)),
+    };
+    match parse(alloc, tokens.as_slice()) {
+        Ok(program) => judged(alloc, program),
+        Err(fault) => Err(unparsed(fault)),
+    }
+}

@@ -1,0 +1,3 @@
+x = 1
+t = Thread.new { puts x }
+x = 2
