@@ -1,4 +1,0 @@
-pub mod Outcome
-pub mod Carries
-pub mod Slots
-pub mod Answers
