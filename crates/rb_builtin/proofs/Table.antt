@@ -221,3 +221,35 @@ by_operation names builtin.Length m n e = absurd (cc)
 
 pub operation_is : (names : List Text) (name : Text) (b : Builtin) (m n : ℤ) → is_operation b ≡ true → builtin_of name ≡ Some b → deed names (Int m) name (Int n ∷ []) None ≡ operated b m n
 operation_is names name b m n e f = sym (by_number names (Int m) name b (Int n ∷ []) None f) ∙ by_operation names b m n e
+
+numbered : (b : Builtin) → builtin_of (name_of b) ≡ Some b
+numbered builtin.Equal = refl
+numbered builtin.IsNil = refl
+numbered builtin.ToS = refl
+numbered builtin.Inspect = refl
+numbered builtin.Plus = refl
+numbered builtin.Minus = refl
+numbered builtin.Times = refl
+numbered builtin.Over = refl
+numbered builtin.Modulo = refl
+numbered builtin.Negate = refl
+numbered builtin.Less = refl
+numbered builtin.AtMost = refl
+numbered builtin.More = refl
+numbered builtin.AtLeast = refl
+numbered builtin.TimesLoop = refl
+numbered builtin.Upto = refl
+numbered builtin.Length = refl
+
+other_name : (name : Text) (b : Builtin) (t : Bool) → builtin_of name ≡ None → bytes_eq name (name_of b) ≡ t → bytes_eq name (name_of b) ≡ false
+other_name name b false e f = f
+other_name name b true e f =
+    let is : name ≡ name_of b = (bytes_eq-Decides name (name_of b)).0 f in
+    let q : None ≡ Some b = sym e ∙ (ap builtin_of is ∙ numbered b) in
+    absurd (cc)
+
+-- no value has a method of a name that has no number
+pub no_number : (names : List Text) (v : Value) (name : Text) (args : List Value) (given : Option ℕ) → builtin_of name ≡ None → deed names v name args given ≡ Raises NoMethod
+no_number names v name args given e =
+    let f : (b : Builtin) → bytes_eq name (name_of b) ≡ false = λ b. other_name name b (bytes_eq name (name_of b)) e refl in
+    rw (f builtin.Equal, f builtin.IsNil, f builtin.ToS, f builtin.Inspect, f builtin.Plus, f builtin.Minus, f builtin.Times, f builtin.Over, f builtin.Modulo, f builtin.Negate, f builtin.Less, f builtin.AtMost, f builtin.More, f builtin.AtLeast, f builtin.TimesLoop, f builtin.Upto, f builtin.Length) refl

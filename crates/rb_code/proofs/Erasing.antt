@@ -57,9 +57,9 @@ pub erase-update_element : (receiver : Code) (index : Code) (op : AssignOp) (val
 unfolding erase erase_piece erase_block
 erase-update_element receiver index op value at = search (rules, the_lemmas)
 
-pub erase-update_attribute : (receiver : Code) (name : NameId) (op : AssignOp) (value : Code) (at : Span) → erase (is.UpdateAttribute receiver name op value at) ≡ tree.OpAssign (target.Attribute (erase receiver) name) op (erase value) at
+pub erase-update_attribute : (number : Option Builtin) (name : NameId) (receiver : Code) (op : AssignOp) (value : Code) (at : Span) → erase (is.UpdateAttribute number name receiver op value at) ≡ tree.OpAssign (target.Attribute (erase receiver) name) op (erase value) at
 unfolding erase erase_piece erase_block
-erase-update_attribute receiver name op value at = search (rules, the_lemmas)
+erase-update_attribute number name receiver op value at = search (rules, the_lemmas)
 
 pub erase-store : (receiver : Code) (name : NameId) (args : List Code) (at : Span) → erase (is.Store receiver name args at) ≡ tree.Store (erase receiver) name (map erase args) at
 unfolding erase erase_piece erase_block
@@ -124,3 +124,7 @@ erase_piece-text bytes = search (rules, the_lemmas)
 pub erase_piece-code : (c : Code) → erase_piece (part.Code c) ≡ piece.Code (erase c)
 unfolding erase erase_piece erase_block
 erase_piece-code c = search (rules, the_lemmas)
+
+pub erase_block-parts : (b : CodeBlock) → erase_block b ≡ record { params = b.params; body = map erase b.body; at = b.at }
+unfolding erase erase_piece erase_block
+erase_block-parts b = search (rules, the_lemmas)

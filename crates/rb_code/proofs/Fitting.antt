@@ -12,11 +12,11 @@ use Rattle.rb_code.specs.declared.code.Code.TheVariants as is
 use Rattle.rb_code.specs.declared.code.CodePiece.{CodePiece}
 use Rattle.rb_code.specs.declared.code.CodePiece.TheVariants as part
 use Rattle.rb_code.specs.declared.code.CodeBlock.{CodeBlock}
-use Rattle.std.specs.Prelude.{◌&&◌, true, is_none, length}
+use Rattle.std.specs.Prelude.{◌&&◌, ◌++◌, ◌+◌, ◌==◌, nat_le, true, is_none, length, codes}
 use Rattle.std.specs.Str.{bytes_eq}
 use Rattle.rb_machine.specs.Scopes.{Script, text_of}
 use Rattle.rb_code.specs.Layout.{has_slot, is_at}
-use Rattle.rb_code.specs.Resolved.{every, if_some, form_text, form_takes, function_of, has_number, fits, piece_fits, block_fits}
+use Rattle.rb_code.specs.Resolved.{every, if_some, form_text, form_takes, function_of, has_number, is_free, fits, piece_fits, block_fits}
 
 pub fits-nil : (S : Script) (names : List NameId) (size : ℕ) (at : Span) → fits S (is.Nil at) names size ≡ (true)
 unfolding fits piece_fits block_fits
@@ -58,11 +58,12 @@ pub fits-update_element : (S : Script) (names : List NameId) (size : ℕ) (recei
 unfolding fits piece_fits block_fits
 fits-update_element S names size receiver index op value at = search (rules, the_lemmas)
 
-pub fits-update_attribute : (S : Script) (names : List NameId) (size : ℕ) (receiver : Code) (name : NameId) (op : AssignOp) (value : Code) (at : Span) → fits S (is.UpdateAttribute receiver name op value at) names size ≡ (fits S receiver names size && fits S value names size)
+pub fits-update_attribute : (S : Script) (names : List NameId) (size : ℕ) (number : Option Builtin) (name : NameId) (receiver : Code) (op : AssignOp) (value : Code) (at : Span)
+    → fits S (is.UpdateAttribute number name receiver op value at) names size ≡ (has_number S number name && (is_free (text_of S name ++ codes "=") && (fits S receiver names size && fits S value names size)))
 unfolding fits piece_fits block_fits
-fits-update_attribute S names size receiver name op value at = search (rules, the_lemmas)
+fits-update_attribute S names size number name receiver op value at = search (rules, the_lemmas)
 
-pub fits-store : (S : Script) (names : List NameId) (size : ℕ) (receiver : Code) (name : NameId) (args : List Code) (at : Span) → fits S (is.Store receiver name args at) names size ≡ (fits S receiver names size && every (map (fits S) args) names size)
+pub fits-store : (S : Script) (names : List NameId) (size : ℕ) (receiver : Code) (name : NameId) (args : List Code) (at : Span) → fits S (is.Store receiver name args at) names size ≡ (is_free (text_of S name) && (fits S receiver names size && every (map (fits S) args) names size))
 unfolding fits piece_fits block_fits
 fits-store S names size receiver name args at = search (rules, the_lemmas)
 
@@ -125,3 +126,8 @@ piece_fits-text S names size bytes = search (rules, the_lemmas)
 pub piece_fits-code : (S : Script) (names : List NameId) (size : ℕ) (c : Code) → piece_fits S (part.Code c) names size ≡ fits S c names size
 unfolding fits piece_fits block_fits
 piece_fits-code S names size c = search (rules, the_lemmas)
+
+pub block_fits-parts : (S : Script) (names : List NameId) (size : ℕ) (b : CodeBlock)
+    → block_fits S b names size ≡ ((b.from == length names) && ((b.count == length (S.block_names b.at)) && (nat_le (length names + length (S.block_names b.at)) size && every (map (fits S) b.body) (names ++ S.block_names b.at) size)))
+unfolding fits piece_fits block_fits
+block_fits-parts S names size b = search (rules, the_lemmas)

@@ -48,8 +48,8 @@ shows-update_local c slot name op value at e = ap (λ c. out-Node (erase c)) e �
 pub shows-update_element : (c : Code) (receiver : Code) (index : Code) (op : AssignOp) (value : Code) (at : Span) → c ≡ is.UpdateElement receiver index op value at → out-Node (erase c) ≡ node.OpAssign (target.Index (erase receiver) (erase index)) op (erase value) at
 shows-update_element c receiver index op value at e = ap (λ c. out-Node (erase c)) e ∙ (ap out-Node (erase-update_element receiver index op value at) ∙ search (rules, the_lemmas))
 
-pub shows-update_attribute : (c : Code) (receiver : Code) (name : NameId) (op : AssignOp) (value : Code) (at : Span) → c ≡ is.UpdateAttribute receiver name op value at → out-Node (erase c) ≡ node.OpAssign (target.Attribute (erase receiver) name) op (erase value) at
-shows-update_attribute c receiver name op value at e = ap (λ c. out-Node (erase c)) e ∙ (ap out-Node (erase-update_attribute receiver name op value at) ∙ search (rules, the_lemmas))
+pub shows-update_attribute : (c : Code) (number : Option Builtin) (name : NameId) (receiver : Code) (op : AssignOp) (value : Code) (at : Span) → c ≡ is.UpdateAttribute number name receiver op value at → out-Node (erase c) ≡ node.OpAssign (target.Attribute (erase receiver) name) op (erase value) at
+shows-update_attribute c number name receiver op value at e = ap (λ c. out-Node (erase c)) e ∙ (ap out-Node (erase-update_attribute number name receiver op value at) ∙ search (rules, the_lemmas))
 
 pub shows-store : (c : Code) (receiver : Code) (name : NameId) (args : List Code) (at : Span) → c ≡ is.Store receiver name args at → out-Node (erase c) ≡ node.Store (erase receiver) name (map erase args) at
 shows-store c receiver name args at e = ap (λ c. out-Node (erase c)) e ∙ (ap out-Node (erase-store receiver name args at) ∙ search (rules, the_lemmas))

@@ -42,6 +42,10 @@ abbrev pub form_takes : Form → ℕ → Bool
 form_takes form.Inspect count = nat_le count 1
 form_takes other count = true
 
+-- whether a text is the name of no built-in method
+abbrev pub is_free : List ℕ → Bool
+is_free text = is_none (builtin_of text)
+
 module _ (S : Script) where
   abbrev pub has_name : NameId → Method → Bool
   has_name name m = m.name.0 == name.0
@@ -69,8 +73,9 @@ module _ (S : Script) where
   node_step (code.SetLocal slot name value at) names size = has_slot name names slot && value names size
   node_step (code.UpdateLocal slot name op value at) names size = has_slot name names slot && value names size
   node_step (code.UpdateElement receiver index op value at) names size = receiver names size && (index names size && value names size)
-  node_step (code.UpdateAttribute receiver name op value at) names size = receiver names size && value names size
-  node_step (code.Store receiver name args at) names size = receiver names size && every args names size
+  node_step (code.UpdateAttribute number name receiver op value at) names size =
+      has_number number name && (is_free (text_of S name ++ codes "=") && (receiver names size && value names size))
+  node_step (code.Store receiver name args at) names size = is_free (text_of S name) && (receiver names size && every args names size)
   node_step (code.Operate number name left right at) names size = has_number number name && (left names size && right names size)
   node_step (code.Send number name receiver args at) names size = has_number number name && (receiver names size && every args names size)
   node_step (code.Walk number name receiver args block at) names size = has_number number name && (receiver names size && (every args names size && block names size))

@@ -40,11 +40,11 @@ pub enum Code {
     /// A local, by its slot.
     Local(u32, NameId, Span),
     SetLocal(u32, NameId, Boxed<Code>, Span),
-    /// An assignment with an operator to a local, to an element, and to an attribute.
+    /// An assignment with an operator to a local, to an element, and to an attribute, with the number of the method that reads it.
     UpdateLocal(u32, NameId, AssignOp, Boxed<Code>, Span),
     UpdateElement(Boxed<Code>, Boxed<Code>, AssignOp, Boxed<Code>, Span),
-    UpdateAttribute(Boxed<Code>, NameId, AssignOp, Boxed<Code>, Span),
-    /// An assignment by the call of a method.
+    UpdateAttribute(Option<Builtin>, NameId, Boxed<Code>, AssignOp, Boxed<Code>, Span),
+    /// An assignment by the call of a method, which is not built in.
     Store(Boxed<Code>, NameId, Items<Code>, Span),
     /// A call with one argument and without a block.
     Operate(Option<Builtin>, NameId, Boxed<Code>, Boxed<Code>, Span),

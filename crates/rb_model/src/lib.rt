@@ -5,6 +5,7 @@
 mod call;
 mod fault;
 mod shared_text;
+mod store;
 #[cfg(test)]
 mod tests;
 mod value;
@@ -12,4 +13,5 @@ mod value;
 pub use call::{Answer, Call, End};
 pub use fault::Fault;
 pub use shared_text::SharedText;
+pub use store::OneStore;
 pub use value::{Id, Ref, Sort, Value};

@@ -1,0 +1,508 @@
+use Rattle.rb_interp.specs.Carries.{goes_on}
+use Rattle.rb_code.proofs.Slots.{slot_within}
+use Rattle.std.proofs.Common.{rules, to_z, of_z, w64, ◌≡◌, ap, sym, ◌∙◌, refl, subst, ℕ, suc, List, [], ◌∷◌, ◌++◌, take, drop, map, length, ◌+◌, ◌-◌, ◌<◌, ◌≤◌, Some, None, true, false, arith}
+use Rattle.std.proofs.lemmas.List.{drop_all}
+use Rattle.std.specs.Prelude.{◌&&◌}
+use Rattle.rb_model.specs.Values.{Nil, truthy}
+use Rattle.rb_machine.specs.Control.{Then, Under, Rest, AssignTo, ReturnOf, Test, Again, RightOfAnd, RightOfOr, Negate, Choose}
+use Rattle.rb_code.specs.Erase.{erase}
+use Rattle.rb_code.specs.Resolved.{fits, every}
+use Rattle.rb_code.proofs.Showing.{shows-nil, shows-false, shows-true, shows-int, shows-sym, shows-local, shows-and, shows-or, shows-not, shows-if, shows-break, shows-next, shows-set_local, shows-while, shows-return}
+use Rattle.rb_code.proofs.Fitting.{fits-local, fits-and, fits-or, fits-not, fits-if, fits-set_local, fits-while, fits-return}
+use Rattle.rb_interp.specs.Outcome.{value_of}
+use Rattle.rb_interp.proofs.Moves.{test_true, test_false, on, same, begins, evals, follows, gives, counts, too_many, too_deep, left}
+use Rattle.rb_interp.proofs.Lists.{never, fst, snd, next_item}
+use Rattle.rb_interp.proofs.Rooms.{sub, moved, every_item, read_room, write_room}
+use Rattle.rb_interp.proofs.Outcomes.{gave, given, comes, passes, gone, again, again_out, tested_again, tested_out}
+use Rattle.rb_interp.proofs.Steps.{and_goes, and_stops, or_goes, or_stops, negated, chosen_first, chosen_second, assigned, kept_write}
+use Rattle.rb_interp.proofs.walker.Walker.+walk.Goals as goal
+
+pub walk-returns-then-self-eq0-clause-came : goal.walk-returns-then-self-eq0-clause-came
+walk-returns-then-self-eq0-clause-came g m c = λ S start h k me names size st e l a.
+    rw (c.over.ensures.gives, c.over.ensures.left, c.over.ensures.store) (too_many c.if-self-eq0.true a)
+
+pub walk-returns-then-depth-ge-MAX_DEPTH-clause-came : goal.walk-returns-then-depth-ge-MAX_DEPTH-clause-came
+walk-returns-then-depth-ge-MAX_DEPTH-clause-came g m c = λ S start h k me names size st e l a.
+    let o = c.raise.ensures in
+    rw (o.gives, o.left, o.store, c.place_of.ensures) (too_deep (omega (arith, c.if-self-eq0.false)) c.if-depth-ge-MAX_DEPTH.true a)
+
+pub walk-returns-clause-came : goal.walk-returns-clause-came
+walk-returns-clause-came g m c = λ S start h k me names size st e l a.
+    left S _ start h _ _ k _ _ _ _ (c.begin.ensures.came S start h (Under c.args.depth ∷ k) me names size st e l (counts (omega (arith, c.if-self-eq0.false)) (omega (arith, c.if-depth-ge-MAX_DEPTH.false)) a))
+
+pub begin-returns-in-Nil-clause-came : goal.begin-returns-in-Nil-clause-came
+begin-returns-in-Nil-clause-came g m c = λ S start h k me names size st e l a.
+    begins _ _ k _ _ _ (shows-nil c.args.code.now c.in-Nil.field-0 c.in-Nil.is) a
+
+pub begin-returns-in-False-clause-came : goal.begin-returns-in-False-clause-came
+begin-returns-in-False-clause-came g m c = λ S start h k me names size st e l a.
+    begins _ _ k _ _ _ (shows-false c.args.code.now c.in-False.field-0 c.in-False.is) a
+
+pub begin-returns-in-True-clause-came : goal.begin-returns-in-True-clause-came
+begin-returns-in-True-clause-came g m c = λ S start h k me names size st e l a.
+    begins _ _ k _ _ _ (shows-true c.args.code.now c.in-True.field-0 c.in-True.is) a
+
+pub begin-returns-in-Int-clause-came : goal.begin-returns-in-Int-clause-came
+begin-returns-in-Int-clause-came g m c = λ S start h k me names size st e l a.
+    let z : to_z w64 (of_z w64 c.in-Int.n) ≡ c.in-Int.n = search rules in
+    rw z (begins _ _ k _ _ _ (shows-int c.args.code.now c.in-Int.n c.in-Int.field-1 c.in-Int.is) a)
+
+pub begin-returns-in-Sym-clause-came : goal.begin-returns-in-Sym-clause-came
+begin-returns-in-Sym-clause-came g m c = λ S start h k me names size st e l a.
+    rw (c.give.ensures.gives, c.give.ensures.left, c.give.ensures.store) (begins _ _ k _ _ _ (shows-sym c.args.code.now c.in-Sym.name c.in-Sym.field-1 c.in-Sym.is) a)
+
+pub begin-returns-in-Break-clause-came : goal.begin-returns-in-Break-clause-came
+begin-returns-in-Break-clause-came g m c = λ S start h k me names size st e l a.
+    begins _ _ k _ _ _ (shows-break c.args.code.now c.in-Break.field-0 c.in-Break.is) a
+
+pub begin-returns-in-Next-clause-came : goal.begin-returns-in-Next-clause-came
+begin-returns-in-Next-clause-came g m c = λ S start h k me names size st e l a.
+    begins _ _ k _ _ _ (shows-next c.args.code.now c.in-Next.field-0 c.in-Next.is) a
+
+pub begin-returns-in-And-clause-kept : goal.begin-returns-in-And-clause-kept
+begin-returns-in-And-clause-kept g m c = λ S names size st e l i p q.
+    let x = c.in-And in
+    let s = sym (ap (λ d. fits S d names size) x.is ∙ fits-and S names size x.first x.second x.field-2) ∙ l.fits in
+    let under = sub _ l (rw (c.get-in-And.ensures, c.get-in-And-2.ensures) s) in
+    c.both.ensures.kept S names size st e under i p q
+
+pub begin-returns-in-And-clause-came : goal.begin-returns-in-And-clause-came
+begin-returns-in-And-clause-came g m c = λ S start h k me names size st e l a.
+    let x = c.in-And in
+    let s = sym (ap (λ d. fits S d names size) x.is ∙ fits-and S names size x.first x.second x.field-2) ∙ l.fits in
+    let under = sub _ l (rw (c.get-in-And.ensures, c.get-in-And-2.ensures) s) in
+    c.both.ensures.came S start h k me names size st e under (rw (c.get-in-And.ensures, c.get-in-And-2.ensures) (begins _ _ k _ _ _ (shows-and c.args.code.now x.first x.second x.field-2 x.is) a))
+
+pub begin-returns-in-Or-clause-kept : goal.begin-returns-in-Or-clause-kept
+begin-returns-in-Or-clause-kept g m c = λ S names size st e l i p q.
+    let x = c.in-Or in
+    let s = sym (ap (λ d. fits S d names size) x.is ∙ fits-or S names size x.first x.second x.field-2) ∙ l.fits in
+    let under = sub _ l (rw (c.get-in-Or.ensures, c.get-in-Or-2.ensures) s) in
+    c.either.ensures.kept S names size st e under i p q
+
+pub begin-returns-in-Or-clause-came : goal.begin-returns-in-Or-clause-came
+begin-returns-in-Or-clause-came g m c = λ S start h k me names size st e l a.
+    let x = c.in-Or in
+    let s = sym (ap (λ d. fits S d names size) x.is ∙ fits-or S names size x.first x.second x.field-2) ∙ l.fits in
+    let under = sub _ l (rw (c.get-in-Or.ensures, c.get-in-Or-2.ensures) s) in
+    c.either.ensures.came S start h k me names size st e under (rw (c.get-in-Or.ensures, c.get-in-Or-2.ensures) (begins _ _ k _ _ _ (shows-or c.args.code.now x.first x.second x.field-2 x.is) a))
+
+pub begin-returns-in-Not-clause-kept : goal.begin-returns-in-Not-clause-kept
+begin-returns-in-Not-clause-kept g m c = λ S names size st e l i p q.
+    let x = c.in-Not in
+    let s = sym (ap (λ d. fits S d names size) x.is ∙ fits-not S names size x.value x.field-1) ∙ l.fits in
+    let under = sub _ l (rw c.get-in-Not.ensures s) in
+    c.negate.ensures.kept S names size st e under i p q
+
+pub begin-returns-in-Not-clause-came : goal.begin-returns-in-Not-clause-came
+begin-returns-in-Not-clause-came g m c = λ S start h k me names size st e l a.
+    let x = c.in-Not in
+    let s = sym (ap (λ d. fits S d names size) x.is ∙ fits-not S names size x.value x.field-1) ∙ l.fits in
+    let under = sub _ l (rw c.get-in-Not.ensures s) in
+    c.negate.ensures.came S start h k me names size st e under (rw c.get-in-Not.ensures (begins _ _ k _ _ _ (shows-not c.args.code.now x.value x.field-1 x.is) a))
+
+pub begin-returns-in-If-clause-kept : goal.begin-returns-in-If-clause-kept
+begin-returns-in-If-clause-kept g m c = λ S names size st e l i p q.
+    let x = c.in-If in
+    let s = sym (ap (λ d. fits S d names size) x.is ∙ fits-if S names size x.condition x.first x.second x.field-3) ∙ l.fits in
+    let under = sub _ l (rw (c.get-in-If.ensures, c.as_slice.ensures, c.as_slice-in-If.ensures) s) in
+    c.choose.ensures.kept S names size st e under i p q
+
+pub begin-returns-in-If-clause-came : goal.begin-returns-in-If-clause-came
+begin-returns-in-If-clause-came g m c = λ S start h k me names size st e l a.
+    let x = c.in-If in
+    let s = sym (ap (λ d. fits S d names size) x.is ∙ fits-if S names size x.condition x.first x.second x.field-3) ∙ l.fits in
+    let under = sub _ l (rw (c.get-in-If.ensures, c.as_slice.ensures, c.as_slice-in-If.ensures) s) in
+    c.choose.ensures.came S start h k me names size st e under (rw (c.get-in-If.ensures, c.as_slice.ensures, c.as_slice-in-If.ensures) (begins _ _ k _ _ _ (shows-if c.args.code.now x.condition x.first x.second x.field-3 x.is) a))
+
+pub both-returns-then-is_left-clause-came : goal.both-returns-then-is_left-clause-came
+both-returns-then-is_left-clause-came g m c = λ S start h k me names size st e l a.
+    let w = c.walk-came in
+    let came = w.ensures.came S start h (Then (RightOfAnd (erase c.args.second.now)) ∷ k) me names size st e (sub (fits S c.args.first.now) l (fst _ _ l.fits)) a in
+    passes S _ start h w.result w.new.self.value w.new.self.leave _ (RightOfAnd (erase c.args.second.now)) k _ _ _ (sym c.is_left.ensures ∙ c.if-is_left.true) came
+
+pub both-returns-then-not-is_true_now-clause-came : goal.both-returns-then-not-is_true_now-clause-came
+both-returns-then-not-is_true_now-clause-came g m c = λ S start h k me names size st e l a.
+    let w = c.walk-came in
+    let came = w.ensures.came S start h (Then (RightOfAnd (erase c.args.second.now)) ∷ k) me names size st e (sub (fits S c.args.first.now) l (fst _ _ l.fits)) a in
+    let none = sym c.is_left.ensures ∙ c.if-is_left.false in
+    let g = given w.result w.new.self.value w.new.self.leave none came in
+    let t = sym (c.is_true_now.ensures none) in
+    comes S _ start h _ k _ _ _ _ _ (gave w.result w.new.self.value w.new.self.leave none) (and_stops (t ∙ c.if-not-is_true_now.true) g)
+
+pub both-returns-clause-came : goal.both-returns-clause-came
+both-returns-clause-came g m c = λ S start h k me names size st e l a.
+    let w = c.walk-came in
+    let came = w.ensures.came S start h (Then (RightOfAnd (erase c.args.second.now)) ∷ k) me names size st e (sub (fits S c.args.first.now) l (fst _ _ l.fits)) a in
+    let none = sym c.is_left.ensures ∙ c.if-is_left.false in
+    let g = given w.result w.new.self.value w.new.self.leave none came in
+    let t = sym (c.is_true_now.ensures none) in
+    let under = moved _ _ w.ensures.base w.ensures.room (sub (fits S c.args.second.now) l (snd _ _ l.fits)) in
+    let f = rw w.ensures.context at c.walk.ensures.came in
+    f S start h k me names size st e under (and_goes (t ∙ c.if-not-is_true_now.false) g)
+
+pub both-returns-then-is_left-clause-kept : goal.both-returns-then-is_left-clause-kept
+both-returns-then-is_left-clause-kept g m c = λ S names size st e l i p q.
+    c.walk-came.ensures.kept S names size st e (sub (fits S c.args.first.now) l (fst _ _ l.fits)) i p q
+
+pub both-returns-clause-kept : goal.both-returns-clause-kept
+both-returns-clause-kept g m c = λ S names size st e l i p q.
+    let w = c.walk-came in
+    let under = moved _ _ w.ensures.base w.ensures.room (sub (fits S c.args.second.now) l (snd _ _ l.fits)) in
+    let f = rw w.ensures.context at c.walk.ensures.kept in
+    f S names size st e under i p (omega (arith, q, w.ensures.base)) ∙ w.ensures.kept S names size st e (sub (fits S c.args.first.now) l (fst _ _ l.fits)) i p q
+
+pub either-returns-then-is_left-clause-kept : goal.either-returns-then-is_left-clause-kept
+either-returns-then-is_left-clause-kept g m c = λ S names size st e l i p q.
+    c.walk-came.ensures.kept S names size st e (sub (fits S c.args.first.now) l (fst _ _ l.fits)) i p q
+
+pub either-returns-clause-kept : goal.either-returns-clause-kept
+either-returns-clause-kept g m c = λ S names size st e l i p q.
+    let w = c.walk-came in
+    let under = moved _ _ w.ensures.base w.ensures.room (sub (fits S c.args.second.now) l (snd _ _ l.fits)) in
+    let f = rw w.ensures.context at c.walk.ensures.kept in
+    f S names size st e under i p (omega (arith, q, w.ensures.base)) ∙ w.ensures.kept S names size st e (sub (fits S c.args.first.now) l (fst _ _ l.fits)) i p q
+
+pub both-returns-then-not-is_true_now-clause-kept : goal.both-returns-then-not-is_true_now-clause-kept
+both-returns-then-not-is_true_now-clause-kept g m c = λ S names size st e l i p q.
+    c.walk-came.ensures.kept S names size st e (sub (fits S c.args.first.now) l (fst _ _ l.fits)) i p q
+
+pub either-returns-then-is_true_now-clause-kept : goal.either-returns-then-is_true_now-clause-kept
+either-returns-then-is_true_now-clause-kept g m c = λ S names size st e l i p q.
+    c.walk-came.ensures.kept S names size st e (sub (fits S c.args.first.now) l (fst _ _ l.fits)) i p q
+
+pub either-returns-then-is_left-clause-came : goal.either-returns-then-is_left-clause-came
+either-returns-then-is_left-clause-came g m c = λ S start h k me names size st e l a.
+    let w = c.walk-came in
+    let came = w.ensures.came S start h (Then (RightOfOr (erase c.args.second.now)) ∷ k) me names size st e (sub (fits S c.args.first.now) l (fst _ _ l.fits)) a in
+    passes S _ start h w.result w.new.self.value w.new.self.leave _ (RightOfOr (erase c.args.second.now)) k _ _ _ (sym c.is_left.ensures ∙ c.if-is_left.true) came
+
+pub either-returns-then-is_true_now-clause-came : goal.either-returns-then-is_true_now-clause-came
+either-returns-then-is_true_now-clause-came g m c = λ S start h k me names size st e l a.
+    let w = c.walk-came in
+    let came = w.ensures.came S start h (Then (RightOfOr (erase c.args.second.now)) ∷ k) me names size st e (sub (fits S c.args.first.now) l (fst _ _ l.fits)) a in
+    let none = sym c.is_left.ensures ∙ c.if-is_left.false in
+    let g = given w.result w.new.self.value w.new.self.leave none came in
+    let t = sym (c.is_true_now.ensures none) in
+    comes S _ start h _ k _ _ _ _ _ (gave w.result w.new.self.value w.new.self.leave none) (or_stops (t ∙ c.if-is_true_now.true) g)
+
+pub either-returns-clause-came : goal.either-returns-clause-came
+either-returns-clause-came g m c = λ S start h k me names size st e l a.
+    let w = c.walk-came in
+    let came = w.ensures.came S start h (Then (RightOfOr (erase c.args.second.now)) ∷ k) me names size st e (sub (fits S c.args.first.now) l (fst _ _ l.fits)) a in
+    let none = sym c.is_left.ensures ∙ c.if-is_left.false in
+    let g = given w.result w.new.self.value w.new.self.leave none came in
+    let t = sym (c.is_true_now.ensures none) in
+    let under = moved _ _ w.ensures.base w.ensures.room (sub (fits S c.args.second.now) l (snd _ _ l.fits)) in
+    let f = rw w.ensures.context at c.walk.ensures.came in
+    f S start h k me names size st e under (or_goes (t ∙ c.if-is_true_now.false) g)
+
+pub negate-returns-then-is_left-clause-came : goal.negate-returns-then-is_left-clause-came
+negate-returns-then-is_left-clause-came g m c = λ S start h k me names size st e l a.
+    let w = c.walk-came in
+    let came = w.ensures.came S start h (Then Negate ∷ k) me names size st e (sub (fits S c.args.value.now) l l.fits) a in
+    passes S _ start h w.result w.new.self.value w.new.self.leave _ Negate k _ _ _ (sym c.is_left.ensures ∙ c.if-is_left.true) came
+
+pub negate-returns-then-is_true_now-clause-came : goal.negate-returns-then-is_true_now-clause-came
+negate-returns-then-is_true_now-clause-came g m c = λ S start h k me names size st e l a.
+    let w = c.walk-came in
+    let came = w.ensures.came S start h (Then Negate ∷ k) me names size st e (sub (fits S c.args.value.now) l l.fits) a in
+    let none = sym c.is_left.ensures ∙ c.if-is_left.false in
+    let g = given w.result w.new.self.value w.new.self.leave none came in
+    let t = sym (c.is_true_now.ensures none) in
+    negated true (t ∙ c.if-is_true_now.true) g
+
+pub negate-returns-else-is_true_now-clause-came : goal.negate-returns-else-is_true_now-clause-came
+negate-returns-else-is_true_now-clause-came g m c = λ S start h k me names size st e l a.
+    let w = c.walk-came in
+    let came = w.ensures.came S start h (Then Negate ∷ k) me names size st e (sub (fits S c.args.value.now) l l.fits) a in
+    let none = sym c.is_left.ensures ∙ c.if-is_left.false in
+    let g = given w.result w.new.self.value w.new.self.leave none came in
+    let t = sym (c.is_true_now.ensures none) in
+    negated false (t ∙ c.if-is_true_now.false) g
+
+pub choose-returns-then-is_left-clause-came : goal.choose-returns-then-is_left-clause-came
+choose-returns-then-is_left-clause-came g m c = λ S start h k me names size st e l a.
+    let w = c.walk-came in
+    let came = w.ensures.came S start h (Then (Choose (map erase c.args.first.now) (map erase c.args.second.now)) ∷ k) me names size st e (sub (fits S c.args.condition.now) l (fst _ _ l.fits)) a in
+    passes S _ start h w.result w.new.self.value w.new.self.leave _ (Choose (map erase c.args.first.now) (map erase c.args.second.now)) k _ _ _ (sym c.is_left.ensures ∙ c.if-is_left.true) came
+
+pub choose-returns-then-is_left-clause-kept : goal.choose-returns-then-is_left-clause-kept
+choose-returns-then-is_left-clause-kept g m c = λ S names size st e l i p q.
+    c.walk-came.ensures.kept S names size st e (sub (fits S c.args.condition.now) l (fst _ _ l.fits)) i p q
+
+pub choose-returns-then-is_true_now-clause-came : goal.choose-returns-then-is_true_now-clause-came
+choose-returns-then-is_true_now-clause-came g m c = λ S start h k me names size st e l a.
+    let w = c.walk-came in
+    let came = w.ensures.came S start h (Then (Choose (map erase c.args.first.now) (map erase c.args.second.now)) ∷ k) me names size st e (sub (fits S c.args.condition.now) l (fst _ _ l.fits)) a in
+    let none = sym c.is_left.ensures ∙ c.if-is_left.false in
+    let g = given w.result w.new.self.value w.new.self.leave none came in
+    let t = sym (c.is_true_now.ensures none) in
+    let under = moved _ _ w.ensures.base w.ensures.room (sub (every (map (fits S) c.args.first.now)) l (fst _ _ (snd _ _ l.fits))) in
+    let f = rw w.ensures.context at c.body.ensures.came in
+    f S start h k me names size st e under (chosen_first (t ∙ c.if-is_true_now.true) g)
+
+pub choose-returns-clause-came : goal.choose-returns-clause-came
+choose-returns-clause-came g m c = λ S start h k me names size st e l a.
+    let w = c.walk-came in
+    let came = w.ensures.came S start h (Then (Choose (map erase c.args.first.now) (map erase c.args.second.now)) ∷ k) me names size st e (sub (fits S c.args.condition.now) l (fst _ _ l.fits)) a in
+    let none = sym c.is_left.ensures ∙ c.if-is_left.false in
+    let g = given w.result w.new.self.value w.new.self.leave none came in
+    let t = sym (c.is_true_now.ensures none) in
+    let under = moved _ _ w.ensures.base w.ensures.room (sub (every (map (fits S) c.args.second.now)) l (snd _ _ (snd _ _ l.fits))) in
+    let f = rw w.ensures.context at c.body-2.ensures.came in
+    f S start h k me names size st e under (chosen_second (t ∙ c.if-is_true_now.false) g)
+
+pub choose-returns-then-is_true_now-clause-kept : goal.choose-returns-then-is_true_now-clause-kept
+choose-returns-then-is_true_now-clause-kept g m c = λ S names size st e l i p q.
+    let w = c.walk-came in
+    let under = moved _ _ w.ensures.base w.ensures.room (sub (every (map (fits S) c.args.first.now)) l (fst _ _ (snd _ _ l.fits))) in
+    let f = rw w.ensures.context at c.body.ensures.kept in
+    f S names size st e under i p (omega (arith, q, w.ensures.base)) ∙ w.ensures.kept S names size st e (sub (fits S c.args.condition.now) l (fst _ _ l.fits)) i p q
+
+pub choose-returns-clause-kept : goal.choose-returns-clause-kept
+choose-returns-clause-kept g m c = λ S names size st e l i p q.
+    let w = c.walk-came in
+    let under = moved _ _ w.ensures.base w.ensures.room (sub (every (map (fits S) c.args.second.now)) l (snd _ _ (snd _ _ l.fits))) in
+    let f = rw w.ensures.context at c.body-2.ensures.kept in
+    f S names size st e under i p (omega (arith, q, w.ensures.base)) ∙ w.ensures.kept S names size st e (sub (fits S c.args.condition.now) l (fst _ _ l.fits)) i p q
+
+pub body-returns-then-is_left-clause-kept : goal.body-returns-then-is_left-clause-kept
+body-returns-then-is_left-clause-kept g m c = λ S names size st e l i p q.
+    let loop = c.nodes in
+    let inv = loop.invariant in
+    let item = next_item _ _ c.node-item.result c.nodes-test.true c.node-item.is in
+    let right = every_item S _ _ c.node-item.result names size c.nodes-test.true c.node-item.is l.fits in
+    let under = moved _ _ inv.base inv.room (sub (fits S c.node-item.result) l right) in
+    let f = rw inv.context at c.walk-came.ensures.kept in
+    f S names size st e under i p (omega (arith, q, inv.base)) ∙ inv.kept S names size st e l i p q
+
+pub body-returns-then-is_left-clause-came : goal.body-returns-then-is_left-clause-came
+body-returns-then-is_left-clause-came g m c = λ S start h k me names size st e l a.
+    let loop = c.nodes in
+    let inv = loop.invariant in
+    let item = next_item _ _ c.node-item.result c.nodes-test.true c.node-item.is in
+    let right = every_item S _ _ c.node-item.result names size c.nodes-test.true c.node-item.is l.fits in
+    let under = moved _ _ inv.base inv.room (sub (fits S c.node-item.result) l right) in
+    let h1 = on _ (follows _ (sym (ap (map erase) item)) (inv.came S start h k me names size st e l a)) refl in
+    let f = rw inv.context at c.walk-came.ensures.came in
+    let come = f S start h (Then (Rest (map erase (drop (loop.node-index + 1) c.args.nodes.now))) ∷ k) me names size st e under h1 in
+    passes S _ start h c.walk-came.result c.walk-came.new.self.value c.walk-came.new.self.leave _ (Rest (map erase (drop (loop.node-index + 1) c.args.nodes.now))) k _ _ _ (sym c.is_left.ensures ∙ c.if-is_left.true) come
+
+pub body-returns-clause-came : goal.body-returns-clause-came
+body-returns-clause-came g m c = λ S start h k me names size st e l a.
+    let inv = c.nodes.invariant in
+    comes S _ start h _ k _ _ _ _ _ (gave _ _ _ inv.going) (on _ (follows [] (sym (ap (map erase) (drop_all _ _ c.nodes-test.false))) (inv.came S start h k me names size st e l a)) refl)
+
+pub body-nodes-preserved : goal.body-nodes-preserved
+body-nodes-preserved g m c =
+    let w = c.walk-came.ensures in
+    let old = c.nodes.invariant in
+    record {
+      base = w.base ∙ old.base;
+      context = w.context ∙ old.context;
+      room = w.room ∙ old.room;
+      less = omega (arith, w.less, old.less);
+      unended = w.unended;
+      going = sym c.is_left.ensures ∙ c.if-is_left.false;
+      kept = λ S names size st e l i p q.
+    let loop = c.nodes in
+    let inv = loop.invariant in
+    let item = next_item _ _ c.node-item.result c.nodes-test.true c.node-item.is in
+    let right = every_item S _ _ c.node-item.result names size c.nodes-test.true c.node-item.is l.fits in
+    let under = moved _ _ inv.base inv.room (sub (fits S c.node-item.result) l right) in
+    let f = rw inv.context at c.walk-came.ensures.kept in
+    f S names size st e under i p (omega (arith, q, inv.base)) ∙ inv.kept S names size st e l i p q;
+      came = λ S start h k me names size st e l a.
+    let loop = c.nodes in
+    let inv = loop.invariant in
+    let item = next_item _ _ c.node-item.result c.nodes-test.true c.node-item.is in
+    let right = every_item S _ _ c.node-item.result names size c.nodes-test.true c.node-item.is l.fits in
+    let under = moved _ _ inv.base inv.room (sub (fits S c.node-item.result) l right) in
+    let h1 = on _ (follows _ (sym (ap (map erase) item)) (inv.came S start h k me names size st e l a)) refl in
+    let f = rw inv.context at c.walk-came.ensures.came in
+    let come = f S start h (Then (Rest (map erase (drop (loop.node-index + 1) c.args.nodes.now))) ∷ k) me names size st e under h1 in
+    on _ (given c.walk-came.result c.walk-came.new.self.value c.walk-came.new.self.leave (sym c.is_left.ensures ∙ c.if-is_left.false) come) refl;
+    }
+
+pub begin-returns-in-Local-clause-came : goal.begin-returns-in-Local-clause-came
+begin-returns-in-Local-clause-came g m c = λ S start h k me names size st e l a.
+    let x = c.in-Local in
+    let len : length names ≤ length c.args.room.now = omega (arith, l.within, l.below, l.room) in
+    let s = sym (ap (λ d. fits S d names size) x.is ∙ fits-local S names size x.slot x.field-1 x.field-2) ∙ l.fits in
+    let b = begins _ _ k _ _ _ (shows-local c.args.code.now x.slot x.field-1 x.field-2 x.is) a in
+    ?
+
+pub begin-returns-in-SetLocal-clause-kept : goal.begin-returns-in-SetLocal-clause-kept
+begin-returns-in-SetLocal-clause-kept g m c = λ S names size st e l i p q.
+    let x = c.in-SetLocal in
+    let s = sym (ap (λ d. fits S d names size) x.is ∙ fits-set_local S names size x.slot x.field-1 x.value x.field-3) ∙ l.fits in
+    let under = sub _ l (rw c.get.ensures s) in
+    c.set_local.ensures.kept x.field-1 S names size st e under i p q
+
+pub begin-returns-in-SetLocal-clause-came : goal.begin-returns-in-SetLocal-clause-came
+begin-returns-in-SetLocal-clause-came g m c = λ S start h k me names size st e l a.
+    let x = c.in-SetLocal in
+    let s = sym (ap (λ d. fits S d names size) x.is ∙ fits-set_local S names size x.slot x.field-1 x.value x.field-3) ∙ l.fits in
+    let under = sub _ l (rw c.get.ensures s) in
+    c.set_local.ensures.came x.field-1 S start h k me names size st e under (rw c.get.ensures (begins _ _ k _ _ _ (shows-set_local c.args.code.now x.slot x.field-1 x.value x.field-3 x.is) a))
+
+pub begin-returns-in-While-clause-kept : goal.begin-returns-in-While-clause-kept
+begin-returns-in-While-clause-kept g m c = λ S names size st e l i p q.
+    let x = c.in-While in
+    let s = sym (ap (λ d. fits S d names size) x.is ∙ fits-while S names size x.condition x.body x.field-2) ∙ l.fits in
+    let under = sub _ l (rw (c.get-in-While.ensures, c.as_slice-in-While.ensures) s) in
+    c.repeat.ensures.kept S names size st e under i p q
+
+pub begin-returns-in-While-clause-came : goal.begin-returns-in-While-clause-came
+begin-returns-in-While-clause-came g m c = λ S start h k me names size st e l a.
+    let x = c.in-While in
+    let s = sym (ap (λ d. fits S d names size) x.is ∙ fits-while S names size x.condition x.body x.field-2) ∙ l.fits in
+    let under = sub _ l (rw (c.get-in-While.ensures, c.as_slice-in-While.ensures) s) in
+    c.repeat.ensures.came S start h k me names size st e under (rw (c.get-in-While.ensures, c.as_slice-in-While.ensures) (begins _ _ k _ _ _ (shows-while c.args.code.now x.condition x.body x.field-2 x.is) a))
+
+pub leave_with-returns-then-is_left-clause-came : goal.leave_with-returns-then-is_left-clause-came
+leave_with-returns-then-is_left-clause-came g m c = λ S start h k me names size st e l a.
+    let w = c.walk-came in
+    let came = w.ensures.came S start h (Then ReturnOf ∷ k) me names size st e (sub (fits S c.args.value.now) l l.fits) a in
+    passes S _ start h w.result w.new.self.value w.new.self.leave _ ReturnOf k _ _ _ (sym c.is_left.ensures ∙ c.if-is_left.true) came
+
+pub leave_with-returns-clause-came : goal.leave_with-returns-clause-came
+leave_with-returns-clause-came g m c = λ S start h k me names size st e l a.
+    let w = c.walk-came in
+    let came = w.ensures.came S start h (Then ReturnOf ∷ k) me names size st e (sub (fits S c.args.value.now) l l.fits) a in
+    let none = sym c.is_left.ensures ∙ c.if-is_left.false in
+    let g = given w.result w.new.self.value w.new.self.leave none came in
+    rw (c.take.ensures.value, c.take.ensures.left, c.take.ensures.store) (on _ g refl)
+
+pub set_local-returns-then-is_left-clause-kept : goal.set_local-returns-then-is_left-clause-kept
+set_local-returns-then-is_left-clause-kept g m c = λ name S names size st e l i p q. c.walk-came.ensures.kept S names size st e (sub (fits S c.args.value.now) l (snd _ _ l.fits)) i p q
+
+pub set_local-returns-then-is_left-clause-came : goal.set_local-returns-then-is_left-clause-came
+set_local-returns-then-is_left-clause-came g m c = λ name S start h k me names size st e l a.
+    let w = c.walk-came in
+    let come = w.ensures.came S start h (Then (AssignTo name) ∷ k) me names size st e (sub (fits S c.args.value.now) l (snd _ _ l.fits)) a in
+    passes S _ start h w.result w.new.self.value w.new.self.leave _ (AssignTo name) k _ _ _ (sym c.is_left.ensures ∙ c.if-is_left.true) come
+
+pub set_local-returns-clause-kept : goal.set_local-returns-clause-kept
+set_local-returns-clause-kept g m c = λ name S names size st e l i p q.
+    let w = c.walk-came in
+    let s = slot_within name names c.args.slot (fst _ _ l.fits) in
+    kept_write c.args.slot i _ _ _ _ (λ z. omega (arith, z, s, l.within, p)) c.write.ensures.written ∙ w.ensures.kept S names size st e (sub (fits S c.args.value.now) l (snd _ _ l.fits)) i p q
+
+pub set_local-returns-clause-came : goal.set_local-returns-clause-came
+set_local-returns-clause-came g m c = λ name S start h k me names size st e l a.
+    let w = c.walk-came in
+    let come = w.ensures.came S start h (Then (AssignTo name) ∷ k) me names size st e (sub (fits S c.args.value.now) l (snd _ _ l.fits)) a in
+    let none = sym c.is_left.ensures ∙ c.if-is_left.false in
+    let v = given w.result w.new.self.value w.new.self.leave none come in
+    let len : length names ≤ length w.new.room = omega (arith, l.within, l.below, l.room, w.ensures.room) in
+    rw (c.write.ensures.left, c.write.ensures.store) (assigned name names c.args.slot w.new.room c.write.new.room (value_of w.result w.new.self.value) me _ len (fst _ _ l.fits) c.write.ensures.written v)
+
+pub repeat-returns-then-not-goes_on-clause-came : goal.repeat-returns-then-not-goes_on-clause-came
+repeat-returns-then-not-goes_on-clause-came g m c = λ S start h k me names size st e l a.
+    let inv = c.turns.invariant in
+    let w = c.walk-came in
+    let under = moved _ _ inv.base inv.room (sub (fits S c.args.condition.now) l (fst _ _ l.fits)) in
+    let i1 = on _ (inv.came S start h k me names size st e l a) refl in
+    let f = rw inv.context at w.ensures.came in
+    let e1 = f S start h (Test (erase c.args.condition.now) (map erase c.args.body.now) ∷ k) me names size st e under i1 in
+    let stop = sym c.goes_on.ensures ∙ c.if-not-goes_on.true in
+    rw (c.out_of_loop.ensures stop) (tested_out S _ start h _ _ (erase c.args.condition.now) (map erase c.args.body.now) k _ _ _ stop e1)
+
+pub repeat-returns-then-not-is_true_now-clause-came : goal.repeat-returns-then-not-is_true_now-clause-came
+repeat-returns-then-not-is_true_now-clause-came g m c = λ S start h k me names size st e l a.
+    let inv = c.turns.invariant in
+    let w = c.walk-came in
+    let under = moved _ _ inv.base inv.room (sub (fits S c.args.condition.now) l (fst _ _ l.fits)) in
+    let i1 = on _ (inv.came S start h k me names size st e l a) refl in
+    let f = rw inv.context at w.ensures.came in
+    let e1 = f S start h (Test (erase c.args.condition.now) (map erase c.args.body.now) ∷ k) me names size st e under i1 in
+    let none = sym c.is_left.ensures ∙ c.if-is_left.false in
+    let v = given w.result w.new.self.value w.new.self.leave none e1 in
+    let t = sym (c.is_true_now.ensures none) in
+    test_false (t ∙ c.if-not-is_true_now.true) v
+
+pub repeat-returns-then-not-goes_on-2-clause-came : goal.repeat-returns-then-not-goes_on-2-clause-came
+repeat-returns-then-not-goes_on-2-clause-came g m c = λ S start h k me names size st e l a.
+    let inv = c.turns.invariant in
+    let w = c.walk-came in
+    let under = moved _ _ inv.base inv.room (sub (fits S c.args.condition.now) l (fst _ _ l.fits)) in
+    let i1 = on _ (inv.came S start h k me names size st e l a) refl in
+    let f = rw inv.context at w.ensures.came in
+    let e1 = f S start h (Test (erase c.args.condition.now) (map erase c.args.body.now) ∷ k) me names size st e under i1 in
+    let none = sym c.is_left.ensures ∙ c.if-is_left.false in
+    let v = given w.result w.new.self.value w.new.self.leave none e1 in
+    let t = sym (c.is_true_now.ensures none) in
+    let y = c.body-came in
+    let within = moved _ _ (w.ensures.base ∙ inv.base) (w.ensures.room ∙ inv.room) (sub (every (map (fits S) c.args.body.now)) l (snd _ _ l.fits)) in
+    let m1 = test_true (t ∙ c.if-not-is_true_now.false) v in
+    let j = rw (w.ensures.context, inv.context) at y.ensures.came in
+    let e2 = j S start h (Again (erase c.args.condition.now) (map erase c.args.body.now) ∷ k) me names size st e within m1 in
+    let stop = sym c.goes_on-in-turns.ensures ∙ c.if-not-goes_on-2.true in
+    rw (c.out_of_loop-then-not-goes_on-2.ensures stop) (again_out S _ start h _ _ (erase c.args.condition.now) (map erase c.args.body.now) k _ _ _ stop e2)
+
+pub repeat-turns-preserved : goal.repeat-turns-preserved
+repeat-turns-preserved g m c =
+    let w = c.walk-came.ensures in
+    let old = c.turns.invariant in
+    let y = c.body-came.ensures in
+    record {
+      base = y.base ∙ (w.base ∙ old.base);
+      context = y.context ∙ (w.context ∙ old.context);
+      room = y.room ∙ (w.room ∙ old.room);
+      less = omega (arith, y.less, w.less, old.less);
+      unended = y.unended;
+      kept = λ S names size st e l i p q.
+    let inv = c.turns.invariant in
+    let w = c.walk-came in
+    let under = moved _ _ inv.base inv.room (sub (fits S c.args.condition.now) l (fst _ _ l.fits)) in
+    let y = c.body-came in
+    let within = moved _ _ (w.ensures.base ∙ inv.base) (w.ensures.room ∙ inv.room) (sub (every (map (fits S) c.args.body.now)) l (snd _ _ l.fits)) in
+    let f = rw inv.context at w.ensures.kept in
+    let j = rw (w.ensures.context, inv.context) at y.ensures.kept in
+    j S names size st e within i p (omega (arith, q, w.ensures.base, inv.base)) ∙ (f S names size st e under i p (omega (arith, q, inv.base)) ∙ inv.kept S names size st e l i p q);
+      came = λ S start h k me names size st e l a.
+    let inv = c.turns.invariant in
+    let w = c.walk-came in
+    let under = moved _ _ inv.base inv.room (sub (fits S c.args.condition.now) l (fst _ _ l.fits)) in
+    let i1 = on _ (inv.came S start h k me names size st e l a) refl in
+    let f = rw inv.context at w.ensures.came in
+    let e1 = f S start h (Test (erase c.args.condition.now) (map erase c.args.body.now) ∷ k) me names size st e under i1 in
+    let none = sym c.is_left.ensures ∙ c.if-is_left.false in
+    let v = given w.result w.new.self.value w.new.self.leave none e1 in
+    let t = sym (c.is_true_now.ensures none) in
+    let y = c.body-came in
+    let within = moved _ _ (w.ensures.base ∙ inv.base) (w.ensures.room ∙ inv.room) (sub (every (map (fits S) c.args.body.now)) l (snd _ _ l.fits)) in
+    let m1 = test_true (t ∙ c.if-not-is_true_now.false) v in
+    let j = rw (w.ensures.context, inv.context) at y.ensures.came in
+    let e2 = j S start h (Again (erase c.args.condition.now) (map erase c.args.body.now) ∷ k) me names size st e within m1 in
+    again S _ start h _ _ (erase c.args.condition.now) (map erase c.args.body.now) k _ _ _ (sym c.goes_on-in-turns.ensures ∙ c.if-not-goes_on-2.false) e2;
+    }
+
+pub repeat-turns-preserved-then-is_left : goal.repeat-turns-preserved-then-is_left
+repeat-turns-preserved-then-is_left g m c =
+    let w = c.walk-came.ensures in
+    let old = c.turns.invariant in
+    record {
+      base = w.base ∙ old.base;
+      context = w.context ∙ old.context;
+      room = w.room ∙ old.room;
+      less = omega (arith, w.less, old.less);
+      unended = w.unended;
+      kept = λ S names size st e l i p q.
+    let inv = c.turns.invariant in
+    let w = c.walk-came in
+    let under = moved _ _ inv.base inv.room (sub (fits S c.args.condition.now) l (fst _ _ l.fits)) in
+    let f = rw inv.context at w.ensures.kept in
+    f S names size st e under i p (omega (arith, q, inv.base)) ∙ inv.kept S names size st e l i p q;
+      came = λ S start h k me names size st e l a.
+    let inv = c.turns.invariant in
+    let w = c.walk-came in
+    let under = moved _ _ inv.base inv.room (sub (fits S c.args.condition.now) l (fst _ _ l.fits)) in
+    let i1 = on _ (inv.came S start h k me names size st e l a) refl in
+    let f = rw inv.context at w.ensures.came in
+    let e1 = f S start h (Test (erase c.args.condition.now) (map erase c.args.body.now) ∷ k) me names size st e under i1 in
+    let z = gone w.result w.new.self.value w.new.self.leave (sym c.is_left.ensures ∙ c.if-is_left.true) in
+    tested_again S _ start h w.new.self.leave w.new.self.value _ (erase c.args.condition.now) (map erase c.args.body.now) k _ _ _ (ap goes_on (sym z) ∙ (sym c.goes_on.ensures ∙ c.if-not-goes_on.false)) (comes S _ start h _ _ _ _ _ _ _ (sym z) e1);
+    }

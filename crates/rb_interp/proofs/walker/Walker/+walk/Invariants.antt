@@ -1,0 +1,154 @@
+use Rattle.std.proofs.Common.{take, ◌≡◌, ◌≤◌, ◌+◌, ◌-◌, ◌*◌, ℕ, List, [], ◌∷◌, drop, map, length, false}
+use Rattle.std.specs.Prelude.{ℤ, pos, ◌+ℤ◌, OnOk}
+use Rattle.rb_tree.specs.declared.span.Span.{Span}
+use Rattle.rb_model.specs.Values.{Value as Val, Nil, Int, plain}
+use Rattle.rb_model.specs.Log.{has_end}
+use Rattle.rb_machine.specs.Scopes.{Script, Scope}
+use Rattle.rb_machine.specs.Control.{State, On, Cont, Following, Looping, Turning, Counting, Passing, Joining, Aim}
+use Rattle.rb_machine.specs.Follows.{At}
+use Rattle.rb_code.specs.Erase.{erase, erase_block, erase_piece}
+use Rattle.rb_code.specs.Resolved.{fits, piece_fits, block_fits, every}
+use Rattle.rb_interp.specs.Outcome.{is_left, value_of}
+use Rattle.rb_interp.specs.Carries.{Keeps, Reaches, both}
+use Rattle.rb_interp.proofs.walker.Walker.+walk.Given as goal
+
+abbrev pub decreases-walk : goal.decreases-walk
+decreases-walk g l = 9 * (1001 - l.depth)
+
+abbrev pub decreases-begin : goal.decreases-begin
+decreases-begin g l = 9 * (1001 - l.depth) + 8
+
+abbrev pub decreases-set_local : goal.decreases-set_local
+decreases-set_local g l = 9 * (1001 - l.depth) + 1
+
+abbrev pub decreases-update_local : goal.decreases-update_local
+decreases-update_local g l = 9 * (1001 - l.depth) + 2
+
+abbrev pub decreases-operate : goal.decreases-operate
+decreases-operate g l = 9 * (1001 - l.depth) + 1
+
+abbrev pub decreases-send : goal.decreases-send
+decreases-send g l = 9 * (1001 - l.depth) + 2
+
+abbrev pub decreases-store_by : goal.decreases-store_by
+decreases-store_by g l = 9 * (1001 - l.depth) + 2
+
+abbrev pub decreases-send_block : goal.decreases-send_block
+decreases-send_block g l = 9 * (1001 - l.depth) + 4
+
+abbrev pub decreases-turns : goal.decreases-turns
+decreases-turns g l = 9 * (1001 - l.depth) + 3
+
+abbrev pub decreases-function : goal.decreases-function
+decreases-function g l = 9 * (1001 - l.depth) + 3
+
+abbrev pub decreases-print : goal.decreases-print
+decreases-print g l = 9 * (1001 - l.depth) + 2
+
+abbrev pub decreases-read_element : goal.decreases-read_element
+decreases-read_element g l = 9 * (1001 - l.depth) + 1
+
+abbrev pub decreases-update_attribute : goal.decreases-update_attribute
+decreases-update_attribute g l = 9 * (1001 - l.depth) + 3
+
+abbrev pub decreases-refuse_attribute : goal.decreases-refuse_attribute
+decreases-refuse_attribute g l = 9 * (1001 - l.depth) + 2
+
+abbrev pub decreases-refuse_value : goal.decreases-refuse_value
+decreases-refuse_value g l = 9 * (1001 - l.depth) + 1
+
+abbrev pub decreases-arguments : goal.decreases-arguments
+decreases-arguments g l = 9 * (1001 - l.depth) + 1
+
+abbrev pub decreases-text : goal.decreases-text
+decreases-text g l = 9 * (1001 - l.depth) + 1
+
+abbrev pub decreases-both : goal.decreases-both
+decreases-both g l = 9 * (1001 - l.depth) + 1
+
+abbrev pub decreases-either : goal.decreases-either
+decreases-either g l = 9 * (1001 - l.depth) + 1
+
+abbrev pub decreases-negate : goal.decreases-negate
+decreases-negate g l = 9 * (1001 - l.depth) + 1
+
+abbrev pub decreases-choose : goal.decreases-choose
+decreases-choose g l = 9 * (1001 - l.depth) + 2
+
+abbrev pub decreases-body : goal.decreases-body
+decreases-body g l = 9 * (1001 - l.depth) + 1
+
+abbrev pub decreases-repeat : goal.decreases-repeat
+decreases-repeat g l = 9 * (1001 - l.depth) + 2
+
+abbrev pub decreases-leave_with : goal.decreases-leave_with
+decreases-leave_with g l = 9 * (1001 - l.depth) + 1
+
+abbrev pub invariant-body-nodes : goal.invariant-body-nodes
+invariant-body-nodes g l =
+    record {
+      base : l.self.base ≡ l.fn.self.base;
+      context : l.self.context ≡ l.fn.self.context;
+      room : length l.room ≡ length l.fn.room;
+      less : l.self.left ≤ l.fn.self.left;
+      unended : has_end (g.O.OneStore.log l.self.store).entries ≡ false;
+      going : is_left l.came ≡ false;
+      kept : Keeps l.fn.self.context.script.now l.fn.self.context.names.now (λ S. every (map (fits S) l.nodes)) l.fn.self.base l.fn.room l.room;
+      came : Reaches l.fn.self.context.script.now l.fn.self.context.names.now l.fn.self.context.steps (λ S. every (map (fits S) l.nodes)) (λ S k sc d n. On (Following Nil (map erase l.nodes)) k sc d n) (λ S k sc d n. On (Following (value_of l.came l.self.value) (map erase (drop l.node-index l.nodes))) k sc d n) l.fn.self.base l.depth l.fn.self.left l.self.left l.fn.room l.room (g.O.OneStore.log l.fn.self.store) (g.O.OneStore.log l.self.store);
+    }
+
+abbrev pub invariant-repeat-turns : goal.invariant-repeat-turns
+invariant-repeat-turns g l =
+    record {
+      base : l.self.base ≡ l.fn.self.base;
+      context : l.self.context ≡ l.fn.self.context;
+      room : length l.room ≡ length l.fn.room;
+      less : l.self.left ≤ l.fn.self.left;
+      unended : has_end (g.O.OneStore.log l.self.store).entries ≡ false;
+      kept : Keeps l.fn.self.context.script.now l.fn.self.context.names.now (both (λ S. fits S l.condition) (λ S. every (map (fits S) l.body))) l.fn.self.base l.fn.room l.room;
+      came : Reaches l.fn.self.context.script.now l.fn.self.context.names.now l.fn.self.context.steps (both (λ S. fits S l.condition) (λ S. every (map (fits S) l.body))) (λ S k sc d n. On (Looping (erase l.condition) (map erase l.body)) k sc d n) (λ S k sc d n. On (Looping (erase l.condition) (map erase l.body)) k sc d n) l.fn.self.base l.depth l.fn.self.left l.self.left l.fn.room l.room (g.O.OneStore.log l.fn.self.store) (g.O.OneStore.log l.self.store);
+    }
+
+abbrev pub decreases-repeat-turns : goal.decreases-repeat-turns
+decreases-repeat-turns g l = l.self.left
+
+abbrev pub invariant-turns-turns : goal.invariant-turns-turns
+invariant-turns-turns g l =
+    record {
+      base : l.self.base ≡ l.fn.self.base;
+      context : l.self.context ≡ l.fn.self.context;
+      room : length l.room ≡ length l.fn.room;
+      less : l.self.left ≤ l.fn.self.left;
+      unended : has_end (g.O.OneStore.log l.self.store).entries ≡ false;
+      kept : Keeps l.fn.self.context.script.now l.fn.self.context.names.now (λ S. block_fits S l.block) l.fn.self.base l.fn.room l.room;
+      came : Reaches l.fn.self.context.script.now l.fn.self.context.names.now l.fn.self.context.steps (λ S. block_fits S l.block) (λ S k sc d n. On (Turning (Counting l.fn.first (l.last +ℤ pos 1) (Int l.answer)) (erase_block l.block)) k sc d n) (λ S k sc d n. On (Turning (Counting l.next (l.last +ℤ pos 1) (Int l.answer)) (erase_block l.block)) k sc d n) l.fn.self.base l.depth l.fn.self.left l.self.left l.fn.room l.room (g.O.OneStore.log l.fn.self.store) (g.O.OneStore.log l.self.store);
+    }
+
+abbrev pub decreases-turns-turns : goal.decreases-turns-turns
+decreases-turns-turns g l = l.self.left
+
+abbrev pub invariant-text-pieces : goal.invariant-text-pieces
+invariant-text-pieces g l =
+    record {
+      base : l.self.base ≡ l.fn.self.base;
+      context : l.self.context ≡ l.fn.self.context;
+      room : length l.room ≡ length l.fn.room;
+      less : l.self.left ≤ l.fn.self.left;
+      unended : has_end (g.O.OneStore.log l.self.store).entries ≡ false;
+      kept : Keeps l.fn.self.context.script.now l.fn.self.context.names.now (λ S. every (map (piece_fits S) l.pieces)) l.fn.self.base l.fn.room l.room;
+      came : Reaches l.fn.self.context.script.now l.fn.self.context.names.now l.fn.self.context.steps (λ S. every (map (piece_fits S) l.pieces)) (λ S k sc d n. On (Joining [] (map erase_piece l.pieces) l.at) k sc d n) (λ S k sc d n. On (Joining l.bytes.items (map erase_piece (drop l.piece-index l.pieces)) l.at) k sc d n) l.fn.self.base l.depth l.fn.self.left l.self.left l.fn.room l.room (g.O.OneStore.log l.fn.self.store) (g.O.OneStore.log l.self.store);
+    }
+
+abbrev pub invariant-arguments-each : goal.invariant-arguments-each
+invariant-arguments-each g l =
+    record {
+      base : l.self.base ≡ l.fn.self.base + l.arg-index;
+      bound : l.fn.self.base ≤ length l.fn.room → l.self.base ≤ length l.room;
+      context : l.self.context ≡ l.fn.self.context;
+      room : length l.room ≡ length l.fn.room;
+      less : l.self.left ≤ l.fn.self.left;
+      unended : has_end (g.O.OneStore.log l.self.store).entries ≡ false;
+      kept : Keeps l.fn.self.context.script.now l.fn.self.context.names.now (λ S. every (map (fits S) l.args)) l.fn.self.base l.fn.room l.room;
+      came : (aim : Aim) (at : Span) → Reaches l.fn.self.context.script.now l.fn.self.context.names.now l.fn.self.context.steps (λ S. every (map (fits S) l.args)) (λ S k sc d n. On (Passing aim [] (map erase l.args) at) k sc d n)
+          (λ S k sc d n. On (Passing aim (map plain (take l.arg-index (drop l.fn.self.base l.room))) (map erase (drop l.arg-index l.args)) at) k sc d n) l.fn.self.base l.depth l.fn.self.left l.self.left l.fn.room l.room (g.O.OneStore.log l.fn.self.store) (g.O.OneStore.log l.self.store);
+    }

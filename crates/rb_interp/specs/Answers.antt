@@ -1,0 +1,74 @@
+-- What the parts of the walk that call nothing of it answer.
+use Rattle.std.specs.Prelude.{◌≡◌, ◌⊎◌, ◌≤◌, ◌<◌, ◌-◌, ℕ, ℤ, Bool, true, false, List, [], ◌∷◌, length, map, slice_set, Option, Some, None}
+use Rattle.rb_tree.specs.declared.span.Span.{Span}
+use Rattle.rb_tree.specs.declared.span.NameId.{NameId}
+use Rattle.rb_tree.specs.declared.node.AssignOp.{AssignOp}
+use Rattle.rb_tree.specs.declared.node.AssignOp.TheVariants as op
+use Rattle.rb_model.specs.Values.{Value as Val, Nil, Int, plain}
+use Rattle.rb_model.specs.declared.value.Value.{Value as Held}
+use Rattle.rb_model.specs.declared.fault.Fault.TheVariants.{ArgumentCount}
+use Rattle.rb_model.specs.Ends.{Raised, Memory}
+use Rattle.rb_model.specs.Log.{Log}
+use Rattle.rb_model.specs.Private.{Private}
+use Rattle.rb_machine.specs.Scopes.{Script}
+use Rattle.rb_machine.specs.Control.{State, Cont, On, Eval, Give}
+use Rattle.rb_machine.specs.Methods.{Answer, Gives, Raises, Loops, deed}
+use Rattle.rb_machine.specs.Follows.{At}
+use Rattle.rb_builtin.specs.declared.builtin.Builtin.{Builtin}
+use Rattle.rb_builtin.specs.declared.builtin.Builtin.TheVariants as builtin
+use Rattle.rb_builtin.specs.Names.{builtin_of}
+use Rattle.rb_render.specs.declared.show.Form.{Form}
+use Rattle.rb_render.specs.declared.show.Form.TheVariants as form
+use Rattle.rb_code.specs.declared.code.Code.{Code}
+use Rattle.rb_code.specs.Erase.{erase}
+use Rattle.rb_code.specs.Resolved.{fits}
+use Rattle.rb_interp.specs.Outcome.{Outcome, Gave, Left, Over}
+use Rattle.rb_interp.specs.Carries.{scope_of}
+
+-- an outcome, or want of memory
+abbrev pub OrMemory : Outcome → Outcome → Type 0
+OrMemory wanted o = (o ≡ wanted) ⊎ (o ≡ Over Memory)
+
+-- how the answer of a method without a block comes out
+abbrev pub outcome_of : Answer → Span → Outcome
+outcome_of (Gives v) at = Gave v
+outcome_of (Raises fault) at = Over (Raised fault at)
+outcome_of (Loops turns) at = Over (Raised ArgumentCount at)
+
+-- a value is written into a slot and given on, or memory is wanted and nothing is written
+pub data Writes (slot : ℕ) (v : Val) (old new : List Held) : Outcome → Type 0 where
+  wrote : (w : Held) → plain w ≡ v → new ≡ slice_set old slot w → Writes slot v old new (Gave v)
+  wanted : new ≡ old → Writes slot v old new (Over Memory)
+
+-- a leaf gives this integer in one step, which leaves the scope as it is
+abbrev pub IsSmall : Code → List Held → ℤ → Type 0
+IsSmall code room n =
+    (S : Script) (N : ℕ) (names : List NameId) (size depth left : ℕ) (start : State) (h : Private) (log : Log) (k : List Cont) (me : Val)
+    → fits S code names size ≡ true → length names ≤ length room → 0 < left → depth < 1000
+    → At S 0 N start log h (On (Eval (erase code)) k (scope_of me names room) depth left) → At S 0 N start log h (On (Give (Int n)) k (scope_of me names room) depth (left - 1))
+
+-- an operation over two leaves gives this answer in two steps, which leave the scope as it is
+abbrev pub IsQuick : Option Builtin → (left right : Code) → List Held → Answer → Type 0
+IsQuick method left right room answer =
+    (m : ℤ) × (n : ℤ) × IsSmall left room m × IsSmall right room n
+    × ((texts : List (List ℕ)) (name : List ℕ) → builtin_of name ≡ method → deed texts (Int m) name (Int n ∷ []) None ≡ answer)
+
+-- the built-in method of an assignment's operator; none for the two that decide
+abbrev pub method_of : AssignOp → Option Builtin
+method_of op.Plus = Some builtin.Plus
+method_of op.Minus = Some builtin.Minus
+method_of op.Times = Some builtin.Times
+method_of op.Over = Some builtin.Over
+method_of op.Modulo = Some builtin.Modulo
+method_of op.OrElse = None
+method_of op.AndThen = None
+
+-- the one of values, or nil
+abbrev pub only_value : List Val → Val
+only_value (v ∷ []) = v
+only_value vs = Nil
+
+-- what a call that shows values gives
+abbrev pub shown_value : Form → List Val → Val
+shown_value form.Inspect vs = only_value vs
+shown_value f vs = Nil

@@ -1,0 +1,117 @@
+-- What a part of the walk does, beside the machine.
+use Rattle.std.specs.Prelude.{◌≡◌, ◌≤◌, ◌<◌, ℕ, Bool, true, false, ◌&&◌, is_none, List, [], ◌∷◌, ◌++◌, length, map, take, drop, slice_get, Option, codes}
+use Rattle.std.specs.Str.{bytes_eq}
+use Rattle.rb_tree.specs.declared.span.Span.{Span}
+use Rattle.rb_tree.specs.declared.span.NameId.{NameId}
+use Rattle.rb_model.specs.Values.{Value as Val, Nil, plain}
+use Rattle.rb_model.specs.declared.value.Value.{Value as Held}
+use Rattle.rb_model.specs.Log.{Log}
+use Rattle.rb_model.specs.Private.{Private}
+use Rattle.rb_machine.specs.Scopes.{Script, Scope, Text, text_of}
+use Rattle.rb_machine.specs.Control.{State, Cont, On, Then, Passing, Aim, Step, Break, Next, Return}
+use Rattle.rb_machine.specs.Call.{show}
+use Rattle.rb_machine.specs.Follows.{At}
+use Rattle.rb_builtin.specs.declared.builtin.Builtin.{Builtin}
+use Rattle.rb_render.specs.declared.show.Form.{Form}
+use Rattle.rb_render.specs.Forms.{written}
+use Rattle.rb_code.specs.declared.code.Code.{Code}
+use Rattle.rb_code.specs.declared.scripted.CodeScript.{CodeScript}
+use Rattle.rb_code.specs.Layout.{bound, has_slot, is_at}
+use Rattle.rb_code.specs.Erase.{erase}
+use Rattle.rb_code.specs.Resolved.{Fits, every, fits, has_number, is_free, function_of, form_text, form_takes}
+use Rattle.rb_code.specs.Stands.{StandsFor}
+use Rattle.rb_interp.specs.declared.came.Came.{Came as Registers}
+use Rattle.rb_interp.specs.Outcome.{Outcome, Gave, Left, Came, is_left}
+
+-- code that is right for these names lies in a frame of this size, which ends at the base of what is free
+pub record Lies (code : Fits) (names : List NameId) (size base end : ℕ) : Type 0 where
+  pub fits : code names size ≡ true
+  pub within : length names ≤ size
+  pub below : size ≤ base
+  pub room : base ≤ end
+
+-- a scope with these slots
+abbrev pub scope_of : Val → List NameId → List Held → Scope
+scope_of me names room = record { me = me; locals = bound names (map plain room) }
+
+-- From where `from` stands, the machine of every script that the code stands for comes to the outcome, whatever the names in scope, the
+-- frame and what waits are. `code` tells where it is right.
+abbrev pub Carries : CodeScript → List Text → ℕ → (Script → Fits) → (Script → List Cont → Scope → ℕ → ℕ → State) → (base depth left left' : ℕ) → (room room' : List Held) → (log log' : Log) → Outcome → Type 0
+Carries script texts N code from base depth left left' room room' log log' o =
+    (S : Script) (start : State) (h : Private) (k : List Cont) (me : Val) (names : List NameId) (size : ℕ)
+    → StandsFor script S → S.program.names ≡ texts → Lies (code S) names size base (length room)
+    → At S 0 N start log h (from S k (scope_of me names room) depth left) → Came S N start log' h o k (scope_of me names room') depth left'
+
+-- what stands between the frame and the base stays
+abbrev pub Keeps : CodeScript → List Text → (Script → Fits) → (base : ℕ) → (room room' : List Held) → Type 0
+Keeps script texts code base room room' =
+    (S : Script) (names : List NameId) (size : ℕ) → StandsFor script S → S.program.names ≡ texts → Lies (code S) names size base (length room)
+    → (i : ℕ) → size ≤ i → i < base → slice_get room' i ≡ slice_get room i
+
+-- code that is right where two parts are
+abbrev pub both : (Script → Fits) → (Script → Fits) → Script → Fits
+both a b S names size = a S names size && b S names size
+
+-- whether a loop goes on behind its condition or its body
+abbrev pub goes_on : Outcome → Bool
+goes_on (Gave v) = true
+goes_on (Left Next) = true
+goes_on o = false
+
+-- what a loop gives that does not go on
+abbrev pub loop_exit : Outcome → Outcome
+loop_exit (Left Break) = Gave Nil
+loop_exit o = o
+
+-- what a call gives behind its body
+abbrev pub call_exit : Outcome → Outcome
+call_exit (Left (Return v)) = Gave v
+call_exit (Left e) = Gave Nil
+call_exit o = o
+
+-- where a name has this slot, and code behind it is right
+abbrev pub at_slot : ℕ → NameId → (Script → Fits) → Script → Fits
+at_slot slot name code S names size = has_slot name names slot && code S names size
+
+-- where a name has this built-in method's number, and code behind it is right
+abbrev pub numbered : Option Builtin → NameId → (Script → Fits) → Script → Fits
+numbered number name code S names size = has_number S number name && code S names size
+
+-- where a name has this top-level method's number, and code behind it is right
+abbrev pub called : ℕ → NameId → (Script → Fits) → Script → Fits
+called number name code S names size = is_at (function_of S name) number && code S names size
+
+-- where a name is that of no built-in method, and code behind it is right
+abbrev pub unanswered : NameId → (Script → Fits) → Script → Fits
+unanswered name code S names size = is_free (text_of S name) && code S names size
+
+-- where no built-in method writes the attribute of a name, and code behind it is right
+abbrev pub unwritten : NameId → (Script → Fits) → Script → Fits
+unwritten name code S names size = is_free (text_of S name ++ codes "=") && code S names size
+
+-- where a name is that of a method that prints so many values, and code behind it is right
+abbrev pub printing : Form → NameId → ℕ → (Script → Fits) → Script → Fits
+printing form name count code S names size =
+    is_none (function_of S name) && (bytes_eq (text_of S name) (form_text form) && (form_takes form count && code S names size))
+
+-- the arguments of a call stand behind the frame, or one of them left
+abbrev pub Passes : CodeScript → List Text → ℕ → List Code → (base depth left left' : ℕ) → (room room' : List Held) → (log log' : Log) → Registers → Outcome → Type 0
+Passes script texts N args base depth left left' room room' log log' r o =
+    (aim : Aim) (at : Span) (S : Script) (start : State) (h : Private) (k : List Cont) (me : Val) (names : List NameId) (size : ℕ)
+    → StandsFor script S → S.program.names ≡ texts → Lies (every (map (fits S) args)) names size base (length room)
+    → At S 0 N start log h (On (Passing aim [] (map erase args) at) k (scope_of me names room) depth left)
+    → (is_left r ≡ true → Came S N start log' h o k (scope_of me names room') depth left')
+    × (is_left r ≡ false → At S 0 N start log' h (On (Passing aim (map plain (take (length args) (drop base room'))) [] at) k (scope_of me names room') depth left'))
+
+-- what is shown is shown by the machine, whatever is done behind it
+abbrev pub Shows : List Text → ℕ → Form → List Val → Span → ℕ → Log → Log → Outcome → Type 0
+Shows texts N form values at left log log' o =
+    (S : Script) (start : State) (h : Private) (after : Step) (k : List Cont) (sc : Scope) (d : ℕ)
+    → At S 0 N start log h (show S (written texts form values) after at k sc d left) → Came S N start log' h o (Then after ∷ k) sc d left
+
+-- From where `from` stands, the machine comes to where `to` stands.
+abbrev pub Reaches : CodeScript → List Text → ℕ → (Script → Fits) → (from to : Script → List Cont → Scope → ℕ → ℕ → State) → (base depth left left' : ℕ) → (room room' : List Held) → (log log' : Log) → Type 0
+Reaches script texts N code from to base depth left left' room room' log log' =
+    (S : Script) (start : State) (h : Private) (k : List Cont) (me : Val) (names : List NameId) (size : ℕ)
+    → StandsFor script S → S.program.names ≡ texts → Lies (code S) names size base (length room)
+    → At S 0 N start log h (from S k (scope_of me names room) depth left) → At S 0 N start log' h (to S k (scope_of me names room') depth left')

@@ -1,0 +1,4 @@
+pub mod Outcome
+pub mod Carries
+pub mod Slots
+pub mod Answers

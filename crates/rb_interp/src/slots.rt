@@ -1,0 +1,35 @@
+// Slots of a frame.
+
+ghost use Rattle.std.specs.Prelude.{◌≡◌, ◌≤◌, ◌<◌, ◌+◌, ℕ, Some, length, slice_get, OnOk, IfOk};
+ghost use Rattle.rb_model.specs.declared.value.Value.TheVariants as held;
+ghost use Rattle.rb_interp.specs.Slots.{first_of_block};
+
+use rb_model::Value;
+use std::alloc::AllocError;
+
+/// Sets slots to nil.
+pub(crate) fn clear(room: &mut [Value], from: usize, to: usize)
+    requires { to ≤ length room.old }
+    ensures room { length room.new ≡ length room.old }
+    ensures below { (i : ℕ) → i < from → slice_get room.new i ≡ slice_get room.old i }
+    ensures above { (i : ℕ) → to ≤ i → slice_get room.new i ≡ slice_get room.old i }
+    ensures within { (i : ℕ) → from ≤ i → i < to → slice_get room.new i ≡ Some held.Nil }
+{
+    'slots: for slot in from..to {
+        room[slot] = Value::Nil;
+    }
+}
+
+/// The slots of a block at the start of an iteration: the first has a value where the block takes one, the others nil.
+pub(crate) fn start_block(room: &mut [Value], from: usize, count: usize, takes: bool, first: i64)
+    requires { from + count ≤ length room.old }
+    ensures room { length room.new ≡ length room.old }
+    ensures below { (i : ℕ) → i < from → slice_get room.new i ≡ slice_get room.old i }
+    ensures above { (i : ℕ) → from + count ≤ i → slice_get room.new i ≡ slice_get room.old i }
+    ensures within { (i : ℕ) → i < count → slice_get room.new (from + i) ≡ Some (first_of_block takes first i) }
+{
+    clear(room, from, from + count);
+    if takes && count > 0 {
+        room[from] = Value::Int(first);
+    }
+}

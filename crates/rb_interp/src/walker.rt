@@ -1,0 +1,1418 @@
+// The walk.
+
+ghost use Rattle.std.specs.Prelude.{◌≡◌, ◌≤◌, ◌<◌, ◌+◌, ◌+ℤ◌, pos, ℕ, true, false, List, [], ◌∷◌, ◌++◌, length, map, take, drop, slice_get, Some, None, IfSome, OnOk};
+ghost use Rattle.rb_tree.specs.declared.node.Node.{Node as Tree, out-Node};
+ghost use Rattle.rb_tree.specs.declared.node.AssignOp.{AssignOp as Op};
+ghost use Rattle.rb_tree.specs.declared.span.NameId.{NameId};
+ghost use Rattle.rb_tree.specs.Place.{place};
+ghost use Rattle.rb_model.specs.Values.{Value as Val, Nil, Int, plain, truthy};
+ghost use Rattle.rb_model.specs.declared.value.Value.{Value as Held};
+ghost use Rattle.rb_model.specs.declared.value.Value.TheVariants as held;
+ghost use Rattle.rb_model.specs.Ends.{Raised, over};
+ghost use Rattle.rb_model.specs.Log.{has_end};
+ghost use Rattle.rb_machine.specs.Scopes.{text_of};
+ghost use Rattle.rb_machine.specs.Control.{On, Then, Eval, Following, Looping, Turning, Passing, Joining, AssignTo, ReceiverOf, ReceiverToStore, RightOfAnd, RightOfOr, Negate, Choose, ReturnOf, IndexedBy, MemberOf, ReadOf, WriteTo, ByName, OfLocal, OfAttribute, Counting};
+ghost use Rattle.rb_machine.specs.Begin.{begin};
+ghost use Rattle.rb_machine.specs.Call.{read_place};
+ghost use Rattle.rb_machine.specs.Methods.{deed};
+ghost use Rattle.rb_builtin.specs.Names.{builtin_of};
+ghost use Rattle.rb_builtin.specs.Integers as integers;
+ghost use Rattle.rb_code.specs.Erase.{erase, erase_block, erase_piece};
+ghost use Rattle.rb_code.specs.Resolved.{fits, block_fits, piece_fits, every, form_takes};
+ghost use Rattle.rb_interp.specs.Outcome.{is_left, value_of, outcome, Gave, Over};
+ghost use Rattle.rb_interp.specs.Carries.{Carries, Keeps, Passes, Shows, both, at_slot, numbered, unanswered, unwritten, called, printing, goes_on, loop_exit, call_exit};
+ghost use Rattle.rb_interp.specs.Answers.{OrMemory, Writes, outcome_of, IsSmall, IsQuick, method_of, shown_value, only_value};
+
+use crate::came::{Came, Leave, is_left};
+use crate::slots::{clear, start_block};
+use rb_builtin::{Builtin, Deed, IntegerAnswer, Loop, deed_of, integer_operation, is_operation};
+use rb_code::{Code, CodeBlock, CodePiece, CodeScript};
+use rb_model::{Answer, Call, End, Fault, OneStore, SharedText, Value};
+use rb_render::{Form, MAX_BYTES, RenderFault, add_shown, render};
+use rb_tree::{AssignOp, NameId, Names, Span};
+use std::alloc::{AllocError, Global};
+use std::mem;
+
+/// How many nodes may be under evaluation at once.
+const MAX_DEPTH: u32 = 1000;
+
+/// What a walk runs.
+#[derive(Clone, Copy)]
+pub struct Context<'p> {
+    pub alloc: Global,
+    pub names: &'p Names,
+    pub script: &'p CodeScript,
+    /// How many steps the thread may make.
+    pub steps: u64,
+}
+
+/// The walk of the main thread of a script over its store.
+#[derive(Drop)]
+pub struct Walker<'p, O> {
+    context: Context<'p>,
+    store: O,
+    /// Where the frame of the running method ends, and what is free begins.
+    base: usize,
+    /// How many steps are left.
+    left: u64,
+    /// The value that came, where registers do not hold it.
+    value: Value,
+    /// How a node was left.
+    leave: Leave,
+}
+
+/// Whether a value is true: only nil and false are not.
+fn is_true(value: &Value) -> bool
+    ensures { result ≡ truthy (plain value.now) }
+{
+    match value {
+        Value::Nil | Value::False => false,
+        _ => true,
+    }
+}
+
+/// Where a node stands.
+fn place_of(code: &Code) -> Span
+    ensures { result ≡ place (out-Node (erase code.now)) }
+{
+    match code {
+        Code::Nil(at) => *at,
+        Code::False(at) => *at,
+        Code::True(at) => *at,
+        Code::Int(_, at) => *at,
+        Code::Sym(_, at) => *at,
+        Code::Str(_, at) => *at,
+        Code::Local(_, _, at) => *at,
+        Code::SetLocal(_, _, _, at) => *at,
+        Code::UpdateLocal(_, _, _, _, at) => *at,
+        Code::UpdateElement(_, _, _, _, at) => *at,
+        Code::UpdateAttribute(_, _, _, _, _, at) => *at,
+        Code::Store(_, _, _, at) => *at,
+        Code::Operate(_, _, _, _, at) => *at,
+        Code::Send(_, _, _, _, at) => *at,
+        Code::Walk(_, _, _, _, _, at) => *at,
+        Code::Function(_, _, _, at) => *at,
+        Code::Print(_, _, _, at) => *at,
+        Code::And(_, _, at) => *at,
+        Code::Or(_, _, at) => *at,
+        Code::Not(_, at) => *at,
+        Code::If(_, _, _, at) => *at,
+        Code::While(_, _, at) => *at,
+        Code::Return(_, at) => *at,
+        Code::Break(at) => *at,
+        Code::Next(at) => *at,
+    }
+}
+
+/// The integer in a slot.
+fn integer_at(room: &[Value], slot: u32) -> Option<i64>
+    ensures { IfSome result (λ n. slice_get room.now slot ≡ Some (held.Int n)) }
+{
+    match room.get(slot as usize)? {
+        Value::Int(n) => Some(*n),
+        _ => None,
+    }
+}
+
+/// An integer that a leaf has.
+fn small(code: &Code, room: &[Value]) -> Option<i64>
+    ensures { IfSome result (λ n. IsSmall code.now room.now n) }
+{
+    match code {
+        Code::Int(n, _) => Some(*n),
+        Code::Local(slot, _, _) => integer_at(room, *slot),
+        _ => None,
+    }
+}
+
+/// What an operation on two integers gives, where this is one.
+fn operation_by(method: Option<Builtin>, m: i64, n: i64) -> Option<IntegerAnswer>
+    ensures { IfSome result (λ answer. (texts : List (List ℕ)) (name : List ℕ) → builtin_of name ≡ method → deed texts (Int m) name (Int n ∷ []) None ≡ integers.answer_of answer) }
+{
+    let method = method?;
+    if !is_operation(method) {
+        return None;
+    }
+    Some(integer_operation(method, m, n))
+}
+
+/// What an operation on two values gives, where they are integers and this is one.
+fn operation_on(method: Option<Builtin>, receiver: &Value, arg: &Value) -> Option<IntegerAnswer>
+    ensures { IfSome result (λ answer. (texts : List (List ℕ)) (name : List ℕ) → builtin_of name ≡ method → deed texts (plain receiver.now) name (plain arg.now ∷ []) None ≡ integers.answer_of answer) }
+{
+    let Value::Int(m) = receiver else {
+        return None;
+    };
+    let Value::Int(n) = arg else {
+        return None;
+    };
+    operation_by(method, *m, *n)
+}
+
+/// What an operation over two leaves gives, where they are integers and this is one.
+fn quick(
+    method: Option<Builtin>,
+    left: &Code,
+    right: &Code,
+    room: &[Value],
+) -> Option<IntegerAnswer>
+    ensures { IfSome result (λ answer. IsQuick method left.now right.now room.now (integers.answer_of answer)) }
+{
+    let m = small(left, room)?;
+    let n = small(right, room)?;
+    operation_by(method, m, n)
+}
+
+/// The built-in method of an assignment's operator; none for the two that decide.
+fn method_of(op: AssignOp) -> Option<Builtin>
+    ensures { result ≡ method_of op }
+{
+    match op {
+        AssignOp::Plus => Some(Builtin::Plus),
+        AssignOp::Minus => Some(Builtin::Minus),
+        AssignOp::Times => Some(Builtin::Times),
+        AssignOp::Over => Some(Builtin::Over),
+        AssignOp::Modulo => Some(Builtin::Modulo),
+        AssignOp::OrElse | AssignOp::AndThen => None,
+    }
+}
+
+impl<'p, O: OneStore + Drop> Walker<'p, O> {
+    /// A walk that has not begun.
+    pub fn new(context: Context<'p>, store: O) -> Walker<'p, O> {
+        Walker {
+            context,
+            store,
+            base: 0,
+            left: context.steps,
+            value: Value::Nil,
+            leave: Leave::Break,
+        }
+    }
+
+    /// The value that came. It is taken out of the walker.
+    fn take(&mut self, came: Came) -> Value
+        ensures value { plain result ≡ value_of came self.old.value }
+        ensures base { self.new.base ≡ self.old.base }
+        ensures left { self.new.left ≡ self.old.left }
+        ensures context { self.new.context ≡ self.old.context }
+        ensures store { self.new.store ≡ self.old.store }
+        ensures leave { self.new.leave ≡ self.old.leave }
+    {
+        match came {
+            Came::Nil => Value::Nil,
+            Came::False => Value::False,
+            Came::True => Value::True,
+            Came::Int(n) => Value::Int(n),
+            Came::Other | Came::Left => mem::replace(&mut self.value, Value::Nil),
+        }
+    }
+
+    /// Whether the value that came is true.
+    fn is_true_now(&self, came: Came) -> bool
+        ensures { is_left came ≡ false → result ≡ truthy (value_of came self.now.value) }
+    {
+        match came {
+            Came::Nil | Came::False | Came::Left => false,
+            Came::True | Came::Int(_) => true,
+            Came::Other => is_true(&self.value),
+        }
+    }
+
+    /// Gives a value.
+    fn give(&mut self, value: Value) -> Came
+        ensures gives { outcome result self.new.value self.new.leave ≡ Gave (plain value) }
+        ensures base { self.new.base ≡ self.old.base }
+        ensures left { self.new.left ≡ self.old.left }
+        ensures context { self.new.context ≡ self.old.context }
+        ensures store { self.new.store ≡ self.old.store }
+    {
+        match value {
+            Value::Nil => Came::Nil,
+            Value::False => Came::False,
+            Value::True => Came::True,
+            Value::Int(n) => Came::Int(n),
+            value => {
+                self.value = value;
+                Came::Other
+            }
+        }
+    }
+
+    /// The thread ends.
+    fn over(&mut self, end: End) -> Came
+        ensures gives { outcome result self.new.value self.new.leave ≡ Over (over end) }
+        ensures base { self.new.base ≡ self.old.base }
+        ensures left { self.new.left ≡ self.old.left }
+        ensures context { self.new.context ≡ self.old.context }
+        ensures store { self.new.store ≡ self.old.store }
+    {
+        self.leave = Leave::Over(end);
+        Came::Left
+    }
+
+    /// The thread ends with a fault.
+    fn raise(&mut self, fault: Fault, at: Span) -> Came
+        ensures gives { outcome result self.new.value self.new.leave ≡ Over (Raised fault at) }
+        ensures base { self.new.base ≡ self.old.base }
+        ensures left { self.new.left ≡ self.old.left }
+        ensures context { self.new.context ≡ self.old.context }
+        ensures store { self.new.store ≡ self.old.store }
+    {
+        self.over(End::Raised(fault, at))
+    }
+
+    /// Gives the value of a slot.
+    fn read(&mut self, slot: u32, room: &[Value]) -> Came
+        ensures gives { (v : Held) → slice_get room.now slot ≡ Some v → OrMemory (Gave (plain v)) (outcome result self.new.value self.new.leave) }
+        ensures base { self.new.base ≡ self.old.base }
+        ensures left { self.new.left ≡ self.old.left }
+        ensures context { self.new.context ≡ self.old.context }
+        ensures store { self.new.store ≡ self.old.store }
+    {
+        match room.get(slot as usize) {
+            None | Some(Value::Nil) => Came::Nil,
+            Some(Value::False) => Came::False,
+            Some(Value::True) => Came::True,
+            Some(Value::Int(n)) => Came::Int(*n),
+            Some(value) => match value.share() {
+                Ok(value) => self.give(value),
+                Err(_) => self.over(End::Memory),
+            },
+        }
+    }
+
+    /// Writes the value that came into a slot, and gives it on.
+    fn write(&mut self, slot: u32, came: Came, room: &mut [Value]) -> Came
+        requires came { is_left came ≡ false }
+        ensures written { Writes slot (value_of came self.old.value) room.old room.new (outcome result self.new.value self.new.leave) }
+        ensures base { self.new.base ≡ self.old.base }
+        ensures left { self.new.left ≡ self.old.left }
+        ensures context { self.new.context ≡ self.old.context }
+        ensures store { self.new.store ≡ self.old.store }
+    {
+        if slot as usize >= room.len() {
+            return self.over(End::Memory);
+        }
+        match came {
+            Came::Other => {
+                let Ok(copy) = self.value.share() else {
+                    return self.over(End::Memory);
+                };
+                room[slot as usize] = copy;
+                Came::Other
+            }
+            came => {
+                room[slot as usize] = self.take(came);
+                came
+            }
+        }
+    }
+
+    /// What an operation on two integers gives.
+    fn answer(&mut self, answer: IntegerAnswer, at: Span) -> Came
+        ensures gives { outcome result self.new.value self.new.leave ≡ outcome_of (integers.answer_of answer) at }
+        ensures base { self.new.base ≡ self.old.base }
+        ensures left { self.new.left ≡ self.old.left }
+        ensures context { self.new.context ≡ self.old.context }
+        ensures store { self.new.store ≡ self.old.store }
+    {
+        match answer {
+            IntegerAnswer::Int(n) => Came::Int(n),
+            IntegerAnswer::False => Came::False,
+            IntegerAnswer::True => Came::True,
+            IntegerAnswer::Overflow => self.raise(Fault::IntegerOverflow, at),
+            IntegerAnswer::ByZero => self.raise(Fault::ZeroDivision, at),
+            IntegerAnswer::NoOperation => self.raise(Fault::NoMethod, at),
+        }
+    }
+
+    /// What a value answers to a method without a block.
+    fn call_method(
+        &mut self,
+        receiver: &Value,
+        method: Option<Builtin>,
+        args: &[Value],
+        at: Span,
+    ) -> Came
+        ensures gives { (name : List ℕ) → builtin_of name ≡ method → OrMemory (outcome_of (deed self.old.context.names.now (plain receiver.now) name (map plain args.now) None) at) (outcome result self.new.value self.new.leave) }
+        ensures base { self.new.base ≡ self.old.base }
+        ensures left { self.new.left ≡ self.old.left }
+        ensures context { self.new.context ≡ self.old.context }
+        ensures store { self.new.store ≡ self.old.store }
+    {
+        match deed_of(
+            self.context.alloc,
+            self.context.names,
+            receiver,
+            method,
+            args,
+            None,
+        ) {
+            Ok(Deed::Give(value)) => self.give(value),
+            Ok(Deed::Raise(fault)) => self.raise(fault, at),
+            Ok(Deed::Walk(_)) => self.raise(Fault::ArgumentCount, at),
+            Err(_) => self.over(End::Memory),
+        }
+    }
+
+    /// Shows bytes by one print, where there are any, and gives nil or a value.
+    fn show(&mut self, form: Form, args: &[Value], at: Span) -> Came
+        requires unended { has_end (O.log self.old.store).entries ≡ false }
+        requires steps { self.old.left ≤ self.old.context.steps }
+        ensures base { self.new.base ≡ self.old.base }
+        ensures left { self.new.left ≡ self.old.left }
+        ensures context { self.new.context ≡ self.old.context }
+        ensures unended { has_end (O.log self.new.store).entries ≡ false }
+        ensures came { Shows self.old.context.names.now self.old.context.steps form (map plain args.now) at self.old.left (O.log self.old.store) (O.log self.new.store) (outcome result self.new.value self.new.leave) }
+    {
+        let bytes = match render(self.context.alloc, self.context.names, form, args) {
+            Ok(bytes) => bytes,
+            Err(RenderFault::TooLong) => return self.raise(Fault::TextTooLong, at),
+            Err(RenderFault::Memory) => return self.over(End::Memory),
+        };
+        if bytes.is_empty() {
+            return Came::Nil;
+        }
+        let Ok(text) = SharedText::from_vec(self.context.alloc, bytes) else {
+            return self.over(End::Memory);
+        };
+        match self
+            .store
+            .call(self.context.steps - self.left, &Call::Print(text))
+        {
+            Answer::Done => Came::Nil,
+            Answer::SinkFailed => self.over(End::Sink),
+            Answer::Memory => self.over(End::Memory),
+        }
+    }
+
+    /// What a call that shows values gives: `p` gives its one value.
+    fn shown_value(&mut self, form: Form, args: &[Value]) -> Came
+        ensures gives { form_takes form (length args.now) ≡ true → OrMemory (Gave (shown_value form (map plain args.now))) (outcome result self.new.value self.new.leave) }
+        ensures base { self.new.base ≡ self.old.base }
+        ensures left { self.new.left ≡ self.old.left }
+        ensures context { self.new.context ≡ self.old.context }
+        ensures store { self.new.store ≡ self.old.store }
+    {
+        match form {
+            Form::Puts | Form::Print => Came::Nil,
+            Form::Inspect => self.only_value(args),
+        }
+    }
+
+    /// The one of values, or nil.
+    fn only_value(&mut self, args: &[Value]) -> Came
+        ensures gives { OrMemory (Gave (only_value (map plain args.now))) (outcome result self.new.value self.new.leave) }
+        ensures base { self.new.base ≡ self.old.base }
+        ensures left { self.new.left ≡ self.old.left }
+        ensures context { self.new.context ≡ self.old.context }
+        ensures store { self.new.store ≡ self.old.store }
+    {
+        let [value] = args else {
+            return Came::Nil;
+        };
+        match value.share() {
+            Ok(value) => self.give(value),
+            Err(_) => self.over(End::Memory),
+        }
+    }
+
+    /// Evaluates a node.
+    #[cycle(walk)]
+    pub fn walk(&mut self, code: &'p Code, depth: u32, room: &mut [Value]) -> Came
+        requires unended { has_end (O.log self.old.store).entries ≡ false }
+        requires steps { self.old.left ≤ self.old.context.steps }
+        ensures counted { goes_on (outcome result self.new.value self.new.leave) ≡ true → self.new.left < self.old.left }
+        ensures base { self.new.base ≡ self.old.base }
+        ensures context { self.new.context ≡ self.old.context }
+        ensures room { length room.new ≡ length room.old }
+        ensures less { self.new.left ≤ self.old.left }
+        ensures unended { has_end (O.log self.new.store).entries ≡ false }
+        ensures kept { Keeps self.old.context.script.now self.old.context.names.now (λ S. fits S code.now) self.old.base room.old room.new }
+        ensures came { Carries self.old.context.script.now self.old.context.names.now self.old.context.steps (λ S. fits S code.now) (λ S k sc d n. On (Eval (erase code.now)) k sc d n) self.old.base depth self.old.left self.new.left room.old room.new (O.log self.old.store) (O.log self.new.store) (outcome result self.new.value self.new.leave) }
+    {
+        if self.left == 0 {
+            return self.over(End::Steps);
+        }
+        if depth >= MAX_DEPTH {
+            return self.raise(Fault::TooDeep, place_of(code));
+        }
+        self.left -= 1;
+        self.begin(code, depth + 1, room)
+    }
+
+    /// A node whose step is counted.
+    #[cycle(walk)]
+    fn begin(&mut self, code: &'p Code, depth: u32, room: &mut [Value]) -> Came
+        requires unended { has_end (O.log self.old.store).entries ≡ false }
+        requires steps { self.old.left ≤ self.old.context.steps }
+        ensures base { self.new.base ≡ self.old.base }
+        ensures context { self.new.context ≡ self.old.context }
+        ensures room { length room.new ≡ length room.old }
+        ensures less { self.new.left ≤ self.old.left }
+        ensures unended { has_end (O.log self.new.store).entries ≡ false }
+        ensures kept { Keeps self.old.context.script.now self.old.context.names.now (λ S. fits S code.now) self.old.base room.old room.new }
+        ensures came { Carries self.old.context.script.now self.old.context.names.now self.old.context.steps (λ S. fits S code.now) (λ S k sc d n. begin S (out-Node (erase code.now)) k sc d n) self.old.base depth self.old.left self.new.left room.old room.new (O.log self.old.store) (O.log self.new.store) (outcome result self.new.value self.new.leave) }
+    {
+        match code {
+            Code::Nil(_) => Came::Nil,
+            Code::False(_) => Came::False,
+            Code::True(_) => Came::True,
+            Code::Int(n, _) => Came::Int(*n),
+            Code::Sym(name, _) => self.give(Value::Sym(*name)),
+            Code::Str(pieces, at) => self.text(pieces.as_slice(), *at, depth, room),
+            Code::Local(slot, _, _) => self.read(*slot, room),
+            Code::SetLocal(slot, _, value, _) => self.set_local(*slot, value.get(), depth, room),
+            Code::UpdateLocal(slot, _, op, value, at) => {
+                self.update_local(*slot, *op, value.get(), *at, depth, room)
+            }
+            Code::UpdateElement(receiver, index, _, _, at) => {
+                self.read_element(receiver.get(), index.get(), *at, depth, room)
+            }
+            Code::UpdateAttribute(number, _, receiver, op, value, at) => self.update_attribute(
+                *number,
+                receiver.get(),
+                *op,
+                value.get(),
+                *at,
+                depth,
+                room,
+            ),
+            Code::Store(receiver, _, args, at) => {
+                self.store_by(receiver.get(), args.as_slice(), *at, depth, room)
+            }
+            Code::Operate(method, _, left, right, at) => {
+                self.operate(*method, left.get(), right.get(), *at, depth, room)
+            }
+            Code::Send(method, _, receiver, args, at) => {
+                self.send(*method, receiver.get(), args.as_slice(), *at, depth, room)
+            }
+            Code::Walk(method, _, receiver, args, block, at) => self.send_block(
+                *method,
+                receiver.get(),
+                args.as_slice(),
+                block.get(),
+                *at,
+                depth,
+                room,
+            ),
+            Code::Function(number, _, args, at) => {
+                self.function(*number, args.as_slice(), *at, depth, room)
+            }
+            Code::Print(form, _, args, at) => self.print(*form, args.as_slice(), *at, depth, room),
+            Code::And(first, second, _) => self.both(first.get(), second.get(), depth, room),
+            Code::Or(first, second, _) => self.either(first.get(), second.get(), depth, room),
+            Code::Not(value, _) => self.negate(value.get(), depth, room),
+            Code::If(condition, first, second, _) => self.choose(
+                condition.get(),
+                first.as_slice(),
+                second.as_slice(),
+                depth,
+                room,
+            ),
+            Code::While(condition, body, _) => {
+                self.repeat(condition.get(), body.as_slice(), depth, room)
+            }
+            Code::Return(None, _) => {
+                self.value = Value::Nil;
+                self.leave = Leave::Return;
+                Came::Left
+            }
+            Code::Return(Some(value), _) => self.leave_with(value.get(), depth, room),
+            Code::Break(_) => {
+                self.leave = Leave::Break;
+                Came::Left
+            }
+            Code::Next(_) => {
+                self.leave = Leave::Next;
+                Came::Left
+            }
+        }
+    }
+
+    /// An assignment to a local.
+    #[cycle(walk)]
+    fn set_local(&mut self, slot: u32, value: &'p Code, depth: u32, room: &mut [Value]) -> Came
+        requires unended { has_end (O.log self.old.store).entries ≡ false }
+        requires steps { self.old.left ≤ self.old.context.steps }
+        ensures base { self.new.base ≡ self.old.base }
+        ensures context { self.new.context ≡ self.old.context }
+        ensures room { length room.new ≡ length room.old }
+        ensures less { self.new.left ≤ self.old.left }
+        ensures unended { has_end (O.log self.new.store).entries ≡ false }
+        ensures kept { (name : NameId) → Keeps self.old.context.script.now self.old.context.names.now (at_slot slot name (λ S. fits S value.now)) self.old.base room.old room.new }
+        ensures came { (name : NameId) → Carries self.old.context.script.now self.old.context.names.now self.old.context.steps (at_slot slot name (λ S. fits S value.now)) (λ S k sc d n. On (Eval (erase value.now)) (Then (AssignTo name) ∷ k) sc d n) self.old.base depth self.old.left self.new.left room.old room.new (O.log self.old.store) (O.log self.new.store) (outcome result self.new.value self.new.leave) }
+    {
+        let came = self.walk(value, depth, room);
+        if is_left(came) {
+            return came;
+        }
+        self.write(slot, came, room)
+    }
+
+    /// An assignment with an operator to a local.
+    #[cycle(walk)]
+    fn update_local(
+        &mut self,
+        slot: u32,
+        op: AssignOp,
+        value: &'p Code,
+        at: Span,
+        depth: u32,
+        room: &mut [Value],
+    ) -> Came
+        requires unended { has_end (O.log self.old.store).entries ≡ false }
+        requires steps { self.old.left ≤ self.old.context.steps }
+        ensures base { self.new.base ≡ self.old.base }
+        ensures context { self.new.context ≡ self.old.context }
+        ensures room { length room.new ≡ length room.old }
+        ensures less { self.new.left ≤ self.old.left }
+        ensures unended { has_end (O.log self.new.store).entries ≡ false }
+        ensures kept { (name : NameId) → Keeps self.old.context.script.now self.old.context.names.now (at_slot slot name (λ S. fits S value.now)) self.old.base room.old room.new }
+        ensures came { (name : NameId) → Carries self.old.context.script.now self.old.context.names.now self.old.context.steps (at_slot slot name (λ S. fits S value.now)) (λ S k sc d n. read_place S (OfLocal name) op (erase value.now) at k sc d n) self.old.base depth self.old.left self.new.left room.old room.new (O.log self.old.store) (O.log self.new.store) (outcome result self.new.value self.new.leave) }
+    {
+        let current = self.read(slot, room);
+        if is_left(current) {
+            return current;
+        }
+        match op {
+            AssignOp::OrElse => {
+                if self.is_true_now(current) {
+                    return current;
+                }
+                self.set_local(slot, value, depth, room)
+            }
+            AssignOp::AndThen => {
+                if !self.is_true_now(current) {
+                    return current;
+                }
+                self.set_local(slot, value, depth, room)
+            }
+            _ => {
+                let receiver = self.take(current);
+                let came = self.walk(value, depth, room);
+                if is_left(came) {
+                    return came;
+                }
+                let arg = self.take(came);
+                let made = self.operated(method_of(op), &receiver, arg, at);
+                if is_left(made) {
+                    return made;
+                }
+                self.write(slot, made, room)
+            }
+        }
+    }
+
+    /// A call with one argument that is evaluated.
+    fn operated(&mut self, method: Option<Builtin>, receiver: &Value, arg: Value, at: Span) -> Came
+        ensures gives { (name : List ℕ) → builtin_of name ≡ method → OrMemory (outcome_of (deed self.old.context.names.now (plain receiver.now) name (plain arg ∷ []) None) at) (outcome result self.new.value self.new.leave) }
+        ensures base { self.new.base ≡ self.old.base }
+        ensures left { self.new.left ≡ self.old.left }
+        ensures context { self.new.context ≡ self.old.context }
+        ensures store { self.new.store ≡ self.old.store }
+    {
+        match operation_on(method, receiver, &arg) {
+            Some(answer) => self.answer(answer, at),
+            None => {
+                let args = [arg];
+                self.call_method(receiver, method, args.as_slice(), at)
+            }
+        }
+    }
+
+    /// An assignment with an operator to an element: no value that there is yet has elements.
+    #[cycle(walk)]
+    fn read_element(
+        &mut self,
+        receiver: &'p Code,
+        index: &'p Code,
+        at: Span,
+        depth: u32,
+        room: &mut [Value],
+    ) -> Came
+        requires unended { has_end (O.log self.old.store).entries ≡ false }
+        requires steps { self.old.left ≤ self.old.context.steps }
+        ensures base { self.new.base ≡ self.old.base }
+        ensures context { self.new.context ≡ self.old.context }
+        ensures room { length room.new ≡ length room.old }
+        ensures less { self.new.left ≤ self.old.left }
+        ensures unended { has_end (O.log self.new.store).entries ≡ false }
+        ensures kept { (op : Op) (value : Tree) → Keeps self.old.context.script.now self.old.context.names.now (both (λ S. fits S receiver.now) (λ S. fits S index.now)) self.old.base room.old room.new }
+        ensures came { (op : Op) (value : Tree) → Carries self.old.context.script.now self.old.context.names.now self.old.context.steps (both (λ S. fits S receiver.now) (λ S. fits S index.now)) (λ S k sc d n. On (Eval (erase receiver.now)) (Then (IndexedBy (erase index.now) op value at) ∷ k) sc d n) self.old.base depth self.old.left self.new.left room.old room.new (O.log self.old.store) (O.log self.new.store) (outcome result self.new.value self.new.leave) }
+    {
+        let came = self.walk(receiver, depth, room);
+        if is_left(came) {
+            return came;
+        }
+        let came = self.walk(index, depth, room);
+        if is_left(came) {
+            return came;
+        }
+        self.raise(Fault::NoMethod, at)
+    }
+
+    /// An assignment with an operator to an attribute. No value that there is yet has an attribute that is written.
+    #[cycle(walk)]
+    fn update_attribute(
+        &mut self,
+        number: Option<Builtin>,
+        receiver: &'p Code,
+        op: AssignOp,
+        value: &'p Code,
+        at: Span,
+        depth: u32,
+        room: &mut [Value],
+    ) -> Came
+        requires unended { has_end (O.log self.old.store).entries ≡ false }
+        requires steps { self.old.left ≤ self.old.context.steps }
+        ensures base { self.new.base ≡ self.old.base }
+        ensures context { self.new.context ≡ self.old.context }
+        ensures room { length room.new ≡ length room.old }
+        ensures less { self.new.left ≤ self.old.left }
+        ensures unended { has_end (O.log self.new.store).entries ≡ false }
+        ensures kept { (name : NameId) → Keeps self.old.context.script.now self.old.context.names.now (numbered number name (unwritten name (both (λ S. fits S receiver.now) (λ S. fits S value.now)))) self.old.base room.old room.new }
+        ensures came { (name : NameId) → Carries self.old.context.script.now self.old.context.names.now self.old.context.steps (numbered number name (unwritten name (both (λ S. fits S receiver.now) (λ S. fits S value.now)))) (λ S k sc d n. On (Eval (erase receiver.now)) (Then (MemberOf (text_of S name) op (erase value.now) at) ∷ k) sc d n) self.old.base depth self.old.left self.new.left room.old room.new (O.log self.old.store) (O.log self.new.store) (outcome result self.new.value self.new.leave) }
+    {
+        let came = self.walk(receiver, depth, room);
+        if is_left(came) {
+            return came;
+        }
+        let receiver = self.take(came);
+        let current = self.call_method(&receiver, number, &[], at);
+        if is_left(current) {
+            return current;
+        }
+        self.refuse_attribute(current, op, value, at, depth, room)
+    }
+
+    /// What is behind the reading of an attribute that no method writes: the value to be written is still evaluated, where there is one.
+    #[cycle(walk)]
+    fn refuse_attribute(
+        &mut self,
+        current: Came,
+        op: AssignOp,
+        value: &'p Code,
+        at: Span,
+        depth: u32,
+        room: &mut [Value],
+    ) -> Came
+        requires unended { has_end (O.log self.old.store).entries ≡ false }
+        requires steps { self.old.left ≤ self.old.context.steps }
+        requires came { is_left current ≡ false }
+        ensures base { self.new.base ≡ self.old.base }
+        ensures context { self.new.context ≡ self.old.context }
+        ensures room { length room.new ≡ length room.old }
+        ensures less { self.new.left ≤ self.old.left }
+        ensures unended { has_end (O.log self.new.store).entries ≡ false }
+        ensures kept { Keeps self.old.context.script.now self.old.context.names.now (λ S. fits S value.now) self.old.base room.old room.new }
+        ensures came { (receiver : Val) (name : NameId) → Carries self.old.context.script.now self.old.context.names.now self.old.context.steps (unwritten name (λ S. fits S value.now)) (λ S k sc d n. On (Give (value_of current self.old.value)) (Then (ReadOf (OfAttribute receiver (text_of S name)) op (erase value.now) at) ∷ k) sc d n) self.old.base depth self.old.left self.new.left room.old room.new (O.log self.old.store) (O.log self.new.store) (outcome result self.new.value self.new.leave) }
+    {
+        match op {
+            AssignOp::OrElse => {
+                if self.is_true_now(current) {
+                    return current;
+                }
+                self.refuse_value(value, at, depth, room)
+            }
+            AssignOp::AndThen => {
+                if !self.is_true_now(current) {
+                    return current;
+                }
+                self.refuse_value(value, at, depth, room)
+            }
+            _ => {
+                let receiver = self.take(current);
+                let came = self.walk(value, depth, room);
+                if is_left(came) {
+                    return came;
+                }
+                let arg = self.take(came);
+                let made = self.operated(method_of(op), &receiver, arg, at);
+                if is_left(made) {
+                    return made;
+                }
+                self.raise(Fault::NoMethod, at)
+            }
+        }
+    }
+
+    /// A value that is to be written where nothing can be.
+    #[cycle(walk)]
+    fn refuse_value(&mut self, value: &'p Code, at: Span, depth: u32, room: &mut [Value]) -> Came
+        requires unended { has_end (O.log self.old.store).entries ≡ false }
+        requires steps { self.old.left ≤ self.old.context.steps }
+        ensures base { self.new.base ≡ self.old.base }
+        ensures context { self.new.context ≡ self.old.context }
+        ensures room { length room.new ≡ length room.old }
+        ensures less { self.new.left ≤ self.old.left }
+        ensures unended { has_end (O.log self.new.store).entries ≡ false }
+        ensures kept { Keeps self.old.context.script.now self.old.context.names.now (λ S. fits S value.now) self.old.base room.old room.new }
+        ensures came { (receiver : Val) (name : NameId) → Carries self.old.context.script.now self.old.context.names.now self.old.context.steps (unwritten name (λ S. fits S value.now)) (λ S k sc d n. On (Eval (erase value.now)) (Then (WriteTo (OfAttribute receiver (text_of S name)) at) ∷ k) sc d n) self.old.base depth self.old.left self.new.left room.old room.new (O.log self.old.store) (O.log self.new.store) (outcome result self.new.value self.new.leave) }
+    {
+        let came = self.walk(value, depth, room);
+        if is_left(came) {
+            return came;
+        }
+        self.raise(Fault::NoMethod, at)
+    }
+
+    /// A call with one argument. Over two leaves that are integers it calls nothing of the walk.
+    #[cycle(walk)]
+    fn operate(
+        &mut self,
+        method: Option<Builtin>,
+        left: &'p Code,
+        right: &'p Code,
+        at: Span,
+        depth: u32,
+        room: &mut [Value],
+    ) -> Came
+        requires unended { has_end (O.log self.old.store).entries ≡ false }
+        requires steps { self.old.left ≤ self.old.context.steps }
+        ensures base { self.new.base ≡ self.old.base }
+        ensures context { self.new.context ≡ self.old.context }
+        ensures room { length room.new ≡ length room.old }
+        ensures less { self.new.left ≤ self.old.left }
+        ensures unended { has_end (O.log self.new.store).entries ≡ false }
+        ensures kept { (name : NameId) → Keeps self.old.context.script.now self.old.context.names.now (numbered method name (both (λ S. fits S left.now) (λ S. fits S right.now))) self.old.base room.old room.new }
+        ensures came { (name : NameId) → Carries self.old.context.script.now self.old.context.names.now self.old.context.steps (numbered method name (both (λ S. fits S left.now) (λ S. fits S right.now))) (λ S k sc d n. On (Eval (erase left.now)) (Then (ReceiverOf (text_of S name) (erase right.now ∷ []) None at) ∷ k) sc d n) self.old.base depth self.old.left self.new.left room.old room.new (O.log self.old.store) (O.log self.new.store) (outcome result self.new.value self.new.leave) }
+    {
+        if self.left > 1 && depth < MAX_DEPTH {
+            if let Some(answer) = quick(method, left, right, room) {
+                self.left -= 2;
+                return self.answer(answer, at);
+            }
+        }
+        let came = self.walk(left, depth, room);
+        if is_left(came) {
+            return came;
+        }
+        let receiver = self.take(came);
+        let came = self.walk(right, depth, room);
+        if is_left(came) {
+            return came;
+        }
+        let arg = self.take(came);
+        self.operated(method, &receiver, arg, at)
+    }
+
+    /// A call with a receiver, without a block.
+    #[cycle(walk)]
+    fn send(
+        &mut self,
+        method: Option<Builtin>,
+        receiver: &'p Code,
+        args: &'p [Code],
+        at: Span,
+        depth: u32,
+        room: &mut [Value],
+    ) -> Came
+        requires unended { has_end (O.log self.old.store).entries ≡ false }
+        requires steps { self.old.left ≤ self.old.context.steps }
+        ensures base { self.new.base ≡ self.old.base }
+        ensures context { self.new.context ≡ self.old.context }
+        ensures room { length room.new ≡ length room.old }
+        ensures less { self.new.left ≤ self.old.left }
+        ensures unended { has_end (O.log self.new.store).entries ≡ false }
+        ensures kept { (name : NameId) → Keeps self.old.context.script.now self.old.context.names.now (numbered method name (both (λ S. fits S receiver.now) (λ S. every (map (fits S) args.now)))) self.old.base room.old room.new }
+        ensures came { (name : NameId) → Carries self.old.context.script.now self.old.context.names.now self.old.context.steps (numbered method name (both (λ S. fits S receiver.now) (λ S. every (map (fits S) args.now)))) (λ S k sc d n. On (Eval (erase receiver.now)) (Then (ReceiverOf (text_of S name) (map erase args.now) None at) ∷ k) sc d n) self.old.base depth self.old.left self.new.left room.old room.new (O.log self.old.store) (O.log self.new.store) (outcome result self.new.value self.new.leave) }
+    {
+        let came = self.walk(receiver, depth, room);
+        if is_left(came) {
+            return came;
+        }
+        let receiver = self.take(came);
+        let before = self.base;
+        let came = self.arguments(args, depth, room);
+        self.base = before;
+        if is_left(came) {
+            return came;
+        }
+        self.call_method(&receiver, method, passed(room, before, args.len()), at)
+    }
+
+    /// An assignment by the call of a method: no value that there is yet has such a method.
+    #[cycle(walk)]
+    fn store_by(
+        &mut self,
+        receiver: &'p Code,
+        args: &'p [Code],
+        at: Span,
+        depth: u32,
+        room: &mut [Value],
+    ) -> Came
+        requires unended { has_end (O.log self.old.store).entries ≡ false }
+        requires steps { self.old.left ≤ self.old.context.steps }
+        ensures base { self.new.base ≡ self.old.base }
+        ensures context { self.new.context ≡ self.old.context }
+        ensures room { length room.new ≡ length room.old }
+        ensures less { self.new.left ≤ self.old.left }
+        ensures unended { has_end (O.log self.new.store).entries ≡ false }
+        ensures kept { (name : NameId) → Keeps self.old.context.script.now self.old.context.names.now (unanswered name (both (λ S. fits S receiver.now) (λ S. every (map (fits S) args.now)))) self.old.base room.old room.new }
+        ensures came { (name : NameId) → Carries self.old.context.script.now self.old.context.names.now self.old.context.steps (unanswered name (both (λ S. fits S receiver.now) (λ S. every (map (fits S) args.now)))) (λ S k sc d n. On (Eval (erase receiver.now)) (Then (ReceiverToStore (text_of S name) (map erase args.now) at) ∷ k) sc d n) self.old.base depth self.old.left self.new.left room.old room.new (O.log self.old.store) (O.log self.new.store) (outcome result self.new.value self.new.leave) }
+    {
+        let came = self.walk(receiver, depth, room);
+        if is_left(came) {
+            return came;
+        }
+        let before = self.base;
+        let came = self.arguments(args, depth, room);
+        self.base = before;
+        if is_left(came) {
+            return came;
+        }
+        self.raise(Fault::NoMethod, at)
+    }
+
+    /// A call with a receiver and a block.
+    #[cycle(walk)]
+    fn send_block(
+        &mut self,
+        method: Option<Builtin>,
+        receiver: &'p Code,
+        args: &'p [Code],
+        block: &'p CodeBlock,
+        at: Span,
+        depth: u32,
+        room: &mut [Value],
+    ) -> Came
+        requires unended { has_end (O.log self.old.store).entries ≡ false }
+        requires steps { self.old.left ≤ self.old.context.steps }
+        ensures base { self.new.base ≡ self.old.base }
+        ensures context { self.new.context ≡ self.old.context }
+        ensures room { length room.new ≡ length room.old }
+        ensures less { self.new.left ≤ self.old.left }
+        ensures unended { has_end (O.log self.new.store).entries ≡ false }
+        ensures kept { (name : NameId) → Keeps self.old.context.script.now self.old.context.names.now (numbered method name (both (λ S. fits S receiver.now) (both (λ S. every (map (fits S) args.now)) (λ S. block_fits S block.now)))) self.old.base room.old room.new }
+        ensures came { (name : NameId) → Carries self.old.context.script.now self.old.context.names.now self.old.context.steps (numbered method name (both (λ S. fits S receiver.now) (both (λ S. every (map (fits S) args.now)) (λ S. block_fits S block.now)))) (λ S k sc d n. On (Eval (erase receiver.now)) (Then (ReceiverOf (text_of S name) (map erase args.now) (Some (erase_block block.now)) at) ∷ k) sc d n) self.old.base depth self.old.left self.new.left room.old room.new (O.log self.old.store) (O.log self.new.store) (outcome result self.new.value self.new.leave) }
+    {
+        let came = self.walk(receiver, depth, room);
+        if is_left(came) {
+            return came;
+        }
+        let receiver = self.take(came);
+        let before = self.base;
+        let came = self.arguments(args, depth, room);
+        self.base = before;
+        if is_left(came) {
+            return came;
+        }
+        let params = block.params.len() as u32;
+        let args = passed(room, before, args.len());
+        match deed_of(
+            self.context.alloc,
+            self.context.names,
+            &receiver,
+            method,
+            args,
+            Some(params),
+        ) {
+            Ok(Deed::Give(value)) => self.give(value),
+            Ok(Deed::Raise(fault)) => self.raise(fault, at),
+            Ok(Deed::Walk(Loop::Times(count))) => {
+                if count <= 0 {
+                    return Came::Int(count);
+                }
+                self.turns(0, count - 1, count, block, depth, room)
+            }
+            Ok(Deed::Walk(Loop::Upto(first, last))) => {
+                if first > last {
+                    return Came::Int(first);
+                }
+                self.turns(first, last, first, block, depth, room)
+            }
+            Err(_) => self.over(End::Memory),
+        }
+    }
+
+    /// The iterations of a block with the integers from the first up to the last, and then the answer.
+    #[cycle(walk)]
+    fn turns(
+        &mut self,
+        first: i64,
+        last: i64,
+        answer: i64,
+        block: &'p CodeBlock,
+        depth: u32,
+        room: &mut [Value],
+    ) -> Came
+        requires unended { has_end (O.log self.old.store).entries ≡ false }
+        requires steps { self.old.left ≤ self.old.context.steps }
+        ensures base { self.new.base ≡ self.old.base }
+        ensures context { self.new.context ≡ self.old.context }
+        ensures room { length room.new ≡ length room.old }
+        ensures less { self.new.left ≤ self.old.left }
+        ensures unended { has_end (O.log self.new.store).entries ≡ false }
+        ensures kept { Keeps self.old.context.script.now self.old.context.names.now (λ S. block_fits S block.now) self.old.base room.old room.new }
+        ensures came { Carries self.old.context.script.now self.old.context.names.now self.old.context.steps (λ S. block_fits S block.now) (λ S k sc d n. On (Turning (Counting first (last +ℤ pos 1) (Int answer)) (erase_block block.now)) k sc d n) self.old.base depth self.old.left self.new.left room.old room.new (O.log self.old.store) (O.log self.new.store) (outcome result self.new.value self.new.leave) }
+    {
+        let from = block.from as usize;
+        let count = block.count as usize;
+        if room.len() < from || room.len() - from < count {
+            return self.over(End::Memory);
+        }
+        let takes = !block.params.is_empty();
+        let mut next = first;
+        'turns: loop {
+            if self.left == 0 {
+                return self.over(End::Steps);
+            }
+            self.left -= 1;
+            start_block(room, from, count, takes, next);
+            let came = self.body(block.body.as_slice(), depth, room);
+            if !self.goes_on(came) {
+                return self.out_of_loop(came);
+            }
+            if next >= last {
+                return Came::Int(answer);
+            }
+            next += 1;
+        }
+    }
+
+    /// A call of a top-level method.
+    #[cycle(walk)]
+    fn function(
+        &mut self,
+        number: u32,
+        args: &'p [Code],
+        at: Span,
+        depth: u32,
+        room: &mut [Value],
+    ) -> Came
+        requires unended { has_end (O.log self.old.store).entries ≡ false }
+        requires steps { self.old.left ≤ self.old.context.steps }
+        ensures base { self.new.base ≡ self.old.base }
+        ensures context { self.new.context ≡ self.old.context }
+        ensures room { length room.new ≡ length room.old }
+        ensures less { self.new.left ≤ self.old.left }
+        ensures unended { has_end (O.log self.new.store).entries ≡ false }
+        ensures kept { (name : NameId) → Keeps self.old.context.script.now self.old.context.names.now (called number name (λ S. every (map (fits S) args.now))) self.old.base room.old room.new }
+        ensures came { (name : NameId) → Carries self.old.context.script.now self.old.context.names.now self.old.context.steps (called number name (λ S. every (map (fits S) args.now))) (λ S k sc d n. On (Passing (ByName name) [] (map erase args.now) at) k sc d n) self.old.base depth self.old.left self.new.left room.old room.new (O.log self.old.store) (O.log self.new.store) (outcome result self.new.value self.new.leave) }
+    {
+        let script = self.context.script;
+        let Some(method) = script.functions.get(number as usize) else {
+            return self.over(End::Memory);
+        };
+        let before = self.base;
+        let size = method.size as usize;
+        if size < args.len() || room.len() < before || room.len() - before < size {
+            return self.over(End::Memory);
+        }
+        let came = self.arguments(args, depth, room);
+        self.base = before;
+        if is_left(came) {
+            return came;
+        }
+        if args.len() != method.params.len() {
+            return self.raise(Fault::ArgumentCount, at);
+        }
+        let frame = room.split_at_mut(before).1;
+        clear(frame, args.len(), size);
+        self.base = size;
+        let came = self.body(method.body.as_slice(), depth, frame);
+        self.base = before;
+        self.out_of_call(came)
+    }
+
+    /// A call of `puts`, `print` or `p`.
+    #[cycle(walk)]
+    fn print(
+        &mut self,
+        form: Form,
+        args: &'p [Code],
+        at: Span,
+        depth: u32,
+        room: &mut [Value],
+    ) -> Came
+        requires unended { has_end (O.log self.old.store).entries ≡ false }
+        requires steps { self.old.left ≤ self.old.context.steps }
+        ensures base { self.new.base ≡ self.old.base }
+        ensures context { self.new.context ≡ self.old.context }
+        ensures room { length room.new ≡ length room.old }
+        ensures less { self.new.left ≤ self.old.left }
+        ensures unended { has_end (O.log self.new.store).entries ≡ false }
+        ensures kept { (name : NameId) → Keeps self.old.context.script.now self.old.context.names.now (printing form name (length args.now) (λ S. every (map (fits S) args.now))) self.old.base room.old room.new }
+        ensures came { (name : NameId) → Carries self.old.context.script.now self.old.context.names.now self.old.context.steps (printing form name (length args.now) (λ S. every (map (fits S) args.now))) (λ S k sc d n. On (Passing (ByName name) [] (map erase args.now) at) k sc d n) self.old.base depth self.old.left self.new.left room.old room.new (O.log self.old.store) (O.log self.new.store) (outcome result self.new.value self.new.leave) }
+    {
+        let before = self.base;
+        let came = self.arguments(args, depth, room);
+        self.base = before;
+        if is_left(came) {
+            return came;
+        }
+        let shown = self.show(form, passed(room, before, args.len()), at);
+        if is_left(shown) {
+            return shown;
+        }
+        self.shown_value(form, passed(room, before, args.len()))
+    }
+
+    /// The arguments, each behind the frame and in it from then on.
+    #[cycle(walk)]
+    fn arguments(&mut self, args: &'p [Code], depth: u32, room: &mut [Value]) -> Came
+        requires unended { has_end (O.log self.old.store).entries ≡ false }
+        requires steps { self.old.left ≤ self.old.context.steps }
+        ensures base { is_left result ≡ false → self.new.base ≡ self.old.base + length args.now }
+        ensures rises { self.old.base ≤ self.new.base }
+        ensures fits { self.old.base ≤ length room.old → self.new.base ≤ length room.new }
+        ensures context { self.new.context ≡ self.old.context }
+        ensures room { length room.new ≡ length room.old }
+        ensures less { self.new.left ≤ self.old.left }
+        ensures unended { has_end (O.log self.new.store).entries ≡ false }
+        ensures kept { Keeps self.old.context.script.now self.old.context.names.now (λ S. every (map (fits S) args.now)) self.old.base room.old room.new }
+        ensures came { Passes self.old.context.script.now self.old.context.names.now self.old.context.steps args.now self.old.base depth self.old.left self.new.left room.old room.new (O.log self.old.store) (O.log self.new.store) result (outcome result self.new.value self.new.leave) }
+    {
+        'each: for arg in args {
+            let came = self.walk(arg, depth, room);
+            if is_left(came) {
+                return came;
+            }
+            if self.base >= room.len() {
+                return self.over(End::Memory);
+            }
+            room[self.base] = self.take(came);
+            self.base += 1;
+        }
+        Came::Nil
+    }
+
+    /// A text.
+    #[cycle(walk)]
+    fn text(&mut self, pieces: &'p [CodePiece], at: Span, depth: u32, room: &mut [Value]) -> Came
+        requires unended { has_end (O.log self.old.store).entries ≡ false }
+        requires steps { self.old.left ≤ self.old.context.steps }
+        ensures base { self.new.base ≡ self.old.base }
+        ensures context { self.new.context ≡ self.old.context }
+        ensures room { length room.new ≡ length room.old }
+        ensures less { self.new.left ≤ self.old.left }
+        ensures unended { has_end (O.log self.new.store).entries ≡ false }
+        ensures kept { Keeps self.old.context.script.now self.old.context.names.now (λ S. every (map (piece_fits S) pieces.now)) self.old.base room.old room.new }
+        ensures came { Carries self.old.context.script.now self.old.context.names.now self.old.context.steps (λ S. every (map (piece_fits S) pieces.now)) (λ S k sc d n. On (Joining [] (map erase_piece pieces.now) at) k sc d n) self.old.base depth self.old.left self.new.left room.old room.new (O.log self.old.store) (O.log self.new.store) (outcome result self.new.value self.new.leave) }
+    {
+        let mut bytes = Vec::new(self.context.alloc);
+        'pieces: for piece in pieces {
+            match piece {
+                CodePiece::Text(text) => {
+                    if let Err(_) = add_bytes(&mut bytes, text.as_slice()) {
+                        return self.over(End::Memory);
+                    }
+                }
+                CodePiece::Code(code) => {
+                    let came = self.walk(code, depth, room);
+                    if is_left(came) {
+                        return came;
+                    }
+                    let value = self.take(came);
+                    if let Err(_) = add_shown(
+                        self.context.alloc,
+                        &mut bytes,
+                        self.context.names,
+                        &value,
+                    ) {
+                        return self.over(End::Memory);
+                    }
+                }
+            }
+            if bytes.len() > MAX_BYTES {
+                return self.raise(Fault::TextTooLong, at);
+            }
+        }
+        match SharedText::from_vec(self.context.alloc, bytes) {
+            Ok(text) => self.give(Value::Str(text)),
+            Err(_) => self.over(End::Memory),
+        }
+    }
+
+    /// `first && second`
+    #[cycle(walk)]
+    fn both(&mut self, first: &'p Code, second: &'p Code, depth: u32, room: &mut [Value]) -> Came
+        requires unended { has_end (O.log self.old.store).entries ≡ false }
+        requires steps { self.old.left ≤ self.old.context.steps }
+        ensures base { self.new.base ≡ self.old.base }
+        ensures context { self.new.context ≡ self.old.context }
+        ensures room { length room.new ≡ length room.old }
+        ensures less { self.new.left ≤ self.old.left }
+        ensures unended { has_end (O.log self.new.store).entries ≡ false }
+        ensures kept { Keeps self.old.context.script.now self.old.context.names.now (both (λ S. fits S first.now) (λ S. fits S second.now)) self.old.base room.old room.new }
+        ensures came { Carries self.old.context.script.now self.old.context.names.now self.old.context.steps (both (λ S. fits S first.now) (λ S. fits S second.now)) (λ S k sc d n. On (Eval (erase first.now)) (Then (RightOfAnd (erase second.now)) ∷ k) sc d n) self.old.base depth self.old.left self.new.left room.old room.new (O.log self.old.store) (O.log self.new.store) (outcome result self.new.value self.new.leave) }
+    {
+        let came = self.walk(first, depth, room);
+        if is_left(came) {
+            return came;
+        }
+        if !self.is_true_now(came) {
+            return came;
+        }
+        self.walk(second, depth, room)
+    }
+
+    /// `first || second`
+    #[cycle(walk)]
+    fn either(&mut self, first: &'p Code, second: &'p Code, depth: u32, room: &mut [Value]) -> Came
+        requires unended { has_end (O.log self.old.store).entries ≡ false }
+        requires steps { self.old.left ≤ self.old.context.steps }
+        ensures base { self.new.base ≡ self.old.base }
+        ensures context { self.new.context ≡ self.old.context }
+        ensures room { length room.new ≡ length room.old }
+        ensures less { self.new.left ≤ self.old.left }
+        ensures unended { has_end (O.log self.new.store).entries ≡ false }
+        ensures kept { Keeps self.old.context.script.now self.old.context.names.now (both (λ S. fits S first.now) (λ S. fits S second.now)) self.old.base room.old room.new }
+        ensures came { Carries self.old.context.script.now self.old.context.names.now self.old.context.steps (both (λ S. fits S first.now) (λ S. fits S second.now)) (λ S k sc d n. On (Eval (erase first.now)) (Then (RightOfOr (erase second.now)) ∷ k) sc d n) self.old.base depth self.old.left self.new.left room.old room.new (O.log self.old.store) (O.log self.new.store) (outcome result self.new.value self.new.leave) }
+    {
+        let came = self.walk(first, depth, room);
+        if is_left(came) {
+            return came;
+        }
+        if self.is_true_now(came) {
+            return came;
+        }
+        self.walk(second, depth, room)
+    }
+
+    /// `!value`
+    #[cycle(walk)]
+    fn negate(&mut self, value: &'p Code, depth: u32, room: &mut [Value]) -> Came
+        requires unended { has_end (O.log self.old.store).entries ≡ false }
+        requires steps { self.old.left ≤ self.old.context.steps }
+        ensures base { self.new.base ≡ self.old.base }
+        ensures context { self.new.context ≡ self.old.context }
+        ensures room { length room.new ≡ length room.old }
+        ensures less { self.new.left ≤ self.old.left }
+        ensures unended { has_end (O.log self.new.store).entries ≡ false }
+        ensures kept { Keeps self.old.context.script.now self.old.context.names.now (λ S. fits S value.now) self.old.base room.old room.new }
+        ensures came { Carries self.old.context.script.now self.old.context.names.now self.old.context.steps (λ S. fits S value.now) (λ S k sc d n. On (Eval (erase value.now)) (Then Negate ∷ k) sc d n) self.old.base depth self.old.left self.new.left room.old room.new (O.log self.old.store) (O.log self.new.store) (outcome result self.new.value self.new.leave) }
+    {
+        let came = self.walk(value, depth, room);
+        if is_left(came) {
+            return came;
+        }
+        if self.is_true_now(came) {
+            Came::False
+        } else {
+            Came::True
+        }
+    }
+
+    /// A choice between two bodies.
+    #[cycle(walk)]
+    fn choose(
+        &mut self,
+        condition: &'p Code,
+        first: &'p [Code],
+        second: &'p [Code],
+        depth: u32,
+        room: &mut [Value],
+    ) -> Came
+        requires unended { has_end (O.log self.old.store).entries ≡ false }
+        requires steps { self.old.left ≤ self.old.context.steps }
+        ensures base { self.new.base ≡ self.old.base }
+        ensures context { self.new.context ≡ self.old.context }
+        ensures room { length room.new ≡ length room.old }
+        ensures less { self.new.left ≤ self.old.left }
+        ensures unended { has_end (O.log self.new.store).entries ≡ false }
+        ensures kept { Keeps self.old.context.script.now self.old.context.names.now (both (λ S. fits S condition.now) (both (λ S. every (map (fits S) first.now)) (λ S. every (map (fits S) second.now)))) self.old.base room.old room.new }
+        ensures came { Carries self.old.context.script.now self.old.context.names.now self.old.context.steps (both (λ S. fits S condition.now) (both (λ S. every (map (fits S) first.now)) (λ S. every (map (fits S) second.now)))) (λ S k sc d n. On (Eval (erase condition.now)) (Then (Choose (map erase first.now) (map erase second.now)) ∷ k) sc d n) self.old.base depth self.old.left self.new.left room.old room.new (O.log self.old.store) (O.log self.new.store) (outcome result self.new.value self.new.leave) }
+    {
+        let came = self.walk(condition, depth, room);
+        if is_left(came) {
+            return came;
+        }
+        if self.is_true_now(came) {
+            return self.body(first, depth, room);
+        }
+        self.body(second, depth, room)
+    }
+
+    /// The statements of a body, one after another.
+    #[cycle(walk)]
+    fn body(&mut self, nodes: &'p [Code], depth: u32, room: &mut [Value]) -> Came
+        requires unended { has_end (O.log self.old.store).entries ≡ false }
+        requires steps { self.old.left ≤ self.old.context.steps }
+        ensures base { self.new.base ≡ self.old.base }
+        ensures context { self.new.context ≡ self.old.context }
+        ensures room { length room.new ≡ length room.old }
+        ensures less { self.new.left ≤ self.old.left }
+        ensures unended { has_end (O.log self.new.store).entries ≡ false }
+        ensures kept { Keeps self.old.context.script.now self.old.context.names.now (λ S. every (map (fits S) nodes.now)) self.old.base room.old room.new }
+        ensures came { Carries self.old.context.script.now self.old.context.names.now self.old.context.steps (λ S. every (map (fits S) nodes.now)) (λ S k sc d n. On (Following Nil (map erase nodes.now)) k sc d n) self.old.base depth self.old.left self.new.left room.old room.new (O.log self.old.store) (O.log self.new.store) (outcome result self.new.value self.new.leave) }
+    {
+        let mut came = Came::Nil;
+        'nodes: for node in nodes {
+            came = self.walk(node, depth, room);
+            if is_left(came) {
+                return came;
+            }
+        }
+        came
+    }
+
+    /// A loop.
+    #[cycle(walk)]
+    fn repeat(
+        &mut self,
+        condition: &'p Code,
+        body: &'p [Code],
+        depth: u32,
+        room: &mut [Value],
+    ) -> Came
+        requires unended { has_end (O.log self.old.store).entries ≡ false }
+        requires steps { self.old.left ≤ self.old.context.steps }
+        ensures base { self.new.base ≡ self.old.base }
+        ensures context { self.new.context ≡ self.old.context }
+        ensures room { length room.new ≡ length room.old }
+        ensures less { self.new.left ≤ self.old.left }
+        ensures unended { has_end (O.log self.new.store).entries ≡ false }
+        ensures kept { Keeps self.old.context.script.now self.old.context.names.now (both (λ S. fits S condition.now) (λ S. every (map (fits S) body.now))) self.old.base room.old room.new }
+        ensures came { Carries self.old.context.script.now self.old.context.names.now self.old.context.steps (both (λ S. fits S condition.now) (λ S. every (map (fits S) body.now))) (λ S k sc d n. On (Looping (erase condition.now) (map erase body.now)) k sc d n) self.old.base depth self.old.left self.new.left room.old room.new (O.log self.old.store) (O.log self.new.store) (outcome result self.new.value self.new.leave) }
+    {
+        'turns: loop {
+            let came = self.walk(condition, depth, room);
+            if is_left(came) {
+                if !self.goes_on(came) {
+                    return self.out_of_loop(came);
+                }
+                continue 'turns;
+            }
+            if !self.is_true_now(came) {
+                return Came::Nil;
+            }
+            let came = self.body(body, depth, room);
+            if !self.goes_on(came) {
+                return self.out_of_loop(came);
+            }
+        }
+    }
+
+    /// A return with a value.
+    #[cycle(walk)]
+    fn leave_with(&mut self, value: &'p Code, depth: u32, room: &mut [Value]) -> Came
+        requires unended { has_end (O.log self.old.store).entries ≡ false }
+        requires steps { self.old.left ≤ self.old.context.steps }
+        ensures base { self.new.base ≡ self.old.base }
+        ensures context { self.new.context ≡ self.old.context }
+        ensures room { length room.new ≡ length room.old }
+        ensures less { self.new.left ≤ self.old.left }
+        ensures unended { has_end (O.log self.new.store).entries ≡ false }
+        ensures kept { Keeps self.old.context.script.now self.old.context.names.now (λ S. fits S value.now) self.old.base room.old room.new }
+        ensures came { Carries self.old.context.script.now self.old.context.names.now self.old.context.steps (λ S. fits S value.now) (λ S k sc d n. On (Eval (erase value.now)) (Then ReturnOf ∷ k) sc d n) self.old.base depth self.old.left self.new.left room.old room.new (O.log self.old.store) (O.log self.new.store) (outcome result self.new.value self.new.leave) }
+    {
+        let came = self.walk(value, depth, room);
+        if is_left(came) {
+            return came;
+        }
+        self.value = self.take(came);
+        self.leave = Leave::Return;
+        Came::Left
+    }
+
+    /// Whether a loop goes on behind its body: a `next` is done with.
+    fn goes_on(&self, came: Came) -> bool
+        ensures { result ≡ goes_on (outcome came self.now.value self.now.leave) }
+    {
+        if !is_left(came) {
+            return true;
+        }
+        match self.leave {
+            Leave::Next => true,
+            _ => false,
+        }
+    }
+
+    /// What a loop gives that does not go on: a `break` is done with.
+    fn out_of_loop(&self, came: Came) -> Came
+        ensures { goes_on (outcome came self.now.value self.now.leave) ≡ false → outcome result self.now.value self.now.leave ≡ loop_exit (outcome came self.now.value self.now.leave) }
+    {
+        match self.leave {
+            Leave::Break => Came::Nil,
+            _ => came,
+        }
+    }
+
+    /// What a call gives behind its body.
+    fn out_of_call(&mut self, came: Came) -> Came
+        ensures gives { outcome result self.new.value self.new.leave ≡ call_exit (outcome came self.old.value self.old.leave) }
+        ensures base { self.new.base ≡ self.old.base }
+        ensures left { self.new.left ≡ self.old.left }
+        ensures context { self.new.context ≡ self.old.context }
+        ensures store { self.new.store ≡ self.old.store }
+    {
+        if !is_left(came) {
+            return came;
+        }
+        match self.leave {
+            Leave::Break | Leave::Next => Came::Nil,
+            Leave::Return => {
+                let value = mem::replace(&mut self.value, Value::Nil);
+                self.give(value)
+            }
+            Leave::Over(_) => came,
+        }
+    }
+
+    /// Runs the top level of the script, in this row of slots, to its end entry.
+    pub fn run(mut self, room: &mut [Value]) -> (O, End) {
+        let script = self.context.script;
+        let size = script.main_size as usize;
+        self.base = size;
+        let came = if size <= room.len() {
+            self.body(script.main.as_slice(), 0, room)
+        } else {
+            self.over(End::Memory)
+        };
+        let step = self.context.steps - self.left;
+        let Walker {
+            mut store,
+            leave,
+            ..
+        } = self;
+        let call = Call::End(end_of(came, leave));
+        let end = match store.call(step, &call) {
+            Answer::Done | Answer::SinkFailed => end_in(call),
+            Answer::Memory => {
+                store.call(step, &Call::End(End::Memory));
+                End::Memory
+            }
+        };
+        (store, end)
+    }
+}
+
+/// The end that is told.
+fn end_in(call: Call) -> End {
+    match call {
+        Call::End(end) => end,
+        Call::Print(_) => End::Memory,
+    }
+}
+
+/// How the thread ends whose top level came out so.
+fn end_of(came: Came, leave: Leave) -> End {
+    if !is_left(came) {
+        return End::Value(Value::Nil);
+    }
+    match leave {
+        Leave::Break | Leave::Next | Leave::Return => End::Value(Value::Nil),
+        Leave::Over(end) => end,
+    }
+}
+
+/// The values of arguments, which lie behind a frame; none where the row is too short for them.
+fn passed(room: &[Value], from: usize, count: usize) -> &[Value]
+    ensures { from + count ≤ length room.now → result.now ≡ take count (drop from room.now) }
+{
+    if room.len() < from || room.len() - from < count {
+        return &room[0..0];
+    }
+    &room[from..from + count]
+}
+
+/// Adds bytes behind others.
+fn add_bytes(out: &mut Vec<u8>, bytes: &[u8]) -> Result<(), AllocError>
+    ensures { OnOk result (out.new.items ≡ out.old.items ++ bytes.now) }
+{
+    out.extend_from_slice(bytes)?;
+    Ok(())
+}
