@@ -15,7 +15,7 @@ use Rattle.rb_machine.specs.Texts.{shown, inspected}
 use Rattle.rb_machine.specs.Methods.{Answer, Gives, Raises, Loops, on_integers, joined, text, equal, is_nil, integer, upto, unless_fault, deed, block_fault}
 use Rattle.rb_builtin.specs.declared.builtin.Builtin.{Builtin}
 use Rattle.rb_builtin.specs.declared.builtin.Builtin.TheVariants as builtin
-use Rattle.rb_builtin.specs.Names.{name_of, builtin_of}
+use Rattle.rb_builtin.specs.Names.{name_of, builtin_of, same_number}
 use Rattle.rb_builtin.specs.Integers.{operated, is_operation}
 use Rattle.rb_builtin.specs.Deeds.{only_integer, only_text, by_misfit, fault_or_count, answer_by_number}
 
@@ -253,3 +253,14 @@ pub no_number : (names : List Text) (v : Value) (name : Text) (args : List Value
 no_number names v name args given e =
     let f : (b : Builtin) → bytes_eq name (name_of b) ≡ false = λ b. other_name name b (bytes_eq name (name_of b)) e refl in
     rw (f builtin.Equal, f builtin.IsNil, f builtin.ToS, f builtin.Inspect, f builtin.Plus, f builtin.Minus, f builtin.Times, f builtin.Over, f builtin.Modulo, f builtin.Negate, f builtin.Less, f builtin.AtMost, f builtin.More, f builtin.AtLeast, f builtin.TimesLoop, f builtin.Upto, f builtin.Length) refl
+
+same_by_name : (a b : Builtin) (t : Bool) → bytes_eq (name_of a) (name_of b) ≡ t → t ≡ true → Some a ≡ Some b
+same_by_name a b true e h = let is : name_of a ≡ name_of b = (bytes_eq-Decides (name_of a) (name_of b)).0 e in sym (numbered a) ∙ (ap builtin_of is ∙ numbered b)
+same_by_name a b false e h = absurd (cc)
+
+-- numbers that are the same are equal
+pub same_is : (a b : Option Builtin) → same_number a b ≡ true → a ≡ b
+same_is None None h = refl
+same_is (Some a) (Some b) h = same_by_name a b (bytes_eq (name_of a) (name_of b)) refl h
+same_is None (Some b) h = absurd (cc)
+same_is (Some a) None h = absurd (cc)

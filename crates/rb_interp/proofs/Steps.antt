@@ -12,11 +12,11 @@ use Rattle.rb_machine.specs.Follows.{At}
 use Rattle.rb_tree.specs.declared.span.NameId.{NameId}
 use Rattle.rb_model.specs.Values.{plain}
 use Rattle.rb_model.specs.declared.value.Value.{Value as Held}
-use Rattle.rb_machine.specs.Scopes.{assign}
-use Rattle.rb_machine.specs.Control.{AssignTo}
+use Rattle.rb_machine.specs.Scopes.{assign, with_locals}
+use Rattle.rb_machine.specs.Control.{Step}
 use Rattle.rb_code.specs.Layout.{bound, has_slot}
 use Rattle.rb_interp.specs.Outcome.{Outcome, Gave, Came}
-use Rattle.rb_interp.specs.Carries.{scope_of}
+use Rattle.rb_interp.specs.Carries.{scope_of, Assigns, plainly, updating}
 use Rattle.rb_interp.specs.Answers.{Writes, wrote, wanted}
 use Rattle.rb_interp.proofs.Lists.{get_set}
 use Rattle.rb_interp.proofs.Rooms.{write_room}
@@ -45,13 +45,18 @@ module _ {S : Script} {N : ℕ} {start : State} {h : Private} where
   chosen_second {v = v} {p = p} {q = q} {k = k} {sc = sc} {d = d} {n = n} e a = on _ a (ap (λ t. Go (On (Following Nil (cond t p q)) k sc d n)) e)
 
 module _ {S : Script} {N : ℕ} {start : State} {h : Private} where
+  given_to : {l : Log} {v : Val} {k : List Cont} {sc : Scope} {d n : ℕ} (name : NameId) (step : Step) → Assigns name step
+      → At S 0 N start l h (On (Give v) (Then step ∷ k) sc d n) → At S 0 N start l h (On (Give v) k (with_locals sc (assign name v sc.locals)) d n)
+  given_to name step plainly a = on _ a refl
+  given_to name step (updating at) a = on _ a refl
+
   -- a value that is assigned is written into the slot of its name
-  pub assigned : {l : Log} {k : List Cont} {d n : ℕ} (name : NameId) (names : List NameId) (slot : ℕ) (old new : List Held) (v me : Val) (o : Outcome) → length names ≤ length old → has_slot name names slot ≡ true → Writes slot v old new o
-      → At S 0 N start l h (On (Give v) (Then (AssignTo name) ∷ k) (scope_of me names old) d n) → Came S N start l h o k (scope_of me names new) d n
-  assigned {k = k} {d = d} {n = n} name names slot old new v me o p s (wrote w e f) a =
+  pub assigned : {l : Log} {k : List Cont} {d n : ℕ} (name : NameId) (step : Step) (names : List NameId) (slot : ℕ) (old new : List Held) (v me : Val) (o : Outcome) → Assigns name step → length names ≤ length old → has_slot name names slot ≡ true
+      → Writes slot v old new o → At S 0 N start l h (On (Give v) (Then step ∷ k) (scope_of me names old) d n) → Came S N start l h o k (scope_of me names new) d n
+  assigned {k = k} {d = d} {n = n} name step names slot old new v me o is p s (wrote w e f) a =
       let q : bound names (map plain new) ≡ assign name v (bound names (map plain old)) = ap (λ r. bound names (map plain r)) f ∙ (write_room name names old slot w p s ∙ ap (λ u. assign name u (bound names (map plain old))) e) in
-      same (on _ a refl) (ap (λ ls. On (Give v) k (record { me = me; locals = ls }) d n) (sym q))
-  assigned {k = k} {d = d} {n = n} name names slot old new v me o p s (wanted f) a = (On (Give v) (Then (AssignTo name) ∷ k) (scope_of me names old) d n , a , refl)
+      same (given_to name step is a) (ap (λ ls. On (Give v) k (record { me = me; locals = ls }) d n) (sym q))
+  assigned {k = k} {d = d} {n = n} name step names slot old new v me o is p s (wanted f) a = (On (Give v) (Then step ∷ k) (scope_of me names old) d n , a , refl)
 
 -- other slots stay
 pub kept_write : (slot i : ℕ) (v : Val) (old new : List Held) (o : Outcome) → (i ≡ slot → ⊥) → Writes slot v old new o → slice_get new i ≡ slice_get old i

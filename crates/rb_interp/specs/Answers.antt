@@ -22,6 +22,8 @@ use Rattle.rb_render.specs.declared.show.Form.TheVariants as form
 use Rattle.rb_code.specs.declared.code.Code.{Code}
 use Rattle.rb_code.specs.Erase.{erase}
 use Rattle.rb_code.specs.Resolved.{fits}
+use Rattle.rb_interp.specs.declared.came.Came.{Came as Registers}
+use Rattle.rb_interp.specs.declared.came.Came.TheVariants as came
 use Rattle.rb_interp.specs.Outcome.{Outcome, Gave, Left, Over}
 use Rattle.rb_interp.specs.Carries.{scope_of}
 
@@ -51,6 +53,12 @@ IsSmall code room n =
 abbrev pub IsQuick : Option Builtin → (left right : Code) → List Held → Answer → Type 0
 IsQuick method left right room answer =
     (m : ℤ) × (n : ℤ) × IsSmall left room m × IsSmall right room n
+    × ((texts : List (List ℕ)) (name : List ℕ) → builtin_of name ≡ method → deed texts (Int m) name (Int n ∷ []) None ≡ answer)
+
+-- an operation over an integer that came and a leaf gives this answer in one step, which leaves the scope as it is
+abbrev pub IsQuickRight : Option Builtin → Registers → Code → List Held → Answer → Type 0
+IsQuickRight method left right room answer =
+    (m : ℤ) × (n : ℤ) × (left ≡ came.Int m) × IsSmall right room n
     × ((texts : List (List ℕ)) (name : List ℕ) → builtin_of name ≡ method → deed texts (Int m) name (Int n ∷ []) None ≡ answer)
 
 -- the built-in method of an assignment's operator; none for the two that decide

@@ -8,7 +8,7 @@ use Rattle.rb_model.specs.declared.value.Value.{Value as Held}
 use Rattle.rb_model.specs.Log.{Log}
 use Rattle.rb_model.specs.Private.{Private}
 use Rattle.rb_machine.specs.Scopes.{Script, Scope, Text, text_of}
-use Rattle.rb_machine.specs.Control.{State, Cont, On, Then, Passing, Aim, Step, Break, Next, Return}
+use Rattle.rb_machine.specs.Control.{State, Cont, On, Then, Passing, Aim, Step, AssignTo, WriteTo, OfLocal, Break, Next, Return}
 use Rattle.rb_machine.specs.Call.{show}
 use Rattle.rb_machine.specs.Follows.{At}
 use Rattle.rb_builtin.specs.declared.builtin.Builtin.{Builtin}
@@ -68,6 +68,11 @@ abbrev pub call_exit : Outcome → Outcome
 call_exit (Left (Return v)) = Gave v
 call_exit (Left e) = Gave Nil
 call_exit o = o
+
+-- a step that gives its value to a local
+pub data Assigns (name : NameId) : Step → Type 0 where
+  plainly : Assigns name (AssignTo name)
+  updating : (at : Span) → Assigns name (WriteTo (OfLocal name) at)
 
 -- where a name has this slot, and code behind it is right
 abbrev pub at_slot : ℕ → NameId → (Script → Fits) → Script → Fits

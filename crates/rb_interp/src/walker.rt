@@ -11,7 +11,7 @@ ghost use Rattle.rb_model.specs.declared.value.Value.TheVariants as held;
 ghost use Rattle.rb_model.specs.Ends.{Raised, over};
 ghost use Rattle.rb_model.specs.Log.{has_end};
 ghost use Rattle.rb_machine.specs.Scopes.{text_of};
-ghost use Rattle.rb_machine.specs.Control.{On, Then, Eval, Following, Looping, Turning, Passing, Joining, AssignTo, ReceiverOf, ReceiverToStore, RightOfAnd, RightOfOr, Negate, Choose, ReturnOf, IndexedBy, MemberOf, ReadOf, WriteTo, ByName, OfLocal, OfAttribute, Counting};
+ghost use Rattle.rb_machine.specs.Control.{On, Then, Eval, Give, Following, Looping, Turning, Passing, Joining, Step, ReceiverOf, ReceiverToStore, RightOfAnd, RightOfOr, Negate, Choose, ReturnOf, IndexedBy, MemberOf, ReadOf, RightOf, WriteTo, ByName, OfLocal, OfAttribute, Counting};
 ghost use Rattle.rb_machine.specs.Begin.{begin};
 ghost use Rattle.rb_machine.specs.Call.{read_place};
 ghost use Rattle.rb_machine.specs.Methods.{deed};
@@ -20,8 +20,8 @@ ghost use Rattle.rb_builtin.specs.Integers as integers;
 ghost use Rattle.rb_code.specs.Erase.{erase, erase_block, erase_piece};
 ghost use Rattle.rb_code.specs.Resolved.{fits, block_fits, piece_fits, every, form_takes};
 ghost use Rattle.rb_interp.specs.Outcome.{is_left, value_of, outcome, Gave, Over};
-ghost use Rattle.rb_interp.specs.Carries.{Carries, Keeps, Passes, Shows, both, at_slot, numbered, unanswered, unwritten, called, printing, goes_on, loop_exit, call_exit};
-ghost use Rattle.rb_interp.specs.Answers.{OrMemory, Writes, outcome_of, IsSmall, IsQuick, method_of, shown_value, only_value};
+ghost use Rattle.rb_interp.specs.Carries.{Carries, Keeps, Passes, Shows, both, at_slot, numbered, unanswered, unwritten, called, printing, Assigns, goes_on, loop_exit, call_exit};
+ghost use Rattle.rb_interp.specs.Answers.{OrMemory, Writes, outcome_of, IsSmall, IsQuick, IsQuickRight, method_of, shown_value, only_value};
 
 use crate::came::{Came, Leave, is_left};
 use crate::slots::{clear, start_block};
@@ -159,6 +159,22 @@ fn quick(
     ensures { IfSome result (λ answer. IsQuick method left.now right.now room.now (integers.answer_of answer)) }
 {
     let m = small(left, room)?;
+    let n = small(right, room)?;
+    operation_by(method, m, n)
+}
+
+/// What an operation over a value that came and a leaf gives, where they are integers and this is one.
+fn quick_right(
+    method: Option<Builtin>,
+    left: Came,
+    right: &Code,
+    room: &[Value],
+) -> Option<IntegerAnswer>
+    ensures { IfSome result (λ answer. IsQuickRight method left right.now room.now (integers.answer_of answer)) }
+{
+    let Came::Int(m) = left else {
+        return None;
+    };
     let n = small(right, room)?;
     operation_by(method, m, n)
 }
@@ -542,7 +558,7 @@ impl<'p, O: OneStore + Drop> Walker<'p, O> {
         ensures less { self.new.left ≤ self.old.left }
         ensures unended { has_end (O.log self.new.store).entries ≡ false }
         ensures kept { (name : NameId) → Keeps self.old.context.script.now self.old.context.names.now (at_slot slot name (λ S. fits S value.now)) self.old.base room.old room.new }
-        ensures came { (name : NameId) → Carries self.old.context.script.now self.old.context.names.now self.old.context.steps (at_slot slot name (λ S. fits S value.now)) (λ S k sc d n. On (Eval (erase value.now)) (Then (AssignTo name) ∷ k) sc d n) self.old.base depth self.old.left self.new.left room.old room.new (O.log self.old.store) (O.log self.new.store) (outcome result self.new.value self.new.leave) }
+        ensures came { (name : NameId) (step : Step) → Assigns name step → Carries self.old.context.script.now self.old.context.names.now self.old.context.steps (at_slot slot name (λ S. fits S value.now)) (λ S k sc d n. On (Eval (erase value.now)) (Then step ∷ k) sc d n) self.old.base depth self.old.left self.new.left room.old room.new (O.log self.old.store) (O.log self.new.store) (outcome result self.new.value self.new.leave) }
     {
         let came = self.walk(value, depth, room);
         if is_left(came) {
@@ -590,19 +606,51 @@ impl<'p, O: OneStore + Drop> Walker<'p, O> {
                 self.set_local(slot, value, depth, room)
             }
             _ => {
-                let receiver = self.take(current);
-                let came = self.walk(value, depth, room);
-                if is_left(came) {
-                    return came;
-                }
-                let arg = self.take(came);
-                let made = self.operated(method_of(op), &receiver, arg, at);
+                let made = self.combine(current, op, value, at, depth, room);
                 if is_left(made) {
                     return made;
                 }
                 self.write(slot, made, room)
             }
         }
+    }
+
+    /// What the operator of an assignment makes of the value that its target has. Over an integer and a leaf that is one it calls nothing of the walk.
+    #[cycle(walk)]
+    fn combine(
+        &mut self,
+        current: Came,
+        op: AssignOp,
+        value: &'p Code,
+        at: Span,
+        depth: u32,
+        room: &mut [Value],
+    ) -> Came
+        requires unended { has_end (O.log self.old.store).entries ≡ false }
+        requires steps { self.old.left ≤ self.old.context.steps }
+        requires came { is_left current ≡ false }
+        ensures base { self.new.base ≡ self.old.base }
+        ensures context { self.new.context ≡ self.old.context }
+        ensures room { length room.new ≡ length room.old }
+        ensures less { self.new.left ≤ self.old.left }
+        ensures unended { has_end (O.log self.new.store).entries ≡ false }
+        ensures kept { Keeps self.old.context.script.now self.old.context.names.now (λ S. fits S value.now) self.old.base room.old room.new }
+        ensures came { Carries self.old.context.script.now self.old.context.names.now self.old.context.steps (λ S. fits S value.now) (λ S k sc d n. On (Eval (erase value.now)) (Then (RightOf (value_of current self.old.value) op at) ∷ k) sc d n) self.old.base depth self.old.left self.new.left room.old room.new (O.log self.old.store) (O.log self.new.store) (outcome result self.new.value self.new.leave) }
+    {
+        let method = method_of(op);
+        if self.left > 0 && depth < MAX_DEPTH {
+            if let Some(answer) = quick_right(method, current, value, room) {
+                self.left -= 1;
+                return self.answer(answer, at);
+            }
+        }
+        let receiver = self.take(current);
+        let came = self.walk(value, depth, room);
+        if is_left(came) {
+            return came;
+        }
+        let arg = self.take(came);
+        self.operated(method, &receiver, arg, at)
     }
 
     /// A call with one argument that is evaluated.
@@ -723,13 +771,7 @@ impl<'p, O: OneStore + Drop> Walker<'p, O> {
                 self.refuse_value(value, at, depth, room)
             }
             _ => {
-                let receiver = self.take(current);
-                let came = self.walk(value, depth, room);
-                if is_left(came) {
-                    return came;
-                }
-                let arg = self.take(came);
-                let made = self.operated(method_of(op), &receiver, arg, at);
+                let made = self.combine(current, op, value, at, depth, room);
                 if is_left(made) {
                     return made;
                 }

@@ -1,20 +1,27 @@
-use Rattle.rb_interp.specs.Carries.{goes_on}
+use Rattle.rb_interp.specs.Carries.{goes_on, plainly, updating, scope_of, unwritten}
 use Rattle.rb_code.proofs.Slots.{slot_within}
 use Rattle.std.proofs.Common.{rules, to_z, of_z, w64, ◌≡◌, ap, sym, ◌∙◌, refl, subst, ℕ, suc, List, [], ◌∷◌, ◌++◌, take, drop, map, length, ◌+◌, ◌-◌, ◌<◌, ◌≤◌, Some, None, true, false, arith}
 use Rattle.std.proofs.lemmas.List.{drop_all}
-use Rattle.std.specs.Prelude.{◌&&◌}
-use Rattle.rb_model.specs.Values.{Nil, truthy}
-use Rattle.rb_machine.specs.Control.{Then, Under, Rest, AssignTo, ReturnOf, Test, Again, RightOfAnd, RightOfOr, Negate, Choose}
+use Rattle.std.specs.Prelude.{◌&&◌, codes}
+use Rattle.rb_model.specs.Values.{Nil, truthy, Int}
+use Rattle.rb_machine.specs.Control.{Then, Under, Rest, AssignTo, ReturnOf, Test, Again, RightOfAnd, RightOfOr, Negate, Choose, Argument, OnReceiver, IndexedBy, IndexOf, MemberOf, ReadOf, RightOf, WriteTo, ReceiverOf, Instead, OfLocal, OfElement, OfAttribute, On, Eval, Give}
 use Rattle.rb_code.specs.Erase.{erase}
 use Rattle.rb_code.specs.Resolved.{fits, every}
 use Rattle.rb_code.proofs.Showing.{shows-nil, shows-false, shows-true, shows-int, shows-sym, shows-local, shows-and, shows-or, shows-not, shows-if, shows-break, shows-next, shows-set_local, shows-while, shows-return}
 use Rattle.rb_code.proofs.Fitting.{fits-local, fits-and, fits-or, fits-not, fits-if, fits-set_local, fits-while, fits-return}
-use Rattle.rb_interp.specs.Outcome.{value_of}
+use Rattle.rb_interp.specs.Outcome.{value_of, outcome}
 use Rattle.rb_interp.proofs.Moves.{test_true, test_false, on, same, begins, evals, follows, gives, counts, too_many, too_deep, left}
-use Rattle.rb_interp.proofs.Lists.{never, fst, snd, next_item}
+use Rattle.rb_interp.proofs.Lists.{never, fst, snd, next_item, two}
 use Rattle.rb_interp.proofs.Rooms.{sub, moved, every_item, read_room, write_room}
 use Rattle.rb_interp.proofs.Outcomes.{gave, given, comes, passes, gone, again, again_out, tested_again, tested_out}
 use Rattle.rb_interp.proofs.Steps.{and_goes, and_stops, or_goes, or_stops, negated, chosen_first, chosen_second, assigned, kept_write}
+use Rattle.rb_machine.specs.Scopes.{text_of}
+use Rattle.rb_builtin.specs.Names.{builtin_of}
+use Rattle.rb_builtin.proofs.Table.{same_is}
+use Rattle.rb_interp.proofs.Calls.{calls, no_such, or_memory}
+use Rattle.rb_interp.proofs.Places.{operator_number, or_else_stays, or_else_goes, and_then_stays, and_then_goes, operates, reads}
+use mathlib.Core.Logic.{inl, inr}
+use Rattle.rb_machine.specs.Call.{operator}
 use Rattle.rb_interp.proofs.walker.Walker.+walk.Goals as goal
 
 pub walk-returns-then-self-eq0-clause-came : goal.walk-returns-then-self-eq0-clause-came
@@ -345,7 +352,7 @@ begin-returns-in-SetLocal-clause-came g m c = λ S start h k me names size st e 
     let x = c.in-SetLocal in
     let s = sym (ap (λ d. fits S d names size) x.is ∙ fits-set_local S names size x.slot x.field-1 x.value x.field-3) ∙ l.fits in
     let under = sub _ l (rw c.get.ensures s) in
-    c.set_local.ensures.came x.field-1 S start h k me names size st e under (rw c.get.ensures (begins _ _ k _ _ _ (shows-set_local c.args.code.now x.slot x.field-1 x.value x.field-3 x.is) a))
+    c.set_local.ensures.came x.field-1 (AssignTo x.field-1) plainly S start h k me names size st e under (rw c.get.ensures (begins _ _ k _ _ _ (shows-set_local c.args.code.now x.slot x.field-1 x.value x.field-3 x.is) a))
 
 pub begin-returns-in-While-clause-kept : goal.begin-returns-in-While-clause-kept
 begin-returns-in-While-clause-kept g m c = λ S names size st e l i p q.
@@ -379,10 +386,10 @@ pub set_local-returns-then-is_left-clause-kept : goal.set_local-returns-then-is_
 set_local-returns-then-is_left-clause-kept g m c = λ name S names size st e l i p q. c.walk-came.ensures.kept S names size st e (sub (fits S c.args.value.now) l (snd _ _ l.fits)) i p q
 
 pub set_local-returns-then-is_left-clause-came : goal.set_local-returns-then-is_left-clause-came
-set_local-returns-then-is_left-clause-came g m c = λ name S start h k me names size st e l a.
+set_local-returns-then-is_left-clause-came g m c = λ name step is S start h k me names size st e l a.
     let w = c.walk-came in
-    let come = w.ensures.came S start h (Then (AssignTo name) ∷ k) me names size st e (sub (fits S c.args.value.now) l (snd _ _ l.fits)) a in
-    passes S _ start h w.result w.new.self.value w.new.self.leave _ (AssignTo name) k _ _ _ (sym c.is_left.ensures ∙ c.if-is_left.true) come
+    let came = w.ensures.came S start h (Then step ∷ k) me names size st e (sub (fits S c.args.value.now) l (snd _ _ l.fits)) a in
+    passes S _ start h w.result w.new.self.value w.new.self.leave _ step k _ _ _ (sym c.is_left.ensures ∙ c.if-is_left.true) came
 
 pub set_local-returns-clause-kept : goal.set_local-returns-clause-kept
 set_local-returns-clause-kept g m c = λ name S names size st e l i p q.
@@ -391,13 +398,13 @@ set_local-returns-clause-kept g m c = λ name S names size st e l i p q.
     kept_write c.args.slot i _ _ _ _ (λ z. omega (arith, z, s, l.within, p)) c.write.ensures.written ∙ w.ensures.kept S names size st e (sub (fits S c.args.value.now) l (snd _ _ l.fits)) i p q
 
 pub set_local-returns-clause-came : goal.set_local-returns-clause-came
-set_local-returns-clause-came g m c = λ name S start h k me names size st e l a.
+set_local-returns-clause-came g m c = λ name step is S start h k me names size st e l a.
     let w = c.walk-came in
-    let come = w.ensures.came S start h (Then (AssignTo name) ∷ k) me names size st e (sub (fits S c.args.value.now) l (snd _ _ l.fits)) a in
+    let come = w.ensures.came S start h (Then step ∷ k) me names size st e (sub (fits S c.args.value.now) l (snd _ _ l.fits)) a in
     let none = sym c.is_left.ensures ∙ c.if-is_left.false in
     let v = given w.result w.new.self.value w.new.self.leave none come in
     let len : length names ≤ length w.new.room = omega (arith, l.within, l.below, l.room, w.ensures.room) in
-    rw (c.write.ensures.left, c.write.ensures.store) (assigned name names c.args.slot w.new.room c.write.new.room (value_of w.result w.new.self.value) me _ len (fst _ _ l.fits) c.write.ensures.written v)
+    rw (c.write.ensures.left, c.write.ensures.store) (assigned name step names c.args.slot w.new.room c.write.new.room (value_of w.result w.new.self.value) me _ is len (fst _ _ l.fits) c.write.ensures.written v)
 
 pub repeat-returns-then-not-goes_on-clause-came : goal.repeat-returns-then-not-goes_on-clause-came
 repeat-returns-then-not-goes_on-clause-came g m c = λ S start h k me names size st e l a.
@@ -506,3 +513,373 @@ repeat-turns-preserved-then-is_left g m c =
     let z = gone w.result w.new.self.value w.new.self.leave (sym c.is_left.ensures ∙ c.if-is_left.true) in
     tested_again S _ start h w.new.self.leave w.new.self.value _ (erase c.args.condition.now) (map erase c.args.body.now) k _ _ _ (ap goes_on (sym z) ∙ (sym c.goes_on.ensures ∙ c.if-not-goes_on.false)) (comes S _ start h _ _ _ _ _ _ _ (sym z) e1);
     }
+
+pub read_element-returns-then-is_left-clause-came : goal.read_element-returns-then-is_left-clause-came
+read_element-returns-then-is_left-clause-came g m c = λ op value S start h k me names size st e l a.
+    let w = c.walk-came in
+    let e1 = w.ensures.came S start h (Then (IndexedBy (erase c.args.index.now) op value c.args.at) ∷ k) me names size st e (sub (fits S c.args.receiver.now) l (fst _ _ l.fits)) a in
+    passes S _ start h w.result w.new.self.value w.new.self.leave _ (IndexedBy (erase c.args.index.now) op value c.args.at) k _ _ _ (sym c.is_left.ensures ∙ c.if-is_left.true) e1
+
+pub read_element-returns-then-is_left-2-clause-came : goal.read_element-returns-then-is_left-2-clause-came
+read_element-returns-then-is_left-2-clause-came g m c = λ op value S start h k me names size st e l a.
+    let w = c.walk-came in
+    let e1 = w.ensures.came S start h (Then (IndexedBy (erase c.args.index.now) op value c.args.at) ∷ k) me names size st e (sub (fits S c.args.receiver.now) l (fst _ _ l.fits)) a in
+    let first = value_of w.result w.new.self.value in
+    let g1 = given w.result w.new.self.value w.new.self.leave (sym c.is_left.ensures ∙ c.if-is_left.false) e1 in
+    let u = c.walk-came-2 in
+    let under = moved _ _ w.ensures.base w.ensures.room (sub (fits S c.args.index.now) l (snd _ _ l.fits)) in
+    let f = rw w.ensures.context at u.ensures.came in
+    let e2 = f S start h (Then (IndexOf first op value c.args.at) ∷ k) me names size st e under (on _ g1 refl) in
+    passes S _ start h u.result u.new.self.value u.new.self.leave _ (IndexOf first op value c.args.at) k _ _ _ (sym c.is_left-2.ensures ∙ c.if-is_left-2.true) e2
+
+pub read_element-returns-clause-came : goal.read_element-returns-clause-came
+read_element-returns-clause-came g m c = λ op value S start h k me names size st e l a.
+    let w = c.walk-came in
+    let e1 = w.ensures.came S start h (Then (IndexedBy (erase c.args.index.now) op value c.args.at) ∷ k) me names size st e (sub (fits S c.args.receiver.now) l (fst _ _ l.fits)) a in
+    let first = value_of w.result w.new.self.value in
+    let g1 = given w.result w.new.self.value w.new.self.leave (sym c.is_left.ensures ∙ c.if-is_left.false) e1 in
+    let u = c.walk-came-2 in
+    let under = moved _ _ w.ensures.base w.ensures.room (sub (fits S c.args.index.now) l (snd _ _ l.fits)) in
+    let f = rw w.ensures.context at u.ensures.came in
+    let e2 = f S start h (Then (IndexOf first op value c.args.at) ∷ k) me names size st e under (on _ g1 refl) in
+    let second = value_of u.result u.new.self.value in
+    let g2 = given u.result u.new.self.value u.new.self.leave (sym c.is_left-2.ensures ∙ c.if-is_left-2.false) e2 in
+    let o = c.raise.ensures in
+    rw (o.gives, o.left, o.store) (same (on _ g2 refl) (no_such S first (codes "[]") (second ∷ []) None c.args.at (Then (ReadOf (OfElement first second) op value c.args.at) ∷ k) _ _ _ st.classes refl))
+
+pub refuse_value-returns-then-is_left-clause-came : goal.refuse_value-returns-then-is_left-clause-came
+refuse_value-returns-then-is_left-clause-came g m c = λ receiver name S start h k me names size st e l a.
+    let w = c.walk-came in
+    let e1 = w.ensures.came S start h (Then (WriteTo (OfAttribute receiver (text_of S name)) c.args.at) ∷ k) me names size st e (sub (fits S c.args.value.now) l (snd _ _ l.fits)) a in
+    passes S _ start h w.result w.new.self.value w.new.self.leave _ (WriteTo (OfAttribute receiver (text_of S name)) c.args.at) k _ _ _ (sym c.is_left.ensures ∙ c.if-is_left.true) e1
+
+pub refuse_value-returns-clause-came : goal.refuse_value-returns-clause-came
+refuse_value-returns-clause-came g m c = λ receiver name S start h k me names size st e l a.
+    let w = c.walk-came in
+    let e1 = w.ensures.came S start h (Then (WriteTo (OfAttribute receiver (text_of S name)) c.args.at) ∷ k) me names size st e (sub (fits S c.args.value.now) l (snd _ _ l.fits)) a in
+    let v = value_of w.result w.new.self.value in
+    let g1 = given w.result w.new.self.value w.new.self.leave (sym c.is_left.ensures ∙ c.if-is_left.false) e1 in
+    let o = c.raise.ensures in
+    rw (o.gives, o.left, o.store) (same (on _ g1 refl) (no_such S receiver (text_of S name ++ codes "=") (v ∷ []) None c.args.at (Then (Instead v) ∷ k) _ _ _ st.classes (fst _ _ l.fits)))
+
+pub operate-returns-then-is_left-clause-came : goal.operate-returns-then-is_left-clause-came
+operate-returns-then-is_left-clause-came g m c = λ name S start h k me names size st e l a.
+    let w = c.walk-came in
+    let e1 = w.ensures.came S start h (Then (ReceiverOf (text_of S name) (erase c.args.right.now ∷ []) None c.args.at) ∷ k) me names size st e (sub (fits S c.args.left.now) l (fst _ _ (snd _ _ l.fits))) a in
+    passes S _ start h w.result w.new.self.value w.new.self.leave _ (ReceiverOf (text_of S name) (erase c.args.right.now ∷ []) None c.args.at) k _ _ _ (sym c.is_left.ensures ∙ c.if-is_left.true) e1
+
+pub operate-returns-then-is_left-clause-kept : goal.operate-returns-then-is_left-clause-kept
+operate-returns-then-is_left-clause-kept g m c = λ name S names size st e l i p q.
+    c.walk-came.ensures.kept S names size st e (sub (fits S c.args.left.now) l (fst _ _ (snd _ _ l.fits))) i p q
+
+pub operate-returns-then-is_left-2-clause-came : goal.operate-returns-then-is_left-2-clause-came
+operate-returns-then-is_left-2-clause-came g m c = λ name S start h k me names size st e l a.
+    let w = c.walk-came in
+    let e1 = w.ensures.came S start h (Then (ReceiverOf (text_of S name) (erase c.args.right.now ∷ []) None c.args.at) ∷ k) me names size st e (sub (fits S c.args.left.now) l (fst _ _ (snd _ _ l.fits))) a in
+    let first = value_of w.result w.new.self.value in
+    let g1 = given w.result w.new.self.value w.new.self.leave (sym c.is_left.ensures ∙ c.if-is_left.false) e1 in
+    let t = c.take-receiver in
+    let u = c.walk-came-2 in
+    let under = moved _ _ (t.ensures.base ∙ w.ensures.base) w.ensures.room (sub (fits S c.args.right.now) l (snd _ _ (snd _ _ l.fits))) in
+    let f = rw (t.ensures.context, t.ensures.left, t.ensures.store, w.ensures.context) at u.ensures.came in
+    let e2 = f S start h (Then (Argument (OnReceiver first (text_of S name) None) [] [] c.args.at) ∷ k) me names size st e under (on _ (on _ g1 refl) refl) in
+    passes S _ start h u.result u.new.self.value u.new.self.leave _ (Argument (OnReceiver first (text_of S name) None) [] [] c.args.at) k _ _ _ (sym c.is_left-2.ensures ∙ c.if-is_left-2.true) e2
+
+pub operate-returns-then-is_left-2-clause-kept : goal.operate-returns-then-is_left-2-clause-kept
+operate-returns-then-is_left-2-clause-kept g m c = λ name S names size st e l i p q.
+    let w = c.walk-came in
+    let t = c.take-receiver in
+    let u = c.walk-came-2 in
+    let under = moved _ _ (t.ensures.base ∙ w.ensures.base) w.ensures.room (sub (fits S c.args.right.now) l (snd _ _ (snd _ _ l.fits))) in
+    let f = rw (t.ensures.context, w.ensures.context) at u.ensures.kept in
+    f S names size st e under i p (omega (arith, q, w.ensures.base, t.ensures.base)) ∙ w.ensures.kept S names size st e (sub (fits S c.args.left.now) l (fst _ _ (snd _ _ l.fits))) i p q
+
+pub operate-returns-clause-kept : goal.operate-returns-clause-kept
+operate-returns-clause-kept g m c = λ name S names size st e l i p q.
+    let w = c.walk-came in
+    let t = c.take-receiver in
+    let u = c.walk-came-2 in
+    let under = moved _ _ (t.ensures.base ∙ w.ensures.base) w.ensures.room (sub (fits S c.args.right.now) l (snd _ _ (snd _ _ l.fits))) in
+    let f = rw (t.ensures.context, w.ensures.context) at u.ensures.kept in
+    f S names size st e under i p (omega (arith, q, w.ensures.base, t.ensures.base)) ∙ w.ensures.kept S names size st e (sub (fits S c.args.left.now) l (fst _ _ (snd _ _ l.fits))) i p q
+
+pub operate-returns-clause-came : goal.operate-returns-clause-came
+operate-returns-clause-came g m c = λ name S start h k me names size st e l a.
+    let w = c.walk-came in
+    let e1 = w.ensures.came S start h (Then (ReceiverOf (text_of S name) (erase c.args.right.now ∷ []) None c.args.at) ∷ k) me names size st e (sub (fits S c.args.left.now) l (fst _ _ (snd _ _ l.fits))) a in
+    let first = value_of w.result w.new.self.value in
+    let g1 = given w.result w.new.self.value w.new.self.leave (sym c.is_left.ensures ∙ c.if-is_left.false) e1 in
+    let t = c.take-receiver in
+    let u = c.walk-came-2 in
+    let under = moved _ _ (t.ensures.base ∙ w.ensures.base) w.ensures.room (sub (fits S c.args.right.now) l (snd _ _ (snd _ _ l.fits))) in
+    let f = rw (t.ensures.context, t.ensures.left, t.ensures.store, w.ensures.context) at u.ensures.came in
+    let e2 = f S start h (Then (Argument (OnReceiver first (text_of S name) None) [] [] c.args.at) ∷ k) me names size st e under (on _ (on _ g1 refl) refl) in
+    let g2 = given u.result u.new.self.value u.new.self.leave (sym c.is_left-2.ensures ∙ c.if-is_left-2.false) e2 in
+    let y = c.take-arg in
+    let o = c.operated.ensures in
+    let number = same_is (builtin_of (text_of S name)) c.args.method (fst _ _ l.fits) in
+    let d = rw (y.ensures.context, u.ensures.context, t.ensures.context, w.ensures.context, sym e, t.ensures.value, y.ensures.value) at o.gives (text_of S name) number in
+    rw (o.left, o.store, y.ensures.left, y.ensures.store) (calls S _ start h _ first (text_of S name) (value_of u.result u.new.self.value ∷ []) c.args.at k _ _ _ _ st.classes d (on _ (on _ g2 refl) refl))
+
+pub operate-returns-in-Some-clause-came : goal.operate-returns-in-Some-clause-came
+operate-returns-in-Some-clause-came g m c = λ name S start h k me names size st e l a.
+    let len : length names ≤ length c.args.room.now = omega (arith, l.within, l.below, l.room) in
+    let is = c.in-Some.ensures in
+    let more = c.if-self-gt1.true in
+    let left = c.args.self.now.left in
+    let e1 = is.2 S _ names size c.args.depth left start h _ (Then (ReceiverOf (text_of S name) (erase c.args.right.now ∷ []) None c.args.at) ∷ k) me (fst _ _ (snd _ _ l.fits)) len (omega (arith, more)) c.if-depth-lt-MAX_DEPTH.true a in
+    let e2 = is.3 S _ names size c.args.depth (left - 1) start h _ (Then (Argument (OnReceiver (Int is.0) (text_of S name) None) [] [] c.args.at) ∷ k) me (snd _ _ (snd _ _ l.fits)) len (omega (arith, more)) c.if-depth-lt-MAX_DEPTH.true (on _ (on _ e1 refl) refl) in
+    let number = same_is (builtin_of (text_of S name)) c.args.method (fst _ _ l.fits) in
+    let twice : left - 2 ≡ left - 1 - 1 = omega arith in
+    let o = c.answer.ensures in
+    rw (o.gives, o.left, o.store, twice, sym (is.4 S.program.names (text_of S name) number)) (calls S _ start h _ (Int is.0) (text_of S name) (Int is.1 ∷ []) c.args.at k _ _ _ _ st.classes (inl refl) (on _ (on _ e2 refl) refl))
+
+pub combine-returns-in-Some-clause-came : goal.combine-returns-in-Some-clause-came
+combine-returns-in-Some-clause-came g m c = λ S start h k me names size st e l a.
+    let len : length names ≤ length c.args.room.now = omega (arith, l.within, l.below, l.room) in
+    let is = c.in-Some.ensures in
+    let left = c.args.self.now.left in
+    let v = ap (λ r. value_of r c.args.self.now.value) is.2 in
+    let e0 = same a (ap (λ v. On (Eval (erase c.args.value.now)) (Then (RightOf v c.args.op c.args.at) ∷ k) (scope_of me names c.args.room.now) c.args.depth left) v) in
+    let e1 = is.3 S _ names size c.args.depth left start h _ (Then (RightOf (Int is.0) c.args.op c.args.at) ∷ k) me l.fits len c.if-self-gt0.true c.if-depth-lt-MAX_DEPTH.true e0 in
+    let number = operator_number S c.args.op ∙ sym c.method_of.ensures in
+    let o = c.answer.ensures in
+    rw (o.gives, o.left, o.store, sym (is.4 S.program.names (operator S c.args.op) number)) (calls S _ start h _ (Int is.0) (operator S c.args.op) (Int is.1 ∷ []) c.args.at k _ _ _ _ st.classes (inl refl) (on _ e1 refl))
+
+pub combine-returns-then-is_left-clause-came : goal.combine-returns-then-is_left-clause-came
+combine-returns-then-is_left-clause-came g m c = λ S start h k me names size st e l a.
+    let t = c.take-receiver in
+    let w = c.walk-came in
+    let under = moved _ _ t.ensures.base refl (sub (fits S c.args.value.now) l l.fits) in
+    let f = rw (t.ensures.context, t.ensures.left, t.ensures.store) at w.ensures.came in
+    let e1 = f S start h (Then (RightOf (value_of c.args.current c.args.self.now.value) c.args.op c.args.at) ∷ k) me names size st e under a in
+    passes S _ start h w.result w.new.self.value w.new.self.leave _ (RightOf (value_of c.args.current c.args.self.now.value) c.args.op c.args.at) k _ _ _ (sym c.is_left.ensures ∙ c.if-is_left.true) e1
+
+pub combine-returns-clause-came : goal.combine-returns-clause-came
+combine-returns-clause-came g m c = λ S start h k me names size st e l a.
+    let t = c.take-receiver in
+    let w = c.walk-came in
+    let under = moved _ _ t.ensures.base refl (sub (fits S c.args.value.now) l l.fits) in
+    let f = rw (t.ensures.context, t.ensures.left, t.ensures.store) at w.ensures.came in
+    let e1 = f S start h (Then (RightOf (value_of c.args.current c.args.self.now.value) c.args.op c.args.at) ∷ k) me names size st e under a in
+    let g1 = given w.result w.new.self.value w.new.self.leave (sym c.is_left.ensures ∙ c.if-is_left.false) e1 in
+    let y = c.take-arg in
+    let o = c.operated.ensures in
+    let number = operator_number S c.args.op ∙ sym c.method_of.ensures in
+    let d = rw (y.ensures.context, w.ensures.context, t.ensures.context, sym e, t.ensures.value, y.ensures.value) at o.gives (operator S c.args.op) number in
+    rw (o.left, o.store, y.ensures.left, y.ensures.store) (calls S _ start h _ (value_of c.args.current c.args.self.now.value) (operator S c.args.op) (value_of w.result w.new.self.value ∷ []) c.args.at k _ _ _ _ st.classes d (on _ g1 refl))
+
+pub combine-returns-then-is_left-clause-kept : goal.combine-returns-then-is_left-clause-kept
+combine-returns-then-is_left-clause-kept g m c = λ S names size st e l i p q.
+    let t = c.take-receiver in
+    let w = c.walk-came in
+    let under = moved _ _ t.ensures.base refl (sub (fits S c.args.value.now) l l.fits) in
+    let f = rw t.ensures.context at w.ensures.kept in
+    f S names size st e under i p (omega (arith, q, t.ensures.base))
+
+pub combine-returns-clause-kept : goal.combine-returns-clause-kept
+combine-returns-clause-kept g m c = λ S names size st e l i p q.
+    let t = c.take-receiver in
+    let w = c.walk-came in
+    let under = moved _ _ t.ensures.base refl (sub (fits S c.args.value.now) l l.fits) in
+    let f = rw t.ensures.context at w.ensures.kept in
+    f S names size st e under i p (omega (arith, q, t.ensures.base))
+
+pub update_local-returns-then-is_left-clause-came : goal.update_local-returns-then-is_left-clause-came
+update_local-returns-then-is_left-clause-came g m c = λ name S start h k me names size st e l a.
+    let len : length names ≤ length c.args.room.now = omega (arith, l.within, l.below, l.room) in
+    let r = c.read-current in
+    let come = reads S _ start h _ (Then (ReadOf (OfLocal name) c.args.op (erase c.args.value.now) c.args.at) ∷ k) c.args.depth _ name names c.args.room.now c.args.slot me (outcome r.result r.new.self.value r.new.self.leave) len (fst _ _ l.fits) r.ensures.gives a in
+    rw (r.ensures.left, r.ensures.store) (passes S _ start h r.result r.new.self.value r.new.self.leave _ (ReadOf (OfLocal name) c.args.op (erase c.args.value.now) c.args.at) k _ _ _ (sym c.is_left.ensures ∙ c.if-is_left.true) come)
+
+pub update_local-returns-then-is_true_now-clause-came : goal.update_local-returns-then-is_true_now-clause-came
+update_local-returns-then-is_true_now-clause-came g m c = λ name S start h k me names size st e l a.
+    let len : length names ≤ length c.args.room.now = omega (arith, l.within, l.below, l.room) in
+    let r = c.read-current in
+    let come = reads S _ start h _ (Then (ReadOf (OfLocal name) c.args.op (erase c.args.value.now) c.args.at) ∷ k) c.args.depth _ name names c.args.room.now c.args.slot me (outcome r.result r.new.self.value r.new.self.leave) len (fst _ _ l.fits) r.ensures.gives a in
+    let none = sym c.is_left.ensures ∙ c.if-is_left.false in
+    let g1 = given r.result r.new.self.value r.new.self.leave none come in
+    let v = value_of r.result r.new.self.value in
+    let t = sym (c.is_true_now.ensures none) ∙ c.if-is_true_now.true in
+    rw (r.ensures.left, r.ensures.store) (comes S _ start h _ k _ _ _ _ _ (gave r.result r.new.self.value r.new.self.leave none) (or_else_stays S _ start h v (OfLocal name) c.args.op (erase c.args.value.now) c.args.at c.in-OrElse.is t g1))
+
+pub update_local-returns-else-is_true_now-clause-came : goal.update_local-returns-else-is_true_now-clause-came
+update_local-returns-else-is_true_now-clause-came g m c = λ name S start h k me names size st e l a.
+    let len : length names ≤ length c.args.room.now = omega (arith, l.within, l.below, l.room) in
+    let r = c.read-current in
+    let come = reads S _ start h _ (Then (ReadOf (OfLocal name) c.args.op (erase c.args.value.now) c.args.at) ∷ k) c.args.depth _ name names c.args.room.now c.args.slot me (outcome r.result r.new.self.value r.new.self.leave) len (fst _ _ l.fits) r.ensures.gives a in
+    let none = sym c.is_left.ensures ∙ c.if-is_left.false in
+    let g1 = given r.result r.new.self.value r.new.self.leave none come in
+    let v = value_of r.result r.new.self.value in
+    let t = sym (c.is_true_now.ensures none) ∙ c.if-is_true_now.false in
+    let under = moved _ _ r.ensures.base refl l in
+    let f = rw (r.ensures.context, r.ensures.left, r.ensures.store) at c.set_local.ensures.came in
+    f name (WriteTo (OfLocal name) c.args.at) (updating c.args.at) S start h k me names size st e under (or_else_goes S _ start h v (OfLocal name) c.args.op (erase c.args.value.now) c.args.at c.in-OrElse.is t g1)
+
+pub update_local-returns-then-not-is_true_now-clause-came : goal.update_local-returns-then-not-is_true_now-clause-came
+update_local-returns-then-not-is_true_now-clause-came g m c = λ name S start h k me names size st e l a.
+    let len : length names ≤ length c.args.room.now = omega (arith, l.within, l.below, l.room) in
+    let r = c.read-current in
+    let come = reads S _ start h _ (Then (ReadOf (OfLocal name) c.args.op (erase c.args.value.now) c.args.at) ∷ k) c.args.depth _ name names c.args.room.now c.args.slot me (outcome r.result r.new.self.value r.new.self.leave) len (fst _ _ l.fits) r.ensures.gives a in
+    let none = sym c.is_left.ensures ∙ c.if-is_left.false in
+    let g1 = given r.result r.new.self.value r.new.self.leave none come in
+    let v = value_of r.result r.new.self.value in
+    let t = sym (c.is_true_now-in-AndThen.ensures none) ∙ c.if-not-is_true_now.true in
+    rw (r.ensures.left, r.ensures.store) (comes S _ start h _ k _ _ _ _ _ (gave r.result r.new.self.value r.new.self.leave none) (and_then_stays S _ start h v (OfLocal name) c.args.op (erase c.args.value.now) c.args.at c.in-AndThen.is t g1))
+
+pub update_local-returns-else-not-is_true_now-clause-came : goal.update_local-returns-else-not-is_true_now-clause-came
+update_local-returns-else-not-is_true_now-clause-came g m c = λ name S start h k me names size st e l a.
+    let len : length names ≤ length c.args.room.now = omega (arith, l.within, l.below, l.room) in
+    let r = c.read-current in
+    let come = reads S _ start h _ (Then (ReadOf (OfLocal name) c.args.op (erase c.args.value.now) c.args.at) ∷ k) c.args.depth _ name names c.args.room.now c.args.slot me (outcome r.result r.new.self.value r.new.self.leave) len (fst _ _ l.fits) r.ensures.gives a in
+    let none = sym c.is_left.ensures ∙ c.if-is_left.false in
+    let g1 = given r.result r.new.self.value r.new.self.leave none come in
+    let v = value_of r.result r.new.self.value in
+    let t = sym (c.is_true_now-in-AndThen.ensures none) ∙ c.if-not-is_true_now.false in
+    let under = moved _ _ r.ensures.base refl l in
+    let f = rw (r.ensures.context, r.ensures.left, r.ensures.store) at c.set_local-in-AndThen.ensures.came in
+    f name (WriteTo (OfLocal name) c.args.at) (updating c.args.at) S start h k me names size st e under (and_then_goes S _ start h v (OfLocal name) c.args.op (erase c.args.value.now) c.args.at c.in-AndThen.is t g1)
+
+pub update_local-returns-then-is_left-2-clause-came : goal.update_local-returns-then-is_left-2-clause-came
+update_local-returns-then-is_left-2-clause-came g m c = λ name S start h k me names size st e l a.
+    let len : length names ≤ length c.args.room.now = omega (arith, l.within, l.below, l.room) in
+    let r = c.read-current in
+    let come = reads S _ start h _ (Then (ReadOf (OfLocal name) c.args.op (erase c.args.value.now) c.args.at) ∷ k) c.args.depth _ name names c.args.room.now c.args.slot me (outcome r.result r.new.self.value r.new.self.leave) len (fst _ _ l.fits) r.ensures.gives a in
+    let none = sym c.is_left.ensures ∙ c.if-is_left.false in
+    let g1 = given r.result r.new.self.value r.new.self.leave none come in
+    let v = value_of r.result r.new.self.value in
+    let g2 = operates S _ start h v (OfLocal name) c.args.op (erase c.args.value.now) c.args.at c.in_default.not-OrElse c.in_default.not-AndThen g1 in
+    let y = c.combine-made in
+    let f = rw (r.ensures.context, r.ensures.left, r.ensures.store) at y.ensures.came in
+    let under = moved _ _ r.ensures.base refl (sub (fits S c.args.value.now) l (snd _ _ l.fits)) in
+    let e2 = f S start h (Then (WriteTo (OfLocal name) c.args.at) ∷ k) me names size st e under g2 in
+    passes S _ start h y.result y.new.self.value y.new.self.leave _ (WriteTo (OfLocal name) c.args.at) k _ _ _ (sym c.is_left-in_default.ensures ∙ c.if-is_left-2.true) e2
+
+pub update_local-returns-else-is_left-2-clause-came : goal.update_local-returns-else-is_left-2-clause-came
+update_local-returns-else-is_left-2-clause-came g m c = λ name S start h k me names size st e l a.
+    let len : length names ≤ length c.args.room.now = omega (arith, l.within, l.below, l.room) in
+    let r = c.read-current in
+    let come = reads S _ start h _ (Then (ReadOf (OfLocal name) c.args.op (erase c.args.value.now) c.args.at) ∷ k) c.args.depth _ name names c.args.room.now c.args.slot me (outcome r.result r.new.self.value r.new.self.leave) len (fst _ _ l.fits) r.ensures.gives a in
+    let none = sym c.is_left.ensures ∙ c.if-is_left.false in
+    let g1 = given r.result r.new.self.value r.new.self.leave none come in
+    let v = value_of r.result r.new.self.value in
+    let g2 = operates S _ start h v (OfLocal name) c.args.op (erase c.args.value.now) c.args.at c.in_default.not-OrElse c.in_default.not-AndThen g1 in
+    let y = c.combine-made in
+    let f = rw (r.ensures.context, r.ensures.left, r.ensures.store) at y.ensures.came in
+    let under = moved _ _ r.ensures.base refl (sub (fits S c.args.value.now) l (snd _ _ l.fits)) in
+    let e2 = f S start h (Then (WriteTo (OfLocal name) c.args.at) ∷ k) me names size st e under g2 in
+    let g3 = given y.result y.new.self.value y.new.self.leave (sym c.is_left-in_default.ensures ∙ c.if-is_left-2.false) e2 in
+    let after : length names ≤ length y.new.room = omega (arith, len, y.ensures.room) in
+    rw (c.write.ensures.left, c.write.ensures.store) (assigned name (WriteTo (OfLocal name) c.args.at) names c.args.slot y.new.room c.write.new.room (value_of y.result y.new.self.value) me _ (updating c.args.at) after (fst _ _ l.fits) c.write.ensures.written g3)
+
+pub update_local-returns-else-is_left-2-clause-kept : goal.update_local-returns-else-is_left-2-clause-kept
+update_local-returns-else-is_left-2-clause-kept g m c = λ name S names size st e l i p q.
+    let r = c.read-current in
+    let y = c.combine-made in
+    let f = rw r.ensures.context at y.ensures.kept in
+    let under = moved _ _ r.ensures.base refl (sub (fits S c.args.value.now) l (snd _ _ l.fits)) in
+    let s = slot_within name names c.args.slot (fst _ _ l.fits) in
+    kept_write c.args.slot i _ _ _ _ (λ z. omega (arith, z, s, l.within, p)) c.write.ensures.written ∙ f S names size st e under i p (omega (arith, q, r.ensures.base))
+
+pub update_local-returns-then-is_left-2-clause-kept : goal.update_local-returns-then-is_left-2-clause-kept
+update_local-returns-then-is_left-2-clause-kept g m c = λ name S names size st e l i p q.
+    let r = c.read-current in
+    let y = c.combine-made in
+    let f = rw r.ensures.context at y.ensures.kept in
+    let under = moved _ _ r.ensures.base refl (sub (fits S c.args.value.now) l (snd _ _ l.fits)) in
+    f S names size st e under i p (omega (arith, q, r.ensures.base))
+
+pub refuse_attribute-returns-then-is_true_now-clause-came : goal.refuse_attribute-returns-then-is_true_now-clause-came
+refuse_attribute-returns-then-is_true_now-clause-came g m c = λ receiver name S start h k me names size st e l a.
+    let t = sym (c.is_true_now.ensures c.requires.came) ∙ c.if-is_true_now.true in
+    comes S _ start h _ k _ _ _ _ _ (gave c.args.current c.args.self.now.value c.args.self.now.leave c.requires.came) (or_else_stays S _ start h (value_of c.args.current c.args.self.now.value) (OfAttribute receiver (text_of S name)) c.args.op (erase c.args.value.now) c.args.at c.in-OrElse.is t a)
+
+pub refuse_attribute-returns-else-is_true_now-clause-came : goal.refuse_attribute-returns-else-is_true_now-clause-came
+refuse_attribute-returns-else-is_true_now-clause-came g m c = λ receiver name S start h k me names size st e l a.
+    let t = sym (c.is_true_now.ensures c.requires.came) ∙ c.if-is_true_now.false in
+    c.refuse_value.ensures.came receiver name S start h k me names size st e l (or_else_goes S _ start h (value_of c.args.current c.args.self.now.value) (OfAttribute receiver (text_of S name)) c.args.op (erase c.args.value.now) c.args.at c.in-OrElse.is t a)
+
+pub refuse_attribute-returns-then-not-is_true_now-clause-came : goal.refuse_attribute-returns-then-not-is_true_now-clause-came
+refuse_attribute-returns-then-not-is_true_now-clause-came g m c = λ receiver name S start h k me names size st e l a.
+    let t = sym (c.is_true_now-in-AndThen.ensures c.requires.came) ∙ c.if-not-is_true_now.true in
+    comes S _ start h _ k _ _ _ _ _ (gave c.args.current c.args.self.now.value c.args.self.now.leave c.requires.came) (and_then_stays S _ start h (value_of c.args.current c.args.self.now.value) (OfAttribute receiver (text_of S name)) c.args.op (erase c.args.value.now) c.args.at c.in-AndThen.is t a)
+
+pub refuse_attribute-returns-else-not-is_true_now-clause-came : goal.refuse_attribute-returns-else-not-is_true_now-clause-came
+refuse_attribute-returns-else-not-is_true_now-clause-came g m c = λ receiver name S start h k me names size st e l a.
+    let t = sym (c.is_true_now-in-AndThen.ensures c.requires.came) ∙ c.if-not-is_true_now.false in
+    c.refuse_value-in-AndThen.ensures.came receiver name S start h k me names size st e l (and_then_goes S _ start h (value_of c.args.current c.args.self.now.value) (OfAttribute receiver (text_of S name)) c.args.op (erase c.args.value.now) c.args.at c.in-AndThen.is t a)
+
+pub refuse_attribute-returns-then-is_left-clause-came : goal.refuse_attribute-returns-then-is_left-clause-came
+refuse_attribute-returns-then-is_left-clause-came g m c = λ receiver name S start h k me names size st e l a.
+    let y = c.combine-made in
+    let e2 = y.ensures.came S start h (Then (WriteTo (OfAttribute receiver (text_of S name)) c.args.at) ∷ k) me names size st e (sub (fits S c.args.value.now) l (snd _ _ l.fits)) (operates S _ start h (value_of c.args.current c.args.self.now.value) (OfAttribute receiver (text_of S name)) c.args.op (erase c.args.value.now) c.args.at c.in_default.not-OrElse c.in_default.not-AndThen a) in
+    passes S _ start h y.result y.new.self.value y.new.self.leave _ (WriteTo (OfAttribute receiver (text_of S name)) c.args.at) k _ _ _ (sym c.is_left.ensures ∙ c.if-is_left.true) e2
+
+pub refuse_attribute-returns-else-is_left-clause-came : goal.refuse_attribute-returns-else-is_left-clause-came
+refuse_attribute-returns-else-is_left-clause-came g m c = λ receiver name S start h k me names size st e l a.
+    let y = c.combine-made in
+    let e2 = y.ensures.came S start h (Then (WriteTo (OfAttribute receiver (text_of S name)) c.args.at) ∷ k) me names size st e (sub (fits S c.args.value.now) l (snd _ _ l.fits)) (operates S _ start h (value_of c.args.current c.args.self.now.value) (OfAttribute receiver (text_of S name)) c.args.op (erase c.args.value.now) c.args.at c.in_default.not-OrElse c.in_default.not-AndThen a) in
+    let g2 = given y.result y.new.self.value y.new.self.leave (sym c.is_left.ensures ∙ c.if-is_left.false) e2 in
+    let v = value_of y.result y.new.self.value in
+    let o = c.raise.ensures in
+    rw (o.gives, o.left, o.store) (same (on _ g2 refl) (no_such S receiver (text_of S name ++ codes "=") (v ∷ []) None c.args.at (Then (Instead v) ∷ k) _ _ _ st.classes (fst _ _ l.fits)))
+
+pub update_attribute-returns-then-is_left-clause-came : goal.update_attribute-returns-then-is_left-clause-came
+update_attribute-returns-then-is_left-clause-came g m c = λ name S start h k me names size st e l a.
+    let w = c.walk-came in
+    let rest = snd _ _ (snd _ _ l.fits) in
+    let e1 = w.ensures.came S start h (Then (MemberOf (text_of S name) c.args.op (erase c.args.value.now) c.args.at) ∷ k) me names size st e (sub (fits S c.args.receiver.now) l (fst _ _ rest)) a in
+    passes S _ start h w.result w.new.self.value w.new.self.leave _ (MemberOf (text_of S name) c.args.op (erase c.args.value.now) c.args.at) k _ _ _ (sym c.is_left.ensures ∙ c.if-is_left.true) e1
+
+pub update_attribute-returns-then-is_left-2-clause-came : goal.update_attribute-returns-then-is_left-2-clause-came
+update_attribute-returns-then-is_left-2-clause-came g m c = λ name S start h k me names size st e l a.
+    let w = c.walk-came in
+    let rest = snd _ _ (snd _ _ l.fits) in
+    let e1 = w.ensures.came S start h (Then (MemberOf (text_of S name) c.args.op (erase c.args.value.now) c.args.at) ∷ k) me names size st e (sub (fits S c.args.receiver.now) l (fst _ _ rest)) a in
+    let first = value_of w.result w.new.self.value in
+    let g1 = given w.result w.new.self.value w.new.self.leave (sym c.is_left.ensures ∙ c.if-is_left.false) e1 in
+    let t = c.take-receiver in
+    let m = c.call_method-current in
+    let number = same_is (builtin_of (text_of S name)) c.args.number (fst _ _ l.fits) in
+    let d = rw (t.ensures.context, w.ensures.context, sym e, t.ensures.value) at m.ensures.gives (text_of S name) number in
+    let e2 = calls S _ start h _ first (text_of S name) [] c.args.at (Then (ReadOf (OfAttribute first (text_of S name)) c.args.op (erase c.args.value.now) c.args.at) ∷ k) _ _ _ _ st.classes d (on _ g1 refl) in
+    rw (m.ensures.left, m.ensures.store, t.ensures.left, t.ensures.store) (passes S _ start h m.result m.new.self.value m.new.self.leave _ (ReadOf (OfAttribute first (text_of S name)) c.args.op (erase c.args.value.now) c.args.at) k _ _ _ (sym c.is_left-2.ensures ∙ c.if-is_left-2.true) e2)
+
+pub update_attribute-returns-clause-came : goal.update_attribute-returns-clause-came
+update_attribute-returns-clause-came g m c = λ name S start h k me names size st e l a.
+    let w = c.walk-came in
+    let rest = snd _ _ (snd _ _ l.fits) in
+    let e1 = w.ensures.came S start h (Then (MemberOf (text_of S name) c.args.op (erase c.args.value.now) c.args.at) ∷ k) me names size st e (sub (fits S c.args.receiver.now) l (fst _ _ rest)) a in
+    let first = value_of w.result w.new.self.value in
+    let g1 = given w.result w.new.self.value w.new.self.leave (sym c.is_left.ensures ∙ c.if-is_left.false) e1 in
+    let t = c.take-receiver in
+    let m = c.call_method-current in
+    let number = same_is (builtin_of (text_of S name)) c.args.number (fst _ _ l.fits) in
+    let d = rw (t.ensures.context, w.ensures.context, sym e, t.ensures.value) at m.ensures.gives (text_of S name) number in
+    let e2 = calls S _ start h _ first (text_of S name) [] c.args.at (Then (ReadOf (OfAttribute first (text_of S name)) c.args.op (erase c.args.value.now) c.args.at) ∷ k) _ _ _ _ st.classes d (on _ g1 refl) in
+    let g2 = given m.result m.new.self.value m.new.self.leave (sym c.is_left-2.ensures ∙ c.if-is_left-2.false) e2 in
+    let y = c.refuse_attribute in
+    let f = rw (m.ensures.context, m.ensures.left, m.ensures.store, t.ensures.context, t.ensures.left, t.ensures.store, w.ensures.context) at y.ensures.came in
+    let right = two _ _ (fst _ _ (snd _ _ l.fits)) (snd _ _ rest) in
+    let under = moved _ _ (m.ensures.base ∙ (t.ensures.base ∙ w.ensures.base)) w.ensures.room (sub (unwritten name (λ S. fits S c.args.value.now) S) l right) in
+    f first name S start h k me names size st e under g2
+
+pub update_attribute-returns-then-is_left-clause-kept : goal.update_attribute-returns-then-is_left-clause-kept
+update_attribute-returns-then-is_left-clause-kept g m c = λ name S names size st e l i p q.
+    c.walk-came.ensures.kept S names size st e (sub (fits S c.args.receiver.now) l (fst _ _ (snd _ _ (snd _ _ l.fits)))) i p q
+
+pub update_attribute-returns-then-is_left-2-clause-kept : goal.update_attribute-returns-then-is_left-2-clause-kept
+update_attribute-returns-then-is_left-2-clause-kept g m c = λ name S names size st e l i p q.
+    c.walk-came.ensures.kept S names size st e (sub (fits S c.args.receiver.now) l (fst _ _ (snd _ _ (snd _ _ l.fits)))) i p q
+
+pub update_attribute-returns-clause-kept : goal.update_attribute-returns-clause-kept
+update_attribute-returns-clause-kept g m c = λ name S names size st e l i p q.
+    let w = c.walk-came in
+    let t = c.take-receiver in
+    let m = c.call_method-current in
+    let rest = snd _ _ (snd _ _ l.fits) in
+    let y = c.refuse_attribute in
+    let f = rw (m.ensures.context, t.ensures.context, w.ensures.context) at y.ensures.kept in
+    let base = m.ensures.base ∙ (t.ensures.base ∙ w.ensures.base) in
+    let under = moved _ _ base w.ensures.room (sub (fits S c.args.value.now) l (snd _ _ rest)) in
+    f S names size st e under i p (omega (arith, q, base)) ∙ w.ensures.kept S names size st e (sub (fits S c.args.receiver.now) l (fst _ _ rest)) i p q

@@ -48,6 +48,9 @@ decreases-print g l = 9 * (1001 - l.depth) + 2
 abbrev pub decreases-read_element : goal.decreases-read_element
 decreases-read_element g l = 9 * (1001 - l.depth) + 1
 
+abbrev pub decreases-combine : goal.decreases-combine
+decreases-combine g l = 9 * (1001 - l.depth) + 1
+
 abbrev pub decreases-update_attribute : goal.decreases-update_attribute
 decreases-update_attribute g l = 9 * (1001 - l.depth) + 3
 

@@ -1,0 +1,86 @@
+-- Assignments with an operator, beside the machine.
+use Rattle.std.proofs.Common.{◌≡◌, ℕ, ◌-◌, ◌<◌, ◌≤◌, Bool, true, false, cond, List, [], ◌∷◌, ◌++◌, length, map, Option, Some, None, refl, sym, ap, ◌∙◌, subst, arith}
+use Rattle.std.specs.Prelude.{slice_get, codes}
+use Rattle.rb_tree.specs.declared.span.Span.{Span}
+use Rattle.rb_tree.specs.declared.span.NameId.{NameId}
+use Rattle.rb_tree.specs.declared.node.AssignOp.{AssignOp}
+use Rattle.rb_tree.specs.declared.node.AssignOp.TheVariants as op
+use Rattle.rb_tree.specs.declared.node.Node.{Node}
+use Rattle.rb_model.specs.Values.{Value as Val, plain, truthy}
+use Rattle.rb_model.specs.declared.value.Value.{Value as Held}
+use Rattle.rb_model.specs.Ends.{Memory}
+use Rattle.rb_model.specs.Log.{Log}
+use Rattle.rb_model.specs.Private.{Private}
+use Rattle.rb_machine.specs.Scopes.{Script, Scope, look, text_of}
+use Rattle.rb_machine.specs.Control.{State, On, Cont, Then, Eval, Give, Place, OfLocal, ReadOf, RightOf, WriteTo}
+use Rattle.rb_machine.specs.Call.{decide, operator}
+use Rattle.rb_machine.specs.Move.{Go}
+use Rattle.rb_machine.specs.Follows.{At}
+use Rattle.rb_builtin.specs.Names.{builtin_of}
+use Rattle.rb_code.specs.Layout.{bound, has_slot}
+use Rattle.rb_code.proofs.Slots.{slot_within}
+use Rattle.rb_interp.specs.Outcome.{Outcome, Gave, Over, Came}
+use Rattle.rb_interp.specs.Carries.{scope_of}
+use Rattle.rb_interp.specs.Answers.{OrMemory, method_of}
+use Rattle.rb_interp.proofs.Lists.{there}
+use Rattle.rb_interp.proofs.Rooms.{read_room}
+use Rattle.rb_interp.proofs.Moves.{on, same, gives}
+use Rattle.rb_interp.proofs.Calls.{or_memory}
+
+-- the operator's method has this number
+pub operator_number : (S : Script) (o : AssignOp) → builtin_of (operator S o) ≡ method_of o
+operator_number S op.Plus = refl
+operator_number S op.Minus = refl
+operator_number S op.Times = refl
+operator_number S op.Over = refl
+operator_number S op.Modulo = refl
+operator_number S op.OrElse = refl
+operator_number S op.AndThen = refl
+
+module _ (S : Script) (N : ℕ) (start : State) (h : Private) where
+  -- `||=` stays where the target is true, and goes on where it is not
+  pub or_else_stays : {l : Log} {k : List Cont} {sc : Scope} {d n : ℕ} (v : Val) (place : Place) (o : AssignOp) (value : Node) (at : Span) → o ≡ op.OrElse → truthy v ≡ true
+      → At S 0 N start l h (On (Give v) (Then (ReadOf place o value at) ∷ k) sc d n) → At S 0 N start l h (On (Give v) k sc d n)
+  or_else_stays {k = k} {sc = sc} {d = d} {n = n} v place o value at e t a =
+      on _ a (ap (λ o. Go (decide S v place o value at k sc d n)) e ∙ ap (λ t. Go (cond t (On (Give v) k sc d n) (On (Eval value) (Then (WriteTo place at) ∷ k) sc d n))) t)
+
+  pub or_else_goes : {l : Log} {k : List Cont} {sc : Scope} {d n : ℕ} (v : Val) (place : Place) (o : AssignOp) (value : Node) (at : Span) → o ≡ op.OrElse → truthy v ≡ false
+      → At S 0 N start l h (On (Give v) (Then (ReadOf place o value at) ∷ k) sc d n) → At S 0 N start l h (On (Eval value) (Then (WriteTo place at) ∷ k) sc d n)
+  or_else_goes {k = k} {sc = sc} {d = d} {n = n} v place o value at e t a =
+      on _ a (ap (λ o. Go (decide S v place o value at k sc d n)) e ∙ ap (λ t. Go (cond t (On (Give v) k sc d n) (On (Eval value) (Then (WriteTo place at) ∷ k) sc d n))) t)
+
+  -- and `&&=` the other way about
+  pub and_then_stays : {l : Log} {k : List Cont} {sc : Scope} {d n : ℕ} (v : Val) (place : Place) (o : AssignOp) (value : Node) (at : Span) → o ≡ op.AndThen → truthy v ≡ false
+      → At S 0 N start l h (On (Give v) (Then (ReadOf place o value at) ∷ k) sc d n) → At S 0 N start l h (On (Give v) k sc d n)
+  and_then_stays {k = k} {sc = sc} {d = d} {n = n} v place o value at e t a =
+      on _ a (ap (λ o. Go (decide S v place o value at k sc d n)) e ∙ ap (λ t. Go (cond t (On (Eval value) (Then (WriteTo place at) ∷ k) sc d n) (On (Give v) k sc d n))) t)
+
+  pub and_then_goes : {l : Log} {k : List Cont} {sc : Scope} {d n : ℕ} (v : Val) (place : Place) (o : AssignOp) (value : Node) (at : Span) → o ≡ op.AndThen → truthy v ≡ true
+      → At S 0 N start l h (On (Give v) (Then (ReadOf place o value at) ∷ k) sc d n) → At S 0 N start l h (On (Eval value) (Then (WriteTo place at) ∷ k) sc d n)
+  and_then_goes {k = k} {sc = sc} {d = d} {n = n} v place o value at e t a =
+      on _ a (ap (λ o. Go (decide S v place o value at k sc d n)) e ∙ ap (λ t. Go (cond t (On (Eval value) (Then (WriteTo place at) ∷ k) sc d n) (On (Give v) k sc d n))) t)
+
+  -- other operators evaluate the right side
+  decided : (o : AssignOp) (v : Val) (place : Place) (value : Node) (at : Span) (k : List Cont) (sc : Scope) (d n : ℕ) → (o ≡ op.OrElse → ⊥) → (o ≡ op.AndThen → ⊥)
+      → Go (decide S v place o value at k sc d n) ≡ Go (On (Eval value) (Then (RightOf v o at) ∷ Then (WriteTo place at) ∷ k) sc d n)
+  decided op.OrElse v place value at k sc d n f g = absurd (f refl)
+  decided op.AndThen v place value at k sc d n f g = absurd (g refl)
+  decided op.Plus v place value at k sc d n f g = refl
+  decided op.Minus v place value at k sc d n f g = refl
+  decided op.Times v place value at k sc d n f g = refl
+  decided op.Over v place value at k sc d n f g = refl
+  decided op.Modulo v place value at k sc d n f g = refl
+
+  pub operates : {l : Log} {k : List Cont} {sc : Scope} {d n : ℕ} (v : Val) (place : Place) (o : AssignOp) (value : Node) (at : Span) → (o ≡ op.OrElse → ⊥) → (o ≡ op.AndThen → ⊥)
+      → At S 0 N start l h (On (Give v) (Then (ReadOf place o value at) ∷ k) sc d n) → At S 0 N start l h (On (Eval value) (Then (RightOf v o at) ∷ Then (WriteTo place at) ∷ k) sc d n)
+  operates {k = k} {sc = sc} {d = d} {n = n} v place o value at f g a = on _ a (decided o v place value at k sc d n f g)
+
+  -- a local that is read
+  pub reads : (l : Log) (k : List Cont) (d n : ℕ) (name : NameId) (names : List NameId) (room : List Held) (slot : ℕ) (me : Val) (o : Outcome) → length names ≤ length room → has_slot name names slot ≡ true
+      → ((v : Held) → slice_get room slot ≡ Some v → OrMemory (Gave (plain v)) o)
+      → At S 0 N start l h (On (Give (look name (bound names (map plain room)))) k (scope_of me names room) d n) → Came S N start l h o k (scope_of me names room) d n
+  reads l k d n name names room slot me o p s g a =
+      let below = slot_within name names slot s in
+      let v = there room slot (omega (arith, below, p)) in
+      or_memory S N start h l k (scope_of me names room) d n (Gave (plain v.0)) o (On (Give (look name (bound names (map plain room)))) k (scope_of me names room) d n) (g v.0 v.1) a refl
+      (gives (plain v.0) (read_room name names room slot v.0 p s v.1) a)
