@@ -136,3 +136,12 @@ there (x ∷ xs) (suc i) h = there xs i (omega (arith, h))
 pub two : (a b : Bool) → a ≡ true → b ≡ true → (a && b) ≡ true
 two true b h q = q
 two false b h q = absurd (cc)
+
+pub fst_two : (a b c : Bool) → (a && (b && c)) ≡ true → (a && b) ≡ true
+fst_two true true c h = refl
+fst_two true false c h = h
+fst_two false b c h = h
+
+pub nothing : {A : Type 0} (o : Option A) → ((x : A) → o ≡ Some x → ⊥) → o ≡ None
+nothing None h = refl
+nothing (Some x) h = absurd (h x refl)

@@ -1,11 +1,14 @@
 -- Assignments with an operator, beside the machine.
-use Rattle.std.proofs.Common.{◌≡◌, ℕ, ◌-◌, ◌<◌, ◌≤◌, Bool, true, false, cond, List, [], ◌∷◌, ◌++◌, length, map, Option, Some, None, refl, sym, ap, ◌∙◌, subst, arith}
-use Rattle.std.specs.Prelude.{slice_get, codes}
+use Rattle.std.proofs.Common.{◌≡◌, ℕ, ◌-◌, ◌<◌, ◌≤◌, Bool, true, false, cond, List, [], ◌∷◌, ◌++◌, length, map, Option, Some, None, refl, sym, ap, ◌∙◌, subst, arith, rules}
+use Rattle.std.specs.Prelude.{◌&&◌, slice_get, codes}
 use Rattle.rb_tree.specs.declared.span.Span.{Span}
 use Rattle.rb_tree.specs.declared.span.NameId.{NameId}
 use Rattle.rb_tree.specs.declared.node.AssignOp.{AssignOp}
 use Rattle.rb_tree.specs.declared.node.AssignOp.TheVariants as op
-use Rattle.rb_tree.specs.declared.node.Node.{Node}
+use Rattle.rb_tree.specs.declared.node.Node.{Node, the_lemmas}
+use Rattle.rb_tree.specs.declared.node.Node.TheOpen as node
+use Rattle.rb_tree.specs.declared.node.Target.{out-Target}
+use Rattle.rb_tree.specs.declared.node.Target.TheVariants as target
 use Rattle.rb_model.specs.Values.{Value as Val, plain, truthy}
 use Rattle.rb_model.specs.declared.value.Value.{Value as Held}
 use Rattle.rb_model.specs.Ends.{Memory}
@@ -13,16 +16,20 @@ use Rattle.rb_model.specs.Log.{Log}
 use Rattle.rb_model.specs.Private.{Private}
 use Rattle.rb_machine.specs.Scopes.{Script, Scope, look, text_of}
 use Rattle.rb_machine.specs.Control.{State, On, Cont, Then, Eval, Give, Place, OfLocal, ReadOf, RightOf, WriteTo}
+use Rattle.rb_machine.specs.Begin.{begin_target}
 use Rattle.rb_machine.specs.Call.{decide, operator}
 use Rattle.rb_machine.specs.Move.{Go}
 use Rattle.rb_machine.specs.Follows.{At}
+use Rattle.rb_builtin.specs.declared.builtin.Builtin.{Builtin}
 use Rattle.rb_builtin.specs.Names.{builtin_of}
+use Rattle.rb_code.specs.declared.code.Code.{Code}
+use Rattle.rb_code.specs.Resolved.{fits, has_number, is_free}
 use Rattle.rb_code.specs.Layout.{bound, has_slot}
 use Rattle.rb_code.proofs.Slots.{slot_within}
 use Rattle.rb_interp.specs.Outcome.{Outcome, Gave, Over, Came}
-use Rattle.rb_interp.specs.Carries.{scope_of}
+use Rattle.rb_interp.specs.Carries.{scope_of, both, numbered, unwritten}
 use Rattle.rb_interp.specs.Answers.{OrMemory, method_of}
-use Rattle.rb_interp.proofs.Lists.{there}
+use Rattle.rb_interp.proofs.Lists.{fst, snd, two, there}
 use Rattle.rb_interp.proofs.Rooms.{read_room}
 use Rattle.rb_interp.proofs.Moves.{on, same, gives}
 use Rattle.rb_interp.proofs.Calls.{or_memory}
@@ -36,6 +43,27 @@ operator_number S op.Over = refl
 operator_number S op.Modulo = refl
 operator_number S op.OrElse = refl
 operator_number S op.AndThen = refl
+
+-- the parts of a target
+pub target_local : (S : Script) (name : NameId) (o : AssignOp) (value : Node) (at : Span) (k : List Cont) (sc : Scope) (d n : ℕ)
+    → begin_target S (out-Target (target.Local name)) o value at k sc d n ≡ begin_target S (node.«Target::Local» name) o value at k sc d n
+target_local S name o value at k sc d n = let e : out-Target (target.Local name) ≡ node.«Target::Local» name = search (rules, the_lemmas) in ap (λ t. begin_target S t o value at k sc d n) e
+
+pub target_element : (S : Script) (receiver index : Node) (o : AssignOp) (value : Node) (at : Span) (k : List Cont) (sc : Scope) (d n : ℕ)
+    → begin_target S (out-Target (target.Index receiver index)) o value at k sc d n ≡ begin_target S (node.Index receiver index) o value at k sc d n
+target_element S receiver index o value at k sc d n = let e : out-Target (target.Index receiver index) ≡ node.Index receiver index = search (rules, the_lemmas) in ap (λ t. begin_target S t o value at k sc d n) e
+
+pub target_attribute : (S : Script) (receiver : Node) (name : NameId) (o : AssignOp) (value : Node) (at : Span) (k : List Cont) (sc : Scope) (d n : ℕ)
+    → begin_target S (out-Target (target.Attribute receiver name)) o value at k sc d n ≡ begin_target S (node.Attribute receiver name) o value at k sc d n
+target_attribute S receiver name o value at k sc d n = let e : out-Target (target.Attribute receiver name) ≡ node.Attribute receiver name = search (rules, the_lemmas) in ap (λ t. begin_target S t o value at k sc d n) e
+
+-- where no method writes the attribute of a name, behind the receiver
+pub left_unwritten : (S : Script) (number : Option Builtin) (name : NameId) (receiver value : Code) (names : List NameId) (size : ℕ)
+    → numbered number name (unwritten name (both (λ S. fits S receiver) (λ S. fits S value))) S names size ≡ true → unwritten name (λ S. fits S value) S names size ≡ true
+left_unwritten S number name receiver value names size h =
+    let free = is_free (text_of S name ++ codes "=") in
+    let right = snd (has_number S number name) (free && (fits S receiver names size && fits S value names size)) h in
+    two free (fits S value names size) (fst free (fits S receiver names size && fits S value names size) right) (snd (fits S receiver names size) (fits S value names size) (snd free (fits S receiver names size && fits S value names size) right))
 
 module _ (S : Script) (N : ℕ) (start : State) (h : Private) where
   -- `||=` stays where the target is true, and goes on where it is not

@@ -1,9 +1,8 @@
-//! The walk of one thread over the resolved tree.
+//! The walk of one thread over the resolved tree, step by step that of the reference machine.
 #![tactic(auto)]
 
 mod came;
 mod slots;
 mod walker;
 
-pub use came::{Came, Leave};
-pub use walker::{Context, Walker};
+pub use walker::{Context, run_main};

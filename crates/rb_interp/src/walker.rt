@@ -1,6 +1,7 @@
 // The walk.
 
 ghost use Rattle.std.specs.Prelude.{◌≡◌, ◌≤◌, ◌<◌, ◌+◌, ◌+ℤ◌, pos, ℕ, true, false, List, [], ◌∷◌, ◌++◌, length, map, take, drop, slice_get, Some, None, IfSome, OnOk};
+ghost use Rattle.std.specs.Option.{option_map};
 ghost use Rattle.rb_tree.specs.declared.node.Node.{Node as Tree, out-Node};
 ghost use Rattle.rb_tree.specs.declared.node.AssignOp.{AssignOp as Op};
 ghost use Rattle.rb_tree.specs.declared.span.NameId.{NameId};
@@ -8,19 +9,26 @@ ghost use Rattle.rb_tree.specs.Place.{place};
 ghost use Rattle.rb_model.specs.Values.{Value as Val, Nil, Int, plain, truthy};
 ghost use Rattle.rb_model.specs.declared.value.Value.{Value as Held};
 ghost use Rattle.rb_model.specs.declared.value.Value.TheVariants as held;
-ghost use Rattle.rb_model.specs.Ends.{Raised, over};
-ghost use Rattle.rb_model.specs.Log.{has_end};
-ghost use Rattle.rb_machine.specs.Scopes.{text_of};
-ghost use Rattle.rb_machine.specs.Control.{On, Then, Eval, Give, Following, Looping, Turning, Passing, Joining, Step, ReceiverOf, ReceiverToStore, RightOfAnd, RightOfOr, Negate, Choose, ReturnOf, IndexedBy, MemberOf, ReadOf, RightOf, WriteTo, ByName, OfLocal, OfAttribute, Counting};
-ghost use Rattle.rb_machine.specs.Begin.{begin};
+ghost use Rattle.rb_model.specs.Ends.{End as Ended, Raised, over};
+ghost use Rattle.rb_model.specs.Log.{has_end, asked};
+ghost use Rattle.rb_model.specs.Log as log;
+ghost use Rattle.rb_model.specs.Private.{Private};
+ghost use Rattle.rb_machine.specs.Scopes.{Script, fresh, text_of};
+ghost use Rattle.rb_machine.specs.Follows.{At, Follows};
+ghost use Rattle.rb_machine.specs.Alone.{opening};
+ghost use Rattle.rb_code.specs.Stands.{StandsFor};
+ghost use Rattle.rb_machine.specs.Control.{State, Cont, On, Then, Eval, Give, Following, Looping, Turning, Passing, Joining, Step, ReceiverOf, ReceiverToStore, RightOfAnd, RightOfOr, Negate, Choose, ReturnOf, IndexedBy, MemberOf, ReadOf, RightOf, WriteTo, ByName, OfLocal, OfAttribute, Counting};
+ghost use Rattle.rb_machine.specs.Begin.{begin, begin_return};
 ghost use Rattle.rb_machine.specs.Call.{read_place};
 ghost use Rattle.rb_machine.specs.Methods.{deed};
+ghost use Rattle.rb_machine.specs.Texts.{shown};
 ghost use Rattle.rb_builtin.specs.Names.{builtin_of};
 ghost use Rattle.rb_builtin.specs.Integers as integers;
 ghost use Rattle.rb_code.specs.Erase.{erase, erase_block, erase_piece};
-ghost use Rattle.rb_code.specs.Resolved.{fits, block_fits, piece_fits, every, form_takes};
-ghost use Rattle.rb_interp.specs.Outcome.{is_left, value_of, outcome, Gave, Over};
-ghost use Rattle.rb_interp.specs.Carries.{Carries, Keeps, Passes, Shows, both, at_slot, numbered, unanswered, unwritten, called, printing, Assigns, goes_on, loop_exit, call_exit};
+ghost use Rattle.rb_code.specs.Resolved.{fits, block_fits, piece_fits, every, if_some, form_takes};
+ghost use Rattle.rb_interp.specs.Outcome.{is_left, value_of, outcome, Gave, Over, Came as Comes};
+ghost use Rattle.rb_interp.specs.Ending.{ending, Closes};
+ghost use Rattle.rb_interp.specs.Carries.{Carries, Keeps, scope_of, Passes, Shows, both, at_slot, numbered, unanswered, unwritten, called, printing, Assigns, goes_on, loop_exit, call_exit};
 ghost use Rattle.rb_interp.specs.Answers.{OrMemory, Writes, outcome_of, IsSmall, IsQuick, IsQuickRight, method_of, shown_value, only_value};
 
 use crate::came::{Came, Leave, is_left};
@@ -29,7 +37,7 @@ use rb_builtin::{Builtin, Deed, IntegerAnswer, Loop, deed_of, integer_operation,
 use rb_code::{Code, CodeBlock, CodePiece, CodeScript};
 use rb_model::{Answer, Call, End, Fault, OneStore, SharedText, Value};
 use rb_render::{Form, MAX_BYTES, RenderFault, add_shown, render};
-use rb_tree::{AssignOp, NameId, Names, Span};
+use rb_tree::{AssignOp, Boxed, NameId, Names, Span};
 use std::alloc::{AllocError, Global};
 use std::mem;
 
@@ -48,7 +56,7 @@ pub struct Context<'p> {
 
 /// The walk of the main thread of a script over its store.
 #[derive(Drop)]
-pub struct Walker<'p, O> {
+struct Walker<'p, O> {
     context: Context<'p>,
     store: O,
     /// Where the frame of the running method ends, and what is free begins.
@@ -194,18 +202,6 @@ fn method_of(op: AssignOp) -> Option<Builtin>
 }
 
 impl<'p, O: OneStore + Drop> Walker<'p, O> {
-    /// A walk that has not begun.
-    pub fn new(context: Context<'p>, store: O) -> Walker<'p, O> {
-        Walker {
-            context,
-            store,
-            base: 0,
-            left: context.steps,
-            value: Value::Nil,
-            leave: Leave::Break,
-        }
-    }
-
     /// The value that came. It is taken out of the walker.
     fn take(&mut self, came: Came) -> Value
         ensures value { plain result ≡ value_of came self.old.value }
@@ -436,7 +432,7 @@ impl<'p, O: OneStore + Drop> Walker<'p, O> {
 
     /// Evaluates a node.
     #[cycle(walk)]
-    pub fn walk(&mut self, code: &'p Code, depth: u32, room: &mut [Value]) -> Came
+    fn walk(&mut self, code: &'p Code, depth: u32, room: &mut [Value]) -> Came
         requires unended { has_end (O.log self.old.store).entries ≡ false }
         requires steps { self.old.left ≤ self.old.context.steps }
         ensures counted { goes_on (outcome result self.new.value self.new.leave) ≡ true → self.new.left < self.old.left }
@@ -530,12 +526,7 @@ impl<'p, O: OneStore + Drop> Walker<'p, O> {
             Code::While(condition, body, _) => {
                 self.repeat(condition.get(), body.as_slice(), depth, room)
             }
-            Code::Return(None, _) => {
-                self.value = Value::Nil;
-                self.leave = Leave::Return;
-                Came::Left
-            }
-            Code::Return(Some(value), _) => self.leave_with(value.get(), depth, room),
+            Code::Return(value, _) => self.leave_method(value, depth, room),
             Code::Break(_) => {
                 self.leave = Leave::Break;
                 Came::Left
@@ -1148,11 +1139,11 @@ impl<'p, O: OneStore + Drop> Walker<'p, O> {
                         return came;
                     }
                     let value = self.take(came);
-                    if let Err(_) = add_shown(
+                    if let Err(_) = add_value(
                         self.context.alloc,
                         &mut bytes,
                         self.context.names,
-                        &value,
+                        value,
                     ) {
                         return self.over(End::Memory);
                     }
@@ -1328,6 +1319,32 @@ impl<'p, O: OneStore + Drop> Walker<'p, O> {
         }
     }
 
+    /// A return, whose value is nil where none is given.
+    #[cycle(walk)]
+    fn leave_method(
+        &mut self,
+        value: &'p Option<Boxed<Code>>,
+        depth: u32,
+        room: &mut [Value],
+    ) -> Came
+        requires unended { has_end (O.log self.old.store).entries ≡ false }
+        requires steps { self.old.left ≤ self.old.context.steps }
+        ensures base { self.new.base ≡ self.old.base }
+        ensures context { self.new.context ≡ self.old.context }
+        ensures room { length room.new ≡ length room.old }
+        ensures less { self.new.left ≤ self.old.left }
+        ensures unended { has_end (O.log self.new.store).entries ≡ false }
+        ensures kept { Keeps self.old.context.script.now self.old.context.names.now (λ S. if_some (option_map (fits S) value.now)) self.old.base room.old room.new }
+        ensures came { Carries self.old.context.script.now self.old.context.names.now self.old.context.steps (λ S. if_some (option_map (fits S) value.now)) (λ S k sc d n. begin_return S (option_map erase value.now) k sc d n) self.old.base depth self.old.left self.new.left room.old room.new (O.log self.old.store) (O.log self.new.store) (outcome result self.new.value self.new.leave) }
+    {
+        let Some(value) = value else {
+            self.value = Value::Nil;
+            self.leave = Leave::Return;
+            return Came::Left;
+        };
+        self.leave_with(value.get(), depth, room)
+    }
+
     /// A return with a value.
     #[cycle(walk)]
     fn leave_with(&mut self, value: &'p Code, depth: u32, room: &mut [Value]) -> Came
@@ -1394,36 +1411,72 @@ impl<'p, O: OneStore + Drop> Walker<'p, O> {
         }
     }
 
-    /// Runs the top level of the script, in this row of slots, to its end entry.
-    pub fn run(mut self, room: &mut [Value]) -> (O, End) {
+    /// The top level of the script, whose locals are nil in the beginning.
+    fn top(&mut self, room: &mut [Value]) -> Came
+        requires unended { has_end (O.log self.old.store).entries ≡ false }
+        requires steps { self.old.left ≤ self.old.context.steps }
+        requires base { self.old.base ≡ self.old.context.script.now.main_size }
+        ensures context { self.new.context ≡ self.old.context }
+        ensures unended { has_end (O.log self.new.store).entries ≡ false }
+        ensures less { self.new.left ≤ self.old.left }
+        ensures came { (S : Script) (start : State) (h : Private) (k : List Cont) → StandsFor self.old.context.script.now S → S.program.names ≡ self.old.context.names.now
+            → At S 0 self.old.context.steps start (O.log self.old.store) h (On (Following Nil S.program.main) k (record { me = Nil; locals = fresh S.main_names [] }) 0 self.old.left)
+            → Comes S self.old.context.steps start (O.log self.new.store) h (outcome result self.new.value self.new.leave) k (scope_of Nil S.main_names room.new) 0 self.new.left }
+    {
         let script = self.context.script;
         let size = script.main_size as usize;
-        self.base = size;
-        let came = if size <= room.len() {
-            self.body(script.main.as_slice(), 0, room)
-        } else {
-            self.over(End::Memory)
-        };
-        let step = self.context.steps - self.left;
-        let Walker {
-            mut store,
-            leave,
-            ..
-        } = self;
-        let call = Call::End(end_of(came, leave));
-        let end = match store.call(step, &call) {
-            Answer::Done | Answer::SinkFailed => end_in(call),
-            Answer::Memory => {
-                store.call(step, &Call::End(End::Memory));
-                End::Memory
-            }
-        };
-        (store, end)
+        if size > room.len() {
+            return self.over(End::Memory);
+        }
+        clear(room, 0, size);
+        self.body(script.main.as_slice(), 0, room)
+    }
+}
+
+/// Runs the top level of a script, in this row of slots, to its end entry. Answers the store, and how the script ended.
+pub fn run_main<'p, O: OneStore + Drop>(
+    context: Context<'p>,
+    store: O,
+    room: &mut [Value],
+) -> (O, End)
+    requires begun { O.log store ≡ log.fresh }
+    ensures follows { (S : Script) → StandsFor context.entry.script.now S → S.program.names ≡ context.entry.names.now → Follows S 0 context.entry.steps (opening S context.entry.steps) (O.log result.0) (over result.1) }
+{
+    let mut walker = Walker {
+        context,
+        store,
+        base: context.script.main_size as usize,
+        left: context.steps,
+        value: Value::Nil,
+        leave: Leave::Break,
+    };
+    let came = walker.top(room);
+    let Walker {
+        store, left, leave, ..
+    } = walker;
+    close(store, context.steps - left, end_of(came, leave))
+}
+
+/// Makes the end entry of the main thread.
+fn close<O: OneStore + Drop>(mut store: O, step: u64, end: End) -> (O, End)
+    requires unended { has_end (O.log store).entries ≡ false }
+    ensures { Closes step (O.log store) (over end) (O.log result.0) (over result.1) }
+{
+    let call = Call::End(end);
+    match store.call(step, &call) {
+        Answer::Memory => {
+            store.call(step, &Call::End(End::Memory));
+            (store, End::Memory)
+        }
+        Answer::Done => (store, end_in(call)),
+        Answer::SinkFailed => (store, end_in(call)),
     }
 }
 
 /// The end that is told.
-fn end_in(call: Call) -> End {
+fn end_in(call: Call) -> End
+    ensures { (e : Ended) → asked call ≡ log.End e → over result ≡ e }
+{
     match call {
         Call::End(end) => end,
         Call::Print(_) => End::Memory,
@@ -1431,7 +1484,9 @@ fn end_in(call: Call) -> End {
 }
 
 /// How the thread ends whose top level came out so.
-fn end_of(came: Came, leave: Leave) -> End {
+fn end_of(came: Came, leave: Leave) -> End
+    ensures { (v : Held) → over result ≡ ending (outcome came v leave) }
+{
     if !is_left(came) {
         return End::Value(Value::Nil);
     }
@@ -1457,4 +1512,16 @@ fn add_bytes(out: &mut Vec<u8>, bytes: &[u8]) -> Result<(), AllocError>
 {
     out.extend_from_slice(bytes)?;
     Ok(())
+}
+
+/// Adds the text of a value behind bytes.
+fn add_value(
+    alloc: Global,
+    out: &mut Vec<u8>,
+    names: &Names,
+    value: Value,
+) -> Result<(), AllocError>
+    ensures { OnOk result (out.new.items ≡ out.old.items ++ shown names.now (plain value)) }
+{
+    add_shown(alloc, out, names, &value)
 }

@@ -1,27 +1,35 @@
-use Rattle.rb_interp.specs.Carries.{goes_on, plainly, updating, scope_of, unwritten}
+use Rattle.rb_interp.specs.Carries.{goes_on, plainly, updating, scope_of, unwritten, printing}
 use Rattle.rb_code.proofs.Slots.{slot_within}
 use Rattle.std.proofs.Common.{rules, to_z, of_z, w64, ◌≡◌, ap, sym, ◌∙◌, refl, subst, ℕ, suc, List, [], ◌∷◌, ◌++◌, take, drop, map, length, ◌+◌, ◌-◌, ◌<◌, ◌≤◌, Some, None, true, false, arith}
 use Rattle.std.proofs.lemmas.List.{drop_all}
 use Rattle.std.specs.Prelude.{◌&&◌, codes}
-use Rattle.rb_model.specs.Values.{Nil, truthy, Int}
-use Rattle.rb_machine.specs.Control.{Then, Under, Rest, AssignTo, ReturnOf, Test, Again, RightOfAnd, RightOfOr, Negate, Choose, Argument, OnReceiver, IndexedBy, IndexOf, MemberOf, ReadOf, RightOf, WriteTo, ReceiverOf, Instead, OfLocal, OfElement, OfAttribute, On, Eval, Give}
-use Rattle.rb_code.specs.Erase.{erase}
-use Rattle.rb_code.specs.Resolved.{fits, every}
-use Rattle.rb_code.proofs.Showing.{shows-nil, shows-false, shows-true, shows-int, shows-sym, shows-local, shows-and, shows-or, shows-not, shows-if, shows-break, shows-next, shows-set_local, shows-while, shows-return}
-use Rattle.rb_code.proofs.Fitting.{fits-local, fits-and, fits-or, fits-not, fits-if, fits-set_local, fits-while, fits-return}
+use Rattle.rb_model.specs.Values.{Nil, truthy, Int, plain}
+use Rattle.rb_machine.specs.Control.{Then, Under, Rest, AssignTo, ReturnOf, Test, Again, RightOfAnd, RightOfOr, Negate, Choose, Argument, OnReceiver, IndexedBy, IndexOf, MemberOf, ReadOf, RightOf, WriteTo, ReceiverOf, Instead, OfLocal, OfElement, OfAttribute, On, Eval, Give, Passing, Storing, ByName, ReceiverToStore, Joining, PieceOf}
+use Rattle.rb_code.specs.Erase.{erase, erase_piece}
+use Rattle.rb_code.specs.Resolved.{fits, every, if_some}
+use Rattle.rb_code.proofs.Showing.{shows-nil, shows-false, shows-true, shows-int, shows-sym, shows-local, shows-and, shows-or, shows-not, shows-if, shows-break, shows-next, shows-set_local, shows-while, shows-return, shows-str, shows-update_local, shows-update_element, shows-update_attribute, shows-store, shows-operate, shows-send, shows-walk, shows-function, shows-print}
+use Rattle.rb_code.proofs.Fitting.{fits-local, fits-and, fits-or, fits-not, fits-if, fits-set_local, fits-while, fits-return, fits-str, fits-update_local, fits-update_element, fits-update_attribute, fits-store, fits-operate, fits-send, fits-walk, fits-function, fits-print}
 use Rattle.rb_interp.specs.Outcome.{value_of, outcome}
 use Rattle.rb_interp.proofs.Moves.{test_true, test_false, on, same, begins, evals, follows, gives, counts, too_many, too_deep, left}
-use Rattle.rb_interp.proofs.Lists.{never, fst, snd, next_item, two}
-use Rattle.rb_interp.proofs.Rooms.{sub, moved, every_item, read_room, write_room}
+use Rattle.rb_interp.proofs.Lists.{never, fst, snd, next_item, two, len_set, len_map, len_args, get_set, fst_two, nothing}
+use Rattle.rb_interp.proofs.Rooms.{sub, moved, every_item, read_room, write_room, lies}
 use Rattle.rb_interp.proofs.Outcomes.{gave, given, comes, passes, gone, again, again_out, tested_again, tested_out}
 use Rattle.rb_interp.proofs.Steps.{and_goes, and_stops, or_goes, or_stops, negated, chosen_first, chosen_second, assigned, kept_write}
 use Rattle.rb_machine.specs.Scopes.{text_of}
 use Rattle.rb_builtin.specs.Names.{builtin_of}
 use Rattle.rb_builtin.proofs.Table.{same_is}
 use Rattle.rb_interp.proofs.Calls.{calls, no_such, or_memory}
-use Rattle.rb_interp.proofs.Places.{operator_number, or_else_stays, or_else_goes, and_then_stays, and_then_goes, operates, reads}
+use Rattle.rb_interp.proofs.Places.{operator_number, or_else_stays, or_else_goes, and_then_stays, and_then_goes, operates, reads, left_unwritten, target_local, target_element, target_attribute}
 use mathlib.Core.Logic.{inl, inr}
-use Rattle.rb_machine.specs.Call.{operator}
+use Rattle.rb_machine.specs.Call.{operator, last_value}
+use Rattle.rb_interp.specs.Answers.{shown_value}
+use Rattle.rb_interp.proofs.Arguments.{passing, passed, joined, only_left, only_came, over_left, one_number}
+use Rattle.rb_interp.proofs.Prints.{by_form, printing_is, shown}
+use Rattle.std.specs.Option.{option_map}
+use Rattle.rb_machine.specs.Begin.{begin_return}
+use Rattle.rb_machine.specs.Texts.{shown}
+use Rattle.rb_interp.proofs.Pieces.{piece_code, shows_text, shows_code, joining, joins_code, text_long, text_joins, value_long, value_joins}
+use Rattle.rb_interp.proofs.walker.Walker.+walk.Goals.{text-in-Text+in_default, text-in-Code+else-is_left+in_default-add_value}
 use Rattle.rb_interp.proofs.walker.Walker.+walk.Goals as goal
 
 pub walk-returns-then-self-eq0-clause-came : goal.walk-returns-then-self-eq0-clause-came
@@ -112,15 +120,15 @@ pub begin-returns-in-If-clause-kept : goal.begin-returns-in-If-clause-kept
 begin-returns-in-If-clause-kept g m c = λ S names size st e l i p q.
     let x = c.in-If in
     let s = sym (ap (λ d. fits S d names size) x.is ∙ fits-if S names size x.condition x.first x.second x.field-3) ∙ l.fits in
-    let under = sub _ l (rw (c.get-in-If.ensures, c.as_slice.ensures, c.as_slice-in-If.ensures) s) in
+    let under = sub _ l (rw (c.get-in-If.ensures, c.as_slice-in-If.ensures, c.as_slice-in-If-2.ensures) s) in
     c.choose.ensures.kept S names size st e under i p q
 
 pub begin-returns-in-If-clause-came : goal.begin-returns-in-If-clause-came
 begin-returns-in-If-clause-came g m c = λ S start h k me names size st e l a.
     let x = c.in-If in
     let s = sym (ap (λ d. fits S d names size) x.is ∙ fits-if S names size x.condition x.first x.second x.field-3) ∙ l.fits in
-    let under = sub _ l (rw (c.get-in-If.ensures, c.as_slice.ensures, c.as_slice-in-If.ensures) s) in
-    c.choose.ensures.came S start h k me names size st e under (rw (c.get-in-If.ensures, c.as_slice.ensures, c.as_slice-in-If.ensures) (begins _ _ k _ _ _ (shows-if c.args.code.now x.condition x.first x.second x.field-3 x.is) a))
+    let under = sub _ l (rw (c.get-in-If.ensures, c.as_slice-in-If.ensures, c.as_slice-in-If-2.ensures) s) in
+    c.choose.ensures.came S start h k me names size st e under (rw (c.get-in-If.ensures, c.as_slice-in-If.ensures, c.as_slice-in-If-2.ensures) (begins _ _ k _ _ _ (shows-if c.args.code.now x.condition x.first x.second x.field-3 x.is) a))
 
 pub both-returns-then-is_left-clause-came : goal.both-returns-then-is_left-clause-came
 both-returns-then-is_left-clause-came g m c = λ S start h k me names size st e l a.
@@ -335,10 +343,11 @@ body-nodes-preserved g m c =
 pub begin-returns-in-Local-clause-came : goal.begin-returns-in-Local-clause-came
 begin-returns-in-Local-clause-came g m c = λ S start h k me names size st e l a.
     let x = c.in-Local in
-    let len : length names ≤ length c.args.room.now = omega (arith, l.within, l.below, l.room) in
     let s = sym (ap (λ d. fits S d names size) x.is ∙ fits-local S names size x.slot x.field-1 x.field-2) ∙ l.fits in
+    let len : length names ≤ length c.args.room.now = omega (arith, l.within, l.below, l.room) in
     let b = begins _ _ k _ _ _ (shows-local c.args.code.now x.slot x.field-1 x.field-2 x.is) a in
-    ?
+    let r = c.read in
+    rw (r.ensures.left, r.ensures.store) (reads S _ start h _ k c.args.depth _ x.field-1 names c.args.room.now x.slot me (outcome r.result r.new.self.value r.new.self.leave) len s r.ensures.gives b)
 
 pub begin-returns-in-SetLocal-clause-kept : goal.begin-returns-in-SetLocal-clause-kept
 begin-returns-in-SetLocal-clause-kept g m c = λ S names size st e l i p q.
@@ -642,7 +651,7 @@ combine-returns-in-Some-clause-came g m c = λ S start h k me names size st e l 
     let v = ap (λ r. value_of r c.args.self.now.value) is.2 in
     let e0 = same a (ap (λ v. On (Eval (erase c.args.value.now)) (Then (RightOf v c.args.op c.args.at) ∷ k) (scope_of me names c.args.room.now) c.args.depth left) v) in
     let e1 = is.3 S _ names size c.args.depth left start h _ (Then (RightOf (Int is.0) c.args.op c.args.at) ∷ k) me l.fits len c.if-self-gt0.true c.if-depth-lt-MAX_DEPTH.true e0 in
-    let number = operator_number S c.args.op ∙ sym c.method_of.ensures in
+    let number = operator_number S c.args.op ∙ sym c.method_of-method.ensures in
     let o = c.answer.ensures in
     rw (o.gives, o.left, o.store, sym (is.4 S.program.names (operator S c.args.op) number)) (calls S _ start h _ (Int is.0) (operator S c.args.op) (Int is.1 ∷ []) c.args.at k _ _ _ _ st.classes (inl refl) (on _ e1 refl))
 
@@ -665,7 +674,7 @@ combine-returns-clause-came g m c = λ S start h k me names size st e l a.
     let g1 = given w.result w.new.self.value w.new.self.leave (sym c.is_left.ensures ∙ c.if-is_left.false) e1 in
     let y = c.take-arg in
     let o = c.operated.ensures in
-    let number = operator_number S c.args.op ∙ sym c.method_of.ensures in
+    let number = operator_number S c.args.op ∙ sym c.method_of-method.ensures in
     let d = rw (y.ensures.context, w.ensures.context, t.ensures.context, sym e, t.ensures.value, y.ensures.value) at o.gives (operator S c.args.op) number in
     rw (o.left, o.store, y.ensures.left, y.ensures.store) (calls S _ start h _ (value_of c.args.current c.args.self.now.value) (operator S c.args.op) (value_of w.result w.new.self.value ∷ []) c.args.at k _ _ _ _ st.classes d (on _ g1 refl))
 
@@ -860,7 +869,7 @@ update_attribute-returns-clause-came g m c = λ name S start h k me names size s
     let g2 = given m.result m.new.self.value m.new.self.leave (sym c.is_left-2.ensures ∙ c.if-is_left-2.false) e2 in
     let y = c.refuse_attribute in
     let f = rw (m.ensures.context, m.ensures.left, m.ensures.store, t.ensures.context, t.ensures.left, t.ensures.store, w.ensures.context) at y.ensures.came in
-    let right = two _ _ (fst _ _ (snd _ _ l.fits)) (snd _ _ rest) in
+    let right = left_unwritten S c.args.number name c.args.receiver.now c.args.value.now names size l.fits in
     let under = moved _ _ (m.ensures.base ∙ (t.ensures.base ∙ w.ensures.base)) w.ensures.room (sub (unwritten name (λ S. fits S c.args.value.now) S) l right) in
     f first name S start h k me names size st e under g2
 
@@ -883,3 +892,548 @@ update_attribute-returns-clause-kept g m c = λ name S names size st e l i p q.
     let base = m.ensures.base ∙ (t.ensures.base ∙ w.ensures.base) in
     let under = moved _ _ base w.ensures.room (sub (fits S c.args.value.now) l (snd _ _ rest)) in
     f S names size st e under i p (omega (arith, q, base)) ∙ w.ensures.kept S names size st e (sub (fits S c.args.receiver.now) l (fst _ _ rest)) i p q
+
+pub arguments-returns-then-is_left-clause-kept : goal.arguments-returns-then-is_left-clause-kept
+arguments-returns-then-is_left-clause-kept g m c = λ S names size st e l i p q.
+    let loop = c.each in
+    let inv = loop.invariant in
+    let w = c.walk-came in
+    let right = every_item S _ _ c.arg-item.result names size c.each-test.true c.arg-item.is l.fits in
+    let under = lies (fits S c.arg-item.result) names size loop.self.base (length loop.room) right l.within (omega (arith, l.below, inv.base)) (inv.bound l.room) in
+    let f = rw inv.context at w.ensures.kept in
+    f S names size st e under i p (omega (arith, q, inv.base)) ∙ inv.kept S names size st e l i p q
+
+pub arguments-returns-then-self-room-clause-kept : goal.arguments-returns-then-self-room-clause-kept
+arguments-returns-then-self-room-clause-kept g m c = λ S names size st e l i p q.
+    let loop = c.each in
+    let inv = loop.invariant in
+    let w = c.walk-came in
+    let right = every_item S _ _ c.arg-item.result names size c.each-test.true c.arg-item.is l.fits in
+    let under = lies (fits S c.arg-item.result) names size loop.self.base (length loop.room) right l.within (omega (arith, l.below, inv.base)) (inv.bound l.room) in
+    let f = rw inv.context at w.ensures.kept in
+    f S names size st e under i p (omega (arith, q, inv.base)) ∙ inv.kept S names size st e l i p q
+
+pub arguments-returns-then-is_left-clause-came : goal.arguments-returns-then-is_left-clause-came
+arguments-returns-then-is_left-clause-came g m c = λ aim at S start h k me names size st e l a.
+    let loop = c.each in
+    let inv = loop.invariant in
+    let w = c.walk-came in
+    let right = every_item S _ _ c.arg-item.result names size c.each-test.true c.arg-item.is l.fits in
+    let under = lies (fits S c.arg-item.result) names size loop.self.base (length loop.room) right l.within (omega (arith, l.below, inv.base)) (inv.bound l.room) in
+    let item = next_item _ _ c.arg-item.result c.each-test.true c.arg-item.is in
+    let rest = map erase (drop (loop.arg-index + 1) c.args.args.now) in
+    let step = Argument aim (map plain (take loop.arg-index (drop c.args.self.now.base loop.room))) rest at in
+    let h1 = on _ (passing _ (sym (ap (map erase) item)) (inv.came aim at S start h k me names size st e l a)) refl in
+    let f = rw inv.context at w.ensures.came in
+    let come = f S start h (Then step ∷ k) me names size st e under h1 in
+    let gone = sym c.is_left.ensures ∙ c.if-is_left.true in
+    only_left _ gone (passes S _ start h w.result w.new.self.value w.new.self.leave _ step k _ _ _ gone come)
+
+pub arguments-returns-then-self-room-clause-came : goal.arguments-returns-then-self-room-clause-came
+arguments-returns-then-self-room-clause-came g m c = λ aim at S start h k me names size st e l a.
+    let loop = c.each in
+    let inv = loop.invariant in
+    let w = c.walk-came in
+    let right = every_item S _ _ c.arg-item.result names size c.each-test.true c.arg-item.is l.fits in
+    let under = lies (fits S c.arg-item.result) names size loop.self.base (length loop.room) right l.within (omega (arith, l.below, inv.base)) (inv.bound l.room) in
+    let item = next_item _ _ c.arg-item.result c.each-test.true c.arg-item.is in
+    let rest = map erase (drop (loop.arg-index + 1) c.args.args.now) in
+    let step = Argument aim (map plain (take loop.arg-index (drop c.args.self.now.base loop.room))) rest at in
+    let h1 = on _ (passing _ (sym (ap (map erase) item)) (inv.came aim at S start h k me names size st e l a)) refl in
+    let f = rw inv.context at w.ensures.came in
+    let come = f S start h (Then step ∷ k) me names size st e under h1 in
+    let v = given w.result w.new.self.value w.new.self.leave (sym c.is_left.ensures ∙ c.if-is_left.false) come in
+    let o = c.over.ensures in
+    only_left _ (over_left c.over.result c.over.new.self.value c.over.new.self.leave _ o.gives) (rw (o.gives, o.left, o.store) (_ , v , refl))
+
+pub arguments-each-preserved : goal.arguments-each-preserved
+arguments-each-preserved g m c =
+    let w = c.walk-came.ensures in
+    let t = c.take.ensures in
+    let old = c.each.invariant in
+    let long = len_set c.walk-came.new.room c.take.new.self.base c.take.result in
+    record {
+      base = omega (arith, t.base, w.base, old.base);
+      bound = λ r. omega (arith, long, t.base, c.if-self-room.false);
+      context = t.context ∙ (w.context ∙ old.context);
+      room = long ∙ (w.room ∙ old.room);
+      less = omega (arith, t.left, w.less, old.less);
+      unended = rw t.store w.unended;
+      kept = λ S names size st e l i p q.
+    let loop = c.each in
+    let inv = loop.invariant in
+    let w = c.walk-came in
+    let right = every_item S _ _ c.arg-item.result names size c.each-test.true c.arg-item.is l.fits in
+    let under = lies (fits S c.arg-item.result) names size loop.self.base (length loop.room) right l.within (omega (arith, l.below, inv.base)) (inv.bound l.room) in
+    let f = rw inv.context at w.ensures.kept in
+    get_set w.new.room c.take.new.self.base i _ (λ z. omega (arith, z, q, t.base, w.ensures.base, inv.base)) ∙ (f S names size st e under i p (omega (arith, q, inv.base)) ∙ inv.kept S names size st e l i p q);
+      came = λ aim at S start h k me names size st e l a.
+    let loop = c.each in
+    let inv = loop.invariant in
+    let w = c.walk-came in
+    let right = every_item S _ _ c.arg-item.result names size c.each-test.true c.arg-item.is l.fits in
+    let under = lies (fits S c.arg-item.result) names size loop.self.base (length loop.room) right l.within (omega (arith, l.below, inv.base)) (inv.bound l.room) in
+    let item = next_item _ _ c.arg-item.result c.each-test.true c.arg-item.is in
+    let rest = map erase (drop (loop.arg-index + 1) c.args.args.now) in
+    let step = Argument aim (map plain (take loop.arg-index (drop c.args.self.now.base loop.room))) rest at in
+    let h1 = on _ (passing _ (sym (ap (map erase) item)) (inv.came aim at S start h k me names size st e l a)) refl in
+    let f = rw inv.context at w.ensures.came in
+    let come = f S start h (Then step ∷ k) me names size st e under h1 in
+    let v = value_of w.result w.new.self.value in
+    let base = c.args.self.now.base in
+    let spot : c.take.new.self.base ≡ base + loop.arg-index = t.base ∙ (w.ensures.base ∙ inv.base) in
+    let within : base + loop.arg-index < length w.new.room = omega (arith, w.ensures.base, inv.base, c.if-self-room.false) in
+    let f2 = rw inv.context at w.ensures.kept in
+    let g1 = given w.result w.new.self.value w.new.self.leave (sym c.is_left.ensures ∙ c.if-is_left.false) come in
+    rw (t.left, t.store, spot) (joined me names base loop.arg-index loop.room w.new.room c.take.result v t.value (omega (arith, l.within, l.below)) within (λ j q. f2 S names size st e under (base + j) (omega (arith, l.below)) (omega (arith, q, inv.base))) g1);
+    }
+
+pub arguments-returns-clause-came : goal.arguments-returns-clause-came
+arguments-returns-clause-came g m c = λ aim at S start h k me names size st e l a.
+    let inv = c.each.invariant in
+    let whole : c.each.arg-index ≡ length c.args.args.now = omega (arith, c.each-test.false, c.each.auto.arg-index-end) in
+    only_came _ refl (passed _ (ap (λ j. map plain (take j (drop c.args.self.now.base c.each.room))) (sym whole)) (passing [] (sym (ap (map erase) (drop_all _ _ c.each-test.false))) (inv.came aim at S start h k me names size st e l a)))
+
+pub send-returns-then-is_left-clause-kept : goal.send-returns-then-is_left-clause-kept
+send-returns-then-is_left-clause-kept g m c = λ name S names size st e l i p q.
+    c.walk-came.ensures.kept S names size st e (sub (fits S c.args.receiver.now) l (fst _ _ (snd _ _ l.fits))) i p q
+
+pub send-returns-then-is_left-clause-came : goal.send-returns-then-is_left-clause-came
+send-returns-then-is_left-clause-came g m c = λ name S start h k me names size st e l a.
+    let w = c.walk-came in
+    let step = ReceiverOf (text_of S name) (map erase c.args.args.now) None c.args.at in
+    let come = w.ensures.came S start h (Then step ∷ k) me names size st e (sub (fits S c.args.receiver.now) l (fst _ _ (snd _ _ l.fits))) a in
+    passes S _ start h w.result w.new.self.value w.new.self.leave _ step k _ _ _ (sym c.is_left.ensures ∙ c.if-is_left.true) come
+
+pub send-returns-then-is_left-2-clause-kept : goal.send-returns-then-is_left-2-clause-kept
+send-returns-then-is_left-2-clause-kept g m c = λ name S names size st e l i p q.
+    let w = c.walk-came in
+    let first = w.ensures.kept S names size st e (sub (fits S c.args.receiver.now) l (fst _ _ (snd _ _ l.fits))) i p q in
+    let under = moved _ _ (c.take-receiver.ensures.base ∙ w.ensures.base) w.ensures.room (sub (every (map (fits S) c.args.args.now)) l (snd _ _ (snd _ _ l.fits))) in
+    let f = rw (c.take-receiver.ensures.context, w.ensures.context) at c.arguments-came.ensures.kept in
+    f S names size st e under i p (omega (arith, q, c.take-receiver.ensures.base, w.ensures.base)) ∙ first
+
+pub send-returns-clause-kept : goal.send-returns-clause-kept
+send-returns-clause-kept g m c = λ name S names size st e l i p q.
+    let w = c.walk-came in
+    let first = w.ensures.kept S names size st e (sub (fits S c.args.receiver.now) l (fst _ _ (snd _ _ l.fits))) i p q in
+    let under = moved _ _ (c.take-receiver.ensures.base ∙ w.ensures.base) w.ensures.room (sub (every (map (fits S) c.args.args.now)) l (snd _ _ (snd _ _ l.fits))) in
+    let f = rw (c.take-receiver.ensures.context, w.ensures.context) at c.arguments-came.ensures.kept in
+    f S names size st e under i p (omega (arith, q, c.take-receiver.ensures.base, w.ensures.base)) ∙ first
+
+pub send-returns-then-is_left-2-clause-came : goal.send-returns-then-is_left-2-clause-came
+send-returns-then-is_left-2-clause-came g m c = λ name S start h k me names size st e l a.
+    let w = c.walk-came in
+    let step = ReceiverOf (text_of S name) (map erase c.args.args.now) None c.args.at in
+    let come = w.ensures.came S start h (Then step ∷ k) me names size st e (sub (fits S c.args.receiver.now) l (fst _ _ (snd _ _ l.fits))) a in
+    let none = sym c.is_left.ensures ∙ c.if-is_left.false in
+    let v = value_of w.result w.new.self.value in
+    let g1 = given w.result w.new.self.value w.new.self.leave none come in
+    let under = moved _ _ (c.take-receiver.ensures.base ∙ w.ensures.base) w.ensures.room (sub (every (map (fits S) c.args.args.now)) l (snd _ _ (snd _ _ l.fits))) in
+    let f = rw (c.take-receiver.ensures.context, w.ensures.context, c.take-receiver.ensures.left, c.take-receiver.ensures.store) at c.arguments-came.ensures.came in
+    let p = f (OnReceiver v (text_of S name) None) c.args.at S start h k me names size st e under (on _ g1 refl) in
+    p.0 (sym c.is_left-2.ensures ∙ c.if-is_left-2.true)
+
+pub send-returns-clause-came : goal.send-returns-clause-came
+send-returns-clause-came g m c = λ name S start h k me names size st e l a.
+    let w = c.walk-came in
+    let step = ReceiverOf (text_of S name) (map erase c.args.args.now) None c.args.at in
+    let come = w.ensures.came S start h (Then step ∷ k) me names size st e (sub (fits S c.args.receiver.now) l (fst _ _ (snd _ _ l.fits))) a in
+    let none = sym c.is_left.ensures ∙ c.if-is_left.false in
+    let v = value_of w.result w.new.self.value in
+    let g1 = given w.result w.new.self.value w.new.self.leave none come in
+    let under = moved _ _ (c.take-receiver.ensures.base ∙ w.ensures.base) w.ensures.room (sub (every (map (fits S) c.args.args.now)) l (snd _ _ (snd _ _ l.fits))) in
+    let f = rw (c.take-receiver.ensures.context, w.ensures.context, c.take-receiver.ensures.left, c.take-receiver.ensures.store) at c.arguments-came.ensures.came in
+    let p = f (OnReceiver v (text_of S name) None) c.args.at S start h k me names size st e under (on _ g1 refl) in
+    let r = c.arguments-came in
+    let came = sym c.is_left-2.ensures ∙ c.if-is_left-2.false in
+    let base = c.take-receiver.new.self.base in
+    let long : base + length c.args.args.now ≤ length r.new.room = omega (arith, r.ensures.base came, r.ensures.fits under.room) in
+    let values = map plain (take (length c.args.args.now) (drop base r.new.room)) in
+    let number = one_number _ _ (fst _ _ l.fits) in
+    let m1 = rw (r.ensures.context, c.take-receiver.ensures.context, w.ensures.context, sym e, c.take-receiver.ensures.value, c.passed.ensures long) at (c.call_method.ensures.gives (text_of S name) number) in
+    rw (c.call_method.ensures.left, c.call_method.ensures.store) (calls S _ start h _ v (text_of S name) values c.args.at k _ _ _ _ st.classes m1 (on _ (p.1 came) refl))
+
+pub store_by-returns-then-is_left-clause-came : goal.store_by-returns-then-is_left-clause-came
+store_by-returns-then-is_left-clause-came g m c = λ name S start h k me names size st e l a.
+    let w = c.walk-came in
+    let step = ReceiverToStore (text_of S name) (map erase c.args.args.now) c.args.at in
+    let come = w.ensures.came S start h (Then step ∷ k) me names size st e (sub (fits S c.args.receiver.now) l (fst _ _ (snd _ _ l.fits))) a in
+    passes S _ start h w.result w.new.self.value w.new.self.leave _ step k _ _ _ (sym c.is_left.ensures ∙ c.if-is_left.true) come
+
+pub store_by-returns-then-is_left-2-clause-came : goal.store_by-returns-then-is_left-2-clause-came
+store_by-returns-then-is_left-2-clause-came g m c = λ name S start h k me names size st e l a.
+    let w = c.walk-came in
+    let step = ReceiverToStore (text_of S name) (map erase c.args.args.now) c.args.at in
+    let come = w.ensures.came S start h (Then step ∷ k) me names size st e (sub (fits S c.args.receiver.now) l (fst _ _ (snd _ _ l.fits))) a in
+    let none = sym c.is_left.ensures ∙ c.if-is_left.false in
+    let v = value_of w.result w.new.self.value in
+    let g1 = given w.result w.new.self.value w.new.self.leave none come in
+    let under = moved _ _ w.ensures.base w.ensures.room (sub (every (map (fits S) c.args.args.now)) l (snd _ _ (snd _ _ l.fits))) in
+    let f = rw w.ensures.context at c.arguments-came.ensures.came in
+    let p = f (Storing v (text_of S name)) c.args.at S start h k me names size st e under (on _ g1 refl) in
+    p.0 (sym c.is_left-2.ensures ∙ c.if-is_left-2.true)
+
+pub store_by-returns-clause-came : goal.store_by-returns-clause-came
+store_by-returns-clause-came g m c = λ name S start h k me names size st e l a.
+    let w = c.walk-came in
+    let step = ReceiverToStore (text_of S name) (map erase c.args.args.now) c.args.at in
+    let come = w.ensures.came S start h (Then step ∷ k) me names size st e (sub (fits S c.args.receiver.now) l (fst _ _ (snd _ _ l.fits))) a in
+    let none = sym c.is_left.ensures ∙ c.if-is_left.false in
+    let v = value_of w.result w.new.self.value in
+    let g1 = given w.result w.new.self.value w.new.self.leave none come in
+    let under = moved _ _ w.ensures.base w.ensures.room (sub (every (map (fits S) c.args.args.now)) l (snd _ _ (snd _ _ l.fits))) in
+    let f = rw w.ensures.context at c.arguments-came.ensures.came in
+    let p = f (Storing v (text_of S name)) c.args.at S start h k me names size st e under (on _ g1 refl) in
+    let r = c.arguments-came in
+    let came = sym c.is_left-2.ensures ∙ c.if-is_left-2.false in
+    let values = map plain (take (length c.args.args.now) (drop w.new.self.base r.new.room)) in
+    let o = c.raise.ensures in
+    rw (o.gives, o.left, o.store) (same (on _ (p.1 came) refl) (no_such S v (text_of S name) values None c.args.at (Then (Instead (last_value S values)) ∷ k) _ _ _ st.classes (fst _ _ l.fits)))
+
+pub print-returns-then-is_left-clause-came : goal.print-returns-then-is_left-clause-came
+print-returns-then-is_left-clause-came g m c = λ name S start h k me names size st e l a.
+    let r = c.arguments-came in
+    let right = printing_is S c.args.form name (length c.args.args.now) (λ s. every (map (fits s) c.args.args.now)) names size l.fits in
+    let under = sub (every (map (fits S) c.args.args.now)) l right.3 in
+    let p = r.ensures.came (ByName name) c.args.at S start h k me names size st e under a in
+    p.0 (sym c.is_left.ensures ∙ c.if-is_left.true)
+
+pub print-returns-then-is_left-2-clause-came : goal.print-returns-then-is_left-2-clause-came
+print-returns-then-is_left-2-clause-came g m c = λ name S start h k me names size st e l a.
+    let r = c.arguments-came in
+    let right = printing_is S c.args.form name (length c.args.args.now) (λ s. every (map (fits s) c.args.args.now)) names size l.fits in
+    let under = sub (every (map (fits S) c.args.args.now)) l right.3 in
+    let p = r.ensures.came (ByName name) c.args.at S start h k me names size st e under a in
+    let came = sym c.is_left.ensures ∙ c.if-is_left.false in
+    let base = c.args.self.now.base in
+    let count = length c.args.args.now in
+    let long : base + count ≤ length r.new.room = omega (arith, r.ensures.base came, r.ensures.fits l.room) in
+    let values = map plain (take count (drop base r.new.room)) in
+    let many : length values ≡ count = len_map plain (take count (drop base r.new.room)) ∙ len_args r.new.room base count long in
+    let step = Instead (shown_value c.args.form values) in
+    let q = same (on _ (p.1 came) refl) (by_form S c.args.form name values c.args.at k _ _ _ st.classes right.0 right.1 (rw many right.2)) in
+    let z = c.show-shown in
+    let f = rw (r.ensures.context, sym e, c.passed.ensures long) at (z.ensures.came S start h step k (scope_of me names r.new.room) c.args.depth) in
+    let show = f q in
+    rw z.ensures.left (passes S _ start h z.result z.new.self.value z.new.self.leave _ step k _ _ _ (sym c.is_left-2.ensures ∙ c.if-is_left-2.true) show)
+
+pub print-returns-clause-came : goal.print-returns-clause-came
+print-returns-clause-came g m c = λ name S start h k me names size st e l a.
+    let r = c.arguments-came in
+    let right = printing_is S c.args.form name (length c.args.args.now) (λ s. every (map (fits s) c.args.args.now)) names size l.fits in
+    let under = sub (every (map (fits S) c.args.args.now)) l right.3 in
+    let p = r.ensures.came (ByName name) c.args.at S start h k me names size st e under a in
+    let came = sym c.is_left.ensures ∙ c.if-is_left.false in
+    let base = c.args.self.now.base in
+    let count = length c.args.args.now in
+    let long : base + count ≤ length r.new.room = omega (arith, r.ensures.base came, r.ensures.fits l.room) in
+    let values = map plain (take count (drop base r.new.room)) in
+    let many : length values ≡ count = len_map plain (take count (drop base r.new.room)) ∙ len_args r.new.room base count long in
+    let step = Instead (shown_value c.args.form values) in
+    let q = same (on _ (p.1 came) refl) (by_form S c.args.form name values c.args.at k _ _ _ st.classes right.0 right.1 (rw many right.2)) in
+    let z = c.show-shown in
+    let f = rw (r.ensures.context, sym e, c.passed.ensures long) at (z.ensures.came S start h step k (scope_of me names r.new.room) c.args.depth) in
+    let show = f q in
+    let none = sym c.is_left-2.ensures ∙ c.if-is_left-2.false in
+    let g1 = given z.result z.new.self.value z.new.self.leave none show in
+    let o = c.shown_value.ensures in
+    let m1 = rw (c.passed-2.ensures long) at o.gives in
+    rw (o.left, z.ensures.left, o.store) (shown S _ start h _ _ k _ _ _ c.args.form values _ (m1 (rw (len_args r.new.room base count long) right.2)) g1)
+
+pub begin-returns-in-UpdateLocal-clause-kept : goal.begin-returns-in-UpdateLocal-clause-kept
+begin-returns-in-UpdateLocal-clause-kept g m c = λ S names size st e l i p q.
+    let x = c.in-UpdateLocal in
+    let s = sym (ap (λ d. fits S d names size) x.is ∙ fits-update_local S names size x.slot x.field-1 x.op x.value x.at) ∙ l.fits in
+    let under = sub _ l (rw c.get-in-UpdateLocal.ensures s) in
+    c.update_local.ensures.kept x.field-1 S names size st e under i p q
+
+pub begin-returns-in-UpdateLocal-clause-came : goal.begin-returns-in-UpdateLocal-clause-came
+begin-returns-in-UpdateLocal-clause-came g m c = λ S start h k me names size st e l a.
+    let x = c.in-UpdateLocal in
+    let s = sym (ap (λ d. fits S d names size) x.is ∙ fits-update_local S names size x.slot x.field-1 x.op x.value x.at) ∙ l.fits in
+    let under = sub _ l (rw c.get-in-UpdateLocal.ensures s) in
+    c.update_local.ensures.came x.field-1 S start h k me names size st e under (rw c.get-in-UpdateLocal.ensures (same (begins _ _ k _ _ _ (shows-update_local c.args.code.now x.slot x.field-1 x.op x.value x.at x.is) a) (target_local S x.field-1 x.op (erase x.value) x.at k (scope_of me names c.args.room.now) c.args.depth c.args.self.now.left)))
+
+pub begin-returns-in-UpdateElement-clause-kept : goal.begin-returns-in-UpdateElement-clause-kept
+begin-returns-in-UpdateElement-clause-kept g m c = λ S names size st e l i p q.
+    let x = c.in-UpdateElement in
+    let s = sym (ap (λ d. fits S d names size) x.is ∙ fits-update_element S names size x.receiver x.index x.field-2 x.field-3 x.at) ∙ l.fits in
+    let both = fst_two (fits S x.receiver names size) (fits S x.index names size) (fits S x.field-3 names size) s in
+    let under = sub _ l (rw (c.get-in-UpdateElement.ensures, c.get-in-UpdateElement-2.ensures) both) in
+    c.read_element.ensures.kept x.field-2 (erase x.field-3) S names size st e under i p q
+
+pub begin-returns-in-UpdateElement-clause-came : goal.begin-returns-in-UpdateElement-clause-came
+begin-returns-in-UpdateElement-clause-came g m c = λ S start h k me names size st e l a.
+    let x = c.in-UpdateElement in
+    let s = sym (ap (λ d. fits S d names size) x.is ∙ fits-update_element S names size x.receiver x.index x.field-2 x.field-3 x.at) ∙ l.fits in
+    let both = fst_two (fits S x.receiver names size) (fits S x.index names size) (fits S x.field-3 names size) s in
+    let under = sub _ l (rw (c.get-in-UpdateElement.ensures, c.get-in-UpdateElement-2.ensures) both) in
+    c.read_element.ensures.came x.field-2 (erase x.field-3) S start h k me names size st e under (rw (c.get-in-UpdateElement.ensures, c.get-in-UpdateElement-2.ensures) (same (begins _ _ k _ _ _ (shows-update_element c.args.code.now x.receiver x.index x.field-2 x.field-3 x.at x.is) a) (target_element S (erase x.receiver) (erase x.index) x.field-2 (erase x.field-3) x.at k (scope_of me names c.args.room.now) c.args.depth c.args.self.now.left)))
+
+pub begin-returns-in-UpdateAttribute-clause-kept : goal.begin-returns-in-UpdateAttribute-clause-kept
+begin-returns-in-UpdateAttribute-clause-kept g m c = λ S names size st e l i p q.
+    let x = c.in-UpdateAttribute in
+    let s = sym (ap (λ d. fits S d names size) x.is ∙ fits-update_attribute S names size x.number x.field-1 x.receiver x.op x.value x.at) ∙ l.fits in
+    let under = sub _ l (rw (c.get-in-UpdateAttribute.ensures, c.get-in-UpdateAttribute-2.ensures) s) in
+    c.update_attribute.ensures.kept x.field-1 S names size st e under i p q
+
+pub begin-returns-in-UpdateAttribute-clause-came : goal.begin-returns-in-UpdateAttribute-clause-came
+begin-returns-in-UpdateAttribute-clause-came g m c = λ S start h k me names size st e l a.
+    let x = c.in-UpdateAttribute in
+    let s = sym (ap (λ d. fits S d names size) x.is ∙ fits-update_attribute S names size x.number x.field-1 x.receiver x.op x.value x.at) ∙ l.fits in
+    let under = sub _ l (rw (c.get-in-UpdateAttribute.ensures, c.get-in-UpdateAttribute-2.ensures) s) in
+    c.update_attribute.ensures.came x.field-1 S start h k me names size st e under (rw (c.get-in-UpdateAttribute.ensures, c.get-in-UpdateAttribute-2.ensures) (same (begins _ _ k _ _ _ (shows-update_attribute c.args.code.now x.number x.field-1 x.receiver x.op x.value x.at x.is) a) (target_attribute S (erase x.receiver) x.field-1 x.op (erase x.value) x.at k (scope_of me names c.args.room.now) c.args.depth c.args.self.now.left)))
+
+pub begin-returns-in-Store-clause-kept : goal.begin-returns-in-Store-clause-kept
+begin-returns-in-Store-clause-kept g m c = λ S names size st e l i p q.
+    let x = c.in-Store in
+    let s = sym (ap (λ d. fits S d names size) x.is ∙ fits-store S names size x.receiver x.field-1 x.args x.at) ∙ l.fits in
+    let under = sub _ l (rw (c.get-in-Store.ensures, c.as_slice-in-Store.ensures) s) in
+    c.store_by.ensures.kept x.field-1 S names size st e under i p q
+
+pub begin-returns-in-Store-clause-came : goal.begin-returns-in-Store-clause-came
+begin-returns-in-Store-clause-came g m c = λ S start h k me names size st e l a.
+    let x = c.in-Store in
+    let s = sym (ap (λ d. fits S d names size) x.is ∙ fits-store S names size x.receiver x.field-1 x.args x.at) ∙ l.fits in
+    let under = sub _ l (rw (c.get-in-Store.ensures, c.as_slice-in-Store.ensures) s) in
+    c.store_by.ensures.came x.field-1 S start h k me names size st e under (rw (c.get-in-Store.ensures, c.as_slice-in-Store.ensures) (begins _ _ k _ _ _ (shows-store c.args.code.now x.receiver x.field-1 x.args x.at x.is) a))
+
+pub begin-returns-in-Operate-clause-kept : goal.begin-returns-in-Operate-clause-kept
+begin-returns-in-Operate-clause-kept g m c = λ S names size st e l i p q.
+    let x = c.in-Operate in
+    let s = sym (ap (λ d. fits S d names size) x.is ∙ fits-operate S names size x.method x.field-1 x.left x.right x.at) ∙ l.fits in
+    let under = sub _ l (rw (c.get-in-Operate.ensures, c.get-in-Operate-2.ensures) s) in
+    c.operate.ensures.kept x.field-1 S names size st e under i p q
+
+pub begin-returns-in-Operate-clause-came : goal.begin-returns-in-Operate-clause-came
+begin-returns-in-Operate-clause-came g m c = λ S start h k me names size st e l a.
+    let x = c.in-Operate in
+    let s = sym (ap (λ d. fits S d names size) x.is ∙ fits-operate S names size x.method x.field-1 x.left x.right x.at) ∙ l.fits in
+    let under = sub _ l (rw (c.get-in-Operate.ensures, c.get-in-Operate-2.ensures) s) in
+    c.operate.ensures.came x.field-1 S start h k me names size st e under (rw (c.get-in-Operate.ensures, c.get-in-Operate-2.ensures) (begins _ _ k _ _ _ (shows-operate c.args.code.now x.method x.field-1 x.left x.right x.at x.is) a))
+
+pub begin-returns-in-Send-clause-kept : goal.begin-returns-in-Send-clause-kept
+begin-returns-in-Send-clause-kept g m c = λ S names size st e l i p q.
+    let x = c.in-Send in
+    let s = sym (ap (λ d. fits S d names size) x.is ∙ fits-send S names size x.method x.field-1 x.receiver x.args x.at) ∙ l.fits in
+    let under = sub _ l (rw (c.get-in-Send.ensures, c.as_slice-in-Send.ensures) s) in
+    c.send.ensures.kept x.field-1 S names size st e under i p q
+
+pub begin-returns-in-Send-clause-came : goal.begin-returns-in-Send-clause-came
+begin-returns-in-Send-clause-came g m c = λ S start h k me names size st e l a.
+    let x = c.in-Send in
+    let s = sym (ap (λ d. fits S d names size) x.is ∙ fits-send S names size x.method x.field-1 x.receiver x.args x.at) ∙ l.fits in
+    let under = sub _ l (rw (c.get-in-Send.ensures, c.as_slice-in-Send.ensures) s) in
+    c.send.ensures.came x.field-1 S start h k me names size st e under (rw (c.get-in-Send.ensures, c.as_slice-in-Send.ensures) (begins _ _ k _ _ _ (shows-send c.args.code.now x.method x.field-1 x.receiver x.args x.at x.is) a))
+
+pub begin-returns-in-Print-clause-kept : goal.begin-returns-in-Print-clause-kept
+begin-returns-in-Print-clause-kept g m c = λ S names size st e l i p q.
+    let x = c.in-Print in
+    let r = sym (ap (λ d. fits S d names size) x.is ∙ fits-print S names size x.form x.field-1 x.args x.at) ∙ l.fits in
+    let s = rw (len_map (fits S) x.args) at r in
+    let under = sub (printing x.form x.field-1 (length c.as_slice-in-Print.result.now) (λ S. every (map (fits S) c.as_slice-in-Print.result.now)) S) l (rw c.as_slice-in-Print.ensures s) in
+    c.print.ensures.kept x.field-1 S names size st e under i p q
+
+pub begin-returns-in-Print-clause-came : goal.begin-returns-in-Print-clause-came
+begin-returns-in-Print-clause-came g m c = λ S start h k me names size st e l a.
+    let x = c.in-Print in
+    let r = sym (ap (λ d. fits S d names size) x.is ∙ fits-print S names size x.form x.field-1 x.args x.at) ∙ l.fits in
+    let s = rw (len_map (fits S) x.args) at r in
+    let under = sub (printing x.form x.field-1 (length c.as_slice-in-Print.result.now) (λ S. every (map (fits S) c.as_slice-in-Print.result.now)) S) l (rw c.as_slice-in-Print.ensures s) in
+    c.print.ensures.came x.field-1 S start h k me names size st e under (rw c.as_slice-in-Print.ensures (begins _ _ k _ _ _ (shows-print c.args.code.now x.form x.field-1 x.args x.at x.is) a))
+
+pub begin-returns-in-Return-clause-kept : goal.begin-returns-in-Return-clause-kept
+begin-returns-in-Return-clause-kept g m c = λ S names size st e l i p q.
+    let x = c.in-Return in
+    let s = sym (ap (λ d. fits S d names size) x.is ∙ fits-return S names size x.value x.field-1) ∙ l.fits in
+    let under = sub _ l s in
+    c.leave_method.ensures.kept S names size st e under i p q
+
+pub begin-returns-in-Return-clause-came : goal.begin-returns-in-Return-clause-came
+begin-returns-in-Return-clause-came g m c = λ S start h k me names size st e l a.
+    let x = c.in-Return in
+    let s = sym (ap (λ d. fits S d names size) x.is ∙ fits-return S names size x.value x.field-1) ∙ l.fits in
+    let under = sub _ l s in
+    c.leave_method.ensures.came S start h k me names size st e under (begins _ _ k _ _ _ (shows-return c.args.code.now x.value x.field-1 x.is) a)
+
+pub leave_method-returns-clause-kept : goal.leave_method-returns-clause-kept
+leave_method-returns-clause-kept g m c = λ S names size st e l i p q.
+    let s = ap (λ v. if_some (option_map (fits S) v) names size) (sym c.in-Some.is) ∙ l.fits in
+    let under = sub _ l (rw c.get.ensures s) in
+    c.leave_with.ensures.kept S names size st e under i p q
+
+pub leave_method-returns-in_default-clause-came : goal.leave_method-returns-in_default-clause-came
+leave_method-returns-in_default-clause-came g m c = λ S start h k me names size st e l a.
+    same a (ap (λ v. begin_return S (option_map erase v) k (scope_of me names c.args.room.now) c.args.depth c.args.self.now.left) (nothing c.args.value.now c.in_default.not-Some))
+
+pub leave_method-returns-clause-came : goal.leave_method-returns-clause-came
+leave_method-returns-clause-came g m c = λ S start h k me names size st e l a.
+    let s = ap (λ v. if_some (option_map (fits S) v) names size) (sym c.in-Some.is) ∙ l.fits in
+    let under = sub _ l (rw c.get.ensures s) in
+    c.leave_with.ensures.came S start h k me names size st e under (rw c.get.ensures (same a (ap (λ v. begin_return S (option_map erase v) k (scope_of me names c.args.room.now) c.args.depth c.args.self.now.left) c.in-Some.is)))
+
+pub text-returns-in-Err-clause-came : goal.text-returns-in-Err-clause-came
+text-returns-in-Err-clause-came g m c = λ S start h k me names size st e l a.
+    let o = c.over.ensures in
+    rw (o.gives, o.left, o.store) (_, c.pieces.invariant.came S start h k me names size st e l a, refl)
+
+pub text-returns-then-is_left-clause-kept : goal.text-returns-then-is_left-clause-kept
+text-returns-then-is_left-clause-kept g m c = λ S names size st e l i p q.
+    let loop = c.pieces in
+    let inv = loop.invariant in
+    let right = piece_code S _ _ c.piece-item.result c.in-Code.code names size c.pieces-test.true c.piece-item.is c.in-Code.is l.fits in
+    let under = moved _ _ inv.base inv.room (sub (fits S c.in-Code.code) l right) in
+    let f = rw inv.context at c.walk-came.ensures.kept in
+    f S names size st e under i p (omega (arith, q, inv.base)) ∙ inv.kept S names size st e l i p q
+
+pub text-returns-then-is_left-clause-came : goal.text-returns-then-is_left-clause-came
+text-returns-then-is_left-clause-came g m c = λ S start h k me names size st e l a.
+    let loop = c.pieces in
+    let inv = loop.invariant in
+    let item = next_item _ _ c.piece-item.result c.pieces-test.true c.piece-item.is in
+    let before = joining _ (sym (ap (map erase_piece) item)) (inv.came S start h k me names size st e l a) in
+    let right = piece_code S _ _ c.piece-item.result c.in-Code.code names size c.pieces-test.true c.piece-item.is c.in-Code.is l.fits in
+    let under = moved _ _ inv.base inv.room (sub (fits S c.in-Code.code) l right) in
+    let step = PieceOf loop.bytes.items (map erase_piece (drop (loop.piece-index + 1) c.args.pieces.now)) c.args.at in
+    let w = c.walk-came in
+    let f = rw inv.context at w.ensures.came in
+    let come = f S start h (Then step ∷ k) me names size st e under (joins_code _ (shows_code c.piece-item.result c.in-Code.code c.in-Code.is) before) in
+    passes S _ start h w.result w.new.self.value w.new.self.leave _ step k _ _ _ (sym c.is_left.ensures ∙ c.if-is_left.true) come
+
+pub text-returns-in-Err-add_value-clause-kept : goal.text-returns-in-Err-add_value-clause-kept
+text-returns-in-Err-add_value-clause-kept g m c = λ S names size st e l i p q.
+    let loop = c.pieces in
+    let inv = loop.invariant in
+    let right = piece_code S _ _ c.piece-item.result c.in-Code.code names size c.pieces-test.true c.piece-item.is c.in-Code.is l.fits in
+    let under = moved _ _ inv.base inv.room (sub (fits S c.in-Code.code) l right) in
+    let f = rw inv.context at c.walk-came.ensures.kept in
+    f S names size st e under i p (omega (arith, q, inv.base)) ∙ inv.kept S names size st e l i p q
+
+pub text-returns-in-Err-add_value-clause-came : goal.text-returns-in-Err-add_value-clause-came
+text-returns-in-Err-add_value-clause-came g m c = λ S start h k me names size st e l a.
+    let loop = c.pieces in
+    let inv = loop.invariant in
+    let item = next_item _ _ c.piece-item.result c.pieces-test.true c.piece-item.is in
+    let before = joining _ (sym (ap (map erase_piece) item)) (inv.came S start h k me names size st e l a) in
+    let right = piece_code S _ _ c.piece-item.result c.in-Code.code names size c.pieces-test.true c.piece-item.is c.in-Code.is l.fits in
+    let under = moved _ _ inv.base inv.room (sub (fits S c.in-Code.code) l right) in
+    let step = PieceOf loop.bytes.items (map erase_piece (drop (loop.piece-index + 1) c.args.pieces.now)) c.args.at in
+    let w = c.walk-came in
+    let f = rw inv.context at w.ensures.came in
+    let come = f S start h (Then step ∷ k) me names size st e under (joins_code _ (shows_code c.piece-item.result c.in-Code.code c.in-Code.is) before) in
+    let g1 = given w.result w.new.self.value w.new.self.leave (sym c.is_left.ensures ∙ c.if-is_left.false) come in
+    let t = c.take-value.ensures in
+    let o = c.over-in-Err-add_value.ensures in
+    rw (o.gives, o.left, o.store, t.left, t.store) (_, g1, refl)
+
+pub text-returns-then-len-gt-MAX_BYTES-clause-kept : goal.text-returns-then-len-gt-MAX_BYTES-clause-kept
+text-returns-then-len-gt-MAX_BYTES-clause-kept g m c = λ S names size st e l i p q.
+    let loop = c.pieces in
+    let inv = loop.invariant in
+    elim c.match-piece.branch [
+      | text-in-Text+in_default x ↦ rw x.room-is (inv.kept S names size st e l i p q)
+      | text-in-Code+else-is_left+in_default-add_value x ↦
+          let right = piece_code S _ _ c.piece-item.result x.in-Code.code names size c.pieces-test.true c.piece-item.is x.in-Code.is l.fits in
+          let under = moved _ _ inv.base inv.room (sub (fits S x.in-Code.code) l right) in
+          let f = rw inv.context at x.walk-came.ensures.kept in
+          rw x.room-is (f S names size st e under i p (omega (arith, q, inv.base)) ∙ inv.kept S names size st e l i p q)
+    ]
+
+pub text-returns-then-len-gt-MAX_BYTES-clause-came : goal.text-returns-then-len-gt-MAX_BYTES-clause-came
+text-returns-then-len-gt-MAX_BYTES-clause-came g m c = λ S start h k me names size st e l a.
+    let loop = c.pieces in
+    let inv = loop.invariant in
+    let item = next_item _ _ c.piece-item.result c.pieces-test.true c.piece-item.is in
+    let before = joining _ (sym (ap (map erase_piece) item)) (inv.came S start h k me names size st e l a) in
+    let long : 16777216 < length c.match-piece.bytes.items = omega (arith, c.if-len-gt-MAX_BYTES.true, c.len.ensures, c.match-piece.bytes.ok) in
+    let o = c.raise.ensures in
+    rw (o.gives, o.left, o.store) (elim c.match-piece.branch [
+      | text-in-Text+in_default x ↦
+          let shows = shows_text c.piece-item.result x.in-Text.text x.as_slice.result.now x.in-Text.is x.as_slice.ensures in
+          rw x.self-is (text_long loop.bytes.items x.as_slice.result.now _ _ c.args.at k _ _ _ c.match-piece.bytes.items shows (rw x.bytes-is x.in_default.ensures) long before)
+      | text-in-Code+else-is_left+in_default-add_value x ↦
+          let right = piece_code S _ _ c.piece-item.result x.in-Code.code names size c.pieces-test.true c.piece-item.is x.in-Code.is l.fits in
+          let under = moved _ _ inv.base inv.room (sub (fits S x.in-Code.code) l right) in
+          let step = PieceOf loop.bytes.items (map erase_piece (drop (loop.piece-index + 1) c.args.pieces.now)) c.args.at in
+          let w = x.walk-came in
+          let f = rw inv.context at w.ensures.came in
+          let come = f S start h (Then step ∷ k) me names size st e under (joins_code _ (shows_code c.piece-item.result x.in-Code.code x.in-Code.is) before) in
+          let g1 = given w.result w.new.self.value w.new.self.leave (sym x.is_left.ensures ∙ x.if-is_left.false) come in
+          let t = x.take-value.ensures in
+          let said = rw (t.context, w.ensures.context, inv.context, sym e, t.value) at x.in_default-add_value.ensures in
+          rw (x.self-is, t.left, t.store) (value_long loop.bytes.items (value_of w.result w.new.self.value) _ c.args.at k _ _ _ c.match-piece.bytes.items (rw x.bytes-is said) long g1)
+    ])
+
+pub text-pieces-preserved : goal.text-pieces-preserved
+text-pieces-preserved g m c =
+    let loop = c.pieces in
+    let inv = loop.invariant in
+    let short : length c.match-piece.bytes.items ≤ 16777216 = omega (arith, c.if-len-gt-MAX_BYTES.false, c.len.ensures, c.match-piece.bytes.ok) in
+    elim c.match-piece.branch [
+      | text-in-Text+in_default x ↦ rw (x.self-is, x.room-is) (record {
+        base = inv.base;
+        context = inv.context;
+        room = inv.room;
+        less = inv.less;
+        unended = inv.unended;
+        kept = inv.kept;
+        came = λ S start h k me names size st e l a.
+            let item = next_item _ _ c.piece-item.result c.pieces-test.true c.piece-item.is in
+            let before = joining _ (sym (ap (map erase_piece) item)) (inv.came S start h k me names size st e l a) in
+            let shows = shows_text c.piece-item.result x.in-Text.text x.as_slice.result.now x.in-Text.is x.as_slice.ensures in
+            text_joins loop.bytes.items x.as_slice.result.now _ _ c.args.at k _ _ _ c.match-piece.bytes.items shows (rw x.bytes-is x.in_default.ensures) short before;
+      })
+      | text-in-Code+else-is_left+in_default-add_value x ↦
+          let y = x.walk-came.ensures in
+          let t = x.take-value.ensures in
+          rw (x.self-is, x.room-is) (record {
+            base = t.base ∙ (y.base ∙ inv.base);
+            context = t.context ∙ (y.context ∙ inv.context);
+            room = y.room ∙ inv.room;
+            less = omega (arith, t.left, y.less, inv.less);
+            unended = rw t.store y.unended;
+            kept = λ S names size st e l i p q.
+                let right = piece_code S _ _ c.piece-item.result x.in-Code.code names size c.pieces-test.true c.piece-item.is x.in-Code.is l.fits in
+                let under = moved _ _ inv.base inv.room (sub (fits S x.in-Code.code) l right) in
+                let f = rw inv.context at x.walk-came.ensures.kept in
+                f S names size st e under i p (omega (arith, q, inv.base)) ∙ inv.kept S names size st e l i p q;
+            came = λ S start h k me names size st e l a.
+                let item = next_item _ _ c.piece-item.result c.pieces-test.true c.piece-item.is in
+                let before = joining _ (sym (ap (map erase_piece) item)) (inv.came S start h k me names size st e l a) in
+                let right = piece_code S _ _ c.piece-item.result x.in-Code.code names size c.pieces-test.true c.piece-item.is x.in-Code.is l.fits in
+                let under = moved _ _ inv.base inv.room (sub (fits S x.in-Code.code) l right) in
+                let step = PieceOf loop.bytes.items (map erase_piece (drop (loop.piece-index + 1) c.args.pieces.now)) c.args.at in
+                let w = x.walk-came in
+                let f = rw inv.context at w.ensures.came in
+                let come = f S start h (Then step ∷ k) me names size st e under (joins_code _ (shows_code c.piece-item.result x.in-Code.code x.in-Code.is) before) in
+                let g1 = given w.result w.new.self.value w.new.self.leave (sym x.is_left.ensures ∙ x.if-is_left.false) come in
+                let said = rw (t.context, w.ensures.context, inv.context, sym e, t.value) at x.in_default-add_value.ensures in
+                rw (t.left, t.store) (value_joins loop.bytes.items (value_of w.result w.new.self.value) _ c.args.at k _ _ _ c.match-piece.bytes.items (rw x.bytes-is said) short g1);
+          })
+    ]
+
+pub text-returns-in-Ok-clause-came : goal.text-returns-in-Ok-clause-came
+text-returns-in-Ok-clause-came g m c = λ S start h k me names size st e l a.
+    let o = c.give.ensures in
+    let inv = c.pieces.invariant in
+    rw (o.gives, o.left, o.store, c.in-Ok.ensures) (on _ (joining [] (sym (ap (map erase_piece) (drop_all _ _ c.pieces-test.false))) (inv.came S start h k me names size st e l a)) refl)
+
+pub text-returns-in-Err-from_vec-clause-came : goal.text-returns-in-Err-from_vec-clause-came
+text-returns-in-Err-from_vec-clause-came g m c = λ S start h k me names size st e l a.
+    let o = c.over-in-Err-from_vec.ensures in
+    rw (o.gives, o.left, o.store) (_, c.pieces.invariant.came S start h k me names size st e l a, refl)
+
+pub begin-returns-in-Str-clause-kept : goal.begin-returns-in-Str-clause-kept
+begin-returns-in-Str-clause-kept g m c = λ S names size st e l i p q.
+    let x = c.in-Str in
+    let s = sym (ap (λ d. fits S d names size) x.is ∙ fits-str S names size x.pieces x.at) ∙ l.fits in
+    let under = sub _ l (rw c.as_slice.ensures s) in
+    c.text.ensures.kept S names size st e under i p q
+
+pub begin-returns-in-Str-clause-came : goal.begin-returns-in-Str-clause-came
+begin-returns-in-Str-clause-came g m c = λ S start h k me names size st e l a.
+    let x = c.in-Str in
+    let s = sym (ap (λ d. fits S d names size) x.is ∙ fits-str S names size x.pieces x.at) ∙ l.fits in
+    let under = sub _ l (rw c.as_slice.ensures s) in
+    c.text.ensures.came S start h k me names size st e under (rw c.as_slice.ensures (begins _ _ k _ _ _ (shows-str c.args.code.now x.pieces x.at x.is) a))

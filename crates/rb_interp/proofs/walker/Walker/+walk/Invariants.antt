@@ -84,6 +84,9 @@ decreases-body g l = 9 * (1001 - l.depth) + 1
 abbrev pub decreases-repeat : goal.decreases-repeat
 decreases-repeat g l = 9 * (1001 - l.depth) + 2
 
+abbrev pub decreases-leave_method : goal.decreases-leave_method
+decreases-leave_method g l = 9 * (1001 - l.depth) + 2
+
 abbrev pub decreases-leave_with : goal.decreases-leave_with
 decreases-leave_with g l = 9 * (1001 - l.depth) + 1
 

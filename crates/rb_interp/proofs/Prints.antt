@@ -1,0 +1,99 @@
+-- Calls by name of methods that print.
+use Rattle.std.proofs.Common.{◌≡◌, ℕ, ◌+◌, ◌≤◌, Bool, true, false, cond, List, [], ◌∷◌, length, Some, None, refl, ap, ◌∙◌, arith}
+use Rattle.std.proofs.lemmas.Bool.Decides.{nat_tests}
+use Rattle.std.proofs.lemmas.Slice.Eq.{bytes_eq-Decides}
+use Rattle.std.specs.Prelude.{is_none, not, ◌&&◌, position, find, nat_lt, nat_le}
+use Rattle.std.specs.Str.{bytes_eq}
+use Rattle.std.specs.List.{position_or_len}
+use Rattle.rb_tree.specs.declared.span.Span.{Span}
+use Rattle.rb_tree.specs.declared.span.NameId.{NameId}
+use Rattle.rb_model.specs.declared.value.Sort.{Sort}
+use Rattle.rb_model.specs.declared.value.Sort.TheVariants as sort
+use Rattle.rb_model.specs.Values.{Value as Val, Nil, False, True, Int, Sym, Str, To}
+use Rattle.rb_model.specs.Log.{Log}
+use Rattle.rb_model.specs.Private.{Private}
+use Rattle.rb_machine.specs.Scopes.{Script, Scope, text_of}
+use Rattle.rb_machine.specs.Control.{State, On, Cont, Then, Instead, Give}
+use Rattle.rb_machine.specs.Call.{call_by_name, own, top_level, print, show, value_of_p, named, methods_of, methods_of_sort}
+use Rattle.rb_machine.specs.Follows.{At}
+use Rattle.rb_render.specs.declared.show.Form.{Form}
+use Rattle.rb_render.specs.declared.show.Form.TheVariants as form
+use Rattle.rb_render.specs.Forms.{written}
+use Rattle.rb_code.specs.Resolved.{Fits, function_of, has_name, form_text, form_takes}
+use Rattle.rb_interp.specs.Outcome.{Outcome, Gave, Came}
+use Rattle.rb_interp.specs.Carries.{printing}
+use Rattle.rb_interp.specs.Answers.{OrMemory, shown_value, only_value}
+use Rattle.rb_interp.proofs.Moves.{on}
+use Rattle.rb_interp.proofs.Calls.{or_memory}
+
+past : (m len : ℕ) (t : Bool) → nat_lt m len ≡ t → is_none (cond t (Some m) None) ≡ true → len ≤ m
+past m len false e h = grind (arith, nat_tests)
+past m len true e h = absurd (cc)
+
+none_by : {A : Type 0} (p : A → Bool) (x : A) (xs : List A) (t : Bool) → length (x ∷ xs) ≤ cond (not t) (1 + position_or_len p xs) 0 → (length xs ≤ position_or_len p xs → find p xs ≡ None) → cond t (Some x) (find p xs) ≡ None
+none_by p x xs true h later = absurd (omega (arith, h))
+none_by p x xs false h later = later (omega (arith, h))
+
+none_passes : {A : Type 0} (p : A → Bool) (xs : List A) → length xs ≤ position_or_len p xs → find p xs ≡ None
+none_passes p [] h = refl
+none_passes p (x ∷ xs) h = none_by p x xs (p x) h (none_passes p xs)
+
+-- a list has no item that passes where it has no place of one
+none_at : {A : Type 0} (p : A → Bool) (xs : List A) → is_none (position p xs) ≡ true → find p xs ≡ None
+none_at p xs h = none_passes p xs (past (position_or_len p xs) (length xs) (nat_lt (position_or_len p xs) (length xs)) refl h)
+
+no_sort : (S : Script) (name : NameId) (s : Sort) → S.program.classes ≡ [] → named S name (methods_of_sort S s) ≡ None
+no_sort S name (sort.Object class) e = rw e refl
+no_sort S name sort.List e = refl
+no_sort S name sort.Pairs e = refl
+no_sort S name sort.Mutex e = refl
+no_sort S name sort.Thread e = refl
+
+-- where there are no classes, no value has a method of the script
+no_own : (S : Script) (name : NameId) (v : Val) → S.program.classes ≡ [] → named S name (methods_of S v) ≡ None
+no_own S name Nil e = refl
+no_own S name False e = refl
+no_own S name True e = refl
+no_own S name (Int n) e = refl
+no_own S name (Sym other) e = refl
+no_own S name (Str bytes) e = refl
+no_own S name (To thing) e = no_sort S name thing.sort e
+
+module _ (S : Script) where
+  p_gives : (values : List Val) → nat_le (length values) 1 ≡ true → value_of_p S values ≡ Instead (only_value values)
+  p_gives [] h = refl
+  p_gives (v ∷ []) h = refl
+  p_gives (v ∷ w ∷ vs) h = absurd (grind (arith, nat_tests))
+
+  by_text : (form : Form) (values : List Val) (at : Span) (k : List Cont) (sc : Scope) (d n : ℕ) → form_takes form (length values) ≡ true
+      → print S (form_text form) values at k sc d n ≡ show S (written S.program.names form values) (Instead (shown_value form values)) at k sc d n
+  by_text form.Puts values at k sc d n h = refl
+  by_text form.Print values at k sc d n h = refl
+  by_text form.Inspect values at k sc d n h = ap (λ after. show S (written S.program.names form.Inspect values) after at k sc d n) (p_gives values h)
+
+  -- a call by the name of a method that prints shows what is written, and then has its value
+  pub by_form : (form : Form) (name : NameId) (values : List Val) (at : Span) (k : List Cont) (sc : Scope) (d n : ℕ) → S.program.classes ≡ [] → is_none (function_of S name) ≡ true → bytes_eq (text_of S name) (form_text form) ≡ true → form_takes form (length values) ≡ true
+      → call_by_name S name values at k sc d n ≡ show S (written S.program.names form values) (Instead (shown_value form values)) at k sc d n
+  by_form form name values at k sc d n c f t h =
+      ap (λ m. own S m name values at k sc d n) (no_own S name sc.me c)
+      ∙ (ap (λ m. top_level S m name values at k sc d n) (none_at (has_name S name) S.program.functions f)
+      ∙ (ap (λ text. print S text values at k sc d n) ((bytes_eq-Decides (text_of S name) (form_text form)).0 t) ∙ by_text form values at k sc d n h))
+
+all_four : (a b c d : Bool) → (a && (b && (c && d))) ≡ true → (a ≡ true) × (b ≡ true) × (c ≡ true) × (d ≡ true)
+all_four true true true d h = (refl , refl , refl , h)
+all_four true true false d h = absurd (cc)
+all_four true false c d h = absurd (cc)
+all_four false b c d h = absurd (cc)
+
+-- what is known of a call that prints
+pub printing_is : (S : Script) (form : Form) (name : NameId) (count : ℕ) (code : Script → Fits) (names : List NameId) (size : ℕ) → printing form name count code S names size ≡ true
+    → (is_none (function_of S name) ≡ true) × (bytes_eq (text_of S name) (form_text form) ≡ true) × (form_takes form count ≡ true) × (code S names size ≡ true)
+printing_is S form name count code names size h = all_four (is_none (function_of S name)) (bytes_eq (text_of S name) (form_text form)) (form_takes form count) (code S names size) h
+
+module _ (S : Script) (N : ℕ) (start : State) (h : Private) where
+  -- what came behind the bytes that are shown is the value of the call
+  pub shown : (l : Log) (v : Val) (k : List Cont) (sc : Scope) (d n : ℕ) (form : Form) (values : List Val) (o : Outcome) → OrMemory (Gave (shown_value form values)) o
+      → At S 0 N start l h (On (Give v) (Then (Instead (shown_value form values)) ∷ k) sc d n) → Came S N start l h o k sc d n
+  shown l v k sc d n form values o m a =
+      let b = on (On (Give (shown_value form values)) k sc d n) a refl in
+      or_memory S N start h l k sc d n (Gave (shown_value form values)) o (On (Give (shown_value form values)) k sc d n) m b refl b
