@@ -70,29 +70,3 @@ over_left came.False v l e h = absurd (cc)
 over_left came.True v l e h = absurd (cc)
 over_left (came.Int n) v l e h = absurd (cc)
 over_left came.Other v l e h = absurd (cc)
-
-numbered : (b : Builtin) → builtin_of (name_of b) ≡ Some b
-numbered builtin.Equal = refl
-numbered builtin.IsNil = refl
-numbered builtin.ToS = refl
-numbered builtin.Inspect = refl
-numbered builtin.Plus = refl
-numbered builtin.Minus = refl
-numbered builtin.Times = refl
-numbered builtin.Over = refl
-numbered builtin.Modulo = refl
-numbered builtin.Negate = refl
-numbered builtin.Less = refl
-numbered builtin.AtMost = refl
-numbered builtin.More = refl
-numbered builtin.AtLeast = refl
-numbered builtin.TimesLoop = refl
-numbered builtin.Upto = refl
-numbered builtin.Length = refl
-
--- numbers that are the same are one
-pub one_number : (a b : Option Builtin) → same_number a b ≡ true → a ≡ b
-one_number None None h = refl
-one_number (Some a) (Some b) h = sym (numbered a) ∙ (ap builtin_of ((bytes_eq-Decides (name_of a) (name_of b)).0 h) ∙ numbered b)
-one_number None (Some b) h = absurd (cc)
-one_number (Some a) None h = absurd (cc)

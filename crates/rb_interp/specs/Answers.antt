@@ -1,5 +1,5 @@
 -- What the parts of the walk that call nothing of it answer.
-use Rattle.std.specs.Prelude.{◌≡◌, ◌⊎◌, ◌≤◌, ◌<◌, ◌-◌, ℕ, ℤ, Bool, true, false, List, [], ◌∷◌, length, map, slice_set, Option, Some, None}
+use Rattle.std.specs.Prelude.{◌≡◌, ◌⊎◌, ◌≤◌, ◌<◌, ◌-◌, ℕ, ℤ, int_lt, Bool, true, false, List, [], ◌∷◌, length, map, slice_set, Option, Some, None}
 use Rattle.rb_tree.specs.declared.span.Span.{Span}
 use Rattle.rb_tree.specs.declared.span.NameId.{NameId}
 use Rattle.rb_tree.specs.declared.node.AssignOp.{AssignOp}
@@ -10,8 +10,10 @@ use Rattle.rb_model.specs.declared.fault.Fault.TheVariants.{ArgumentCount}
 use Rattle.rb_model.specs.Ends.{Raised, Memory}
 use Rattle.rb_model.specs.Log.{Log}
 use Rattle.rb_model.specs.Private.{Private}
-use Rattle.rb_machine.specs.Scopes.{Script}
-use Rattle.rb_machine.specs.Control.{State, Cont, On, Eval, Give}
+use Rattle.rb_tree.specs.declared.node.Block.{Block}
+use Rattle.rb_machine.specs.Scopes.{Script, Scope}
+use Rattle.rb_machine.specs.Control.{State, Cont, On, Eval, Give, Turns, Counting}
+use Rattle.rb_machine.specs.Call.{answered}
 use Rattle.rb_machine.specs.Methods.{Answer, Gives, Raises, Loops, deed}
 use Rattle.rb_machine.specs.Follows.{At}
 use Rattle.rb_builtin.specs.declared.builtin.Builtin.{Builtin}
@@ -24,7 +26,7 @@ use Rattle.rb_code.specs.Erase.{erase}
 use Rattle.rb_code.specs.Resolved.{fits}
 use Rattle.rb_interp.specs.declared.came.Came.{Came as Registers}
 use Rattle.rb_interp.specs.declared.came.Came.TheVariants as came
-use Rattle.rb_interp.specs.Outcome.{Outcome, Gave, Left, Over}
+use Rattle.rb_interp.specs.Outcome.{Outcome, Gave, Left, Over, Came}
 use Rattle.rb_interp.specs.Carries.{scope_of}
 
 -- an outcome, or want of memory
@@ -80,3 +82,13 @@ only_value vs = Nil
 abbrev pub shown_value : Form → List Val → Val
 shown_value form.Inspect vs = only_value vs
 shown_value f vs = Nil
+
+-- no iteration is left, and this is the answer
+abbrev pub IsDone : ℤ → Turns → Type 0
+IsDone n (Counting next last answer) = (int_lt next last ≡ false) × (answer ≡ Int n)
+
+-- a call of a method of a value with a block comes out so before an iteration
+abbrev pub Settles : List (List ℕ) → ℕ → Option Builtin → Val → List Val → ℕ → Span → ℕ → Log → Outcome → Type 0
+Settles texts N method v args params at left log o =
+    (name : List ℕ) (S : Script) (start : State) (h : Private) (b : Block) (k : List Cont) (sc : Scope) (d : ℕ) → builtin_of name ≡ method
+    → At S 0 N start log h (answered S (deed texts v name args (Some params)) (Some b) at k sc d left) → Came S N start log h o k sc d left

@@ -1,6 +1,6 @@
 // The walk.
 
-ghost use Rattle.std.specs.Prelude.{◌≡◌, ◌≤◌, ◌<◌, ◌+◌, ◌+ℤ◌, pos, ℕ, true, false, List, [], ◌∷◌, ◌++◌, length, map, take, drop, slice_get, Some, None, IfSome, OnOk};
+ghost use Rattle.std.specs.Prelude.{◌≡◌, ◌≤◌, ◌<◌, ◌+◌, ◌+ℤ◌, pos, ℕ, true, false, List, [], ◌∷◌, ◌++◌, length, map, take, drop, slice_get, Some, None, IfSome, IfOk, IfErr, OnOk};
 ghost use Rattle.std.specs.Option.{option_map};
 ghost use Rattle.rb_tree.specs.declared.node.Node.{Node as Tree, out-Node};
 ghost use Rattle.rb_tree.specs.declared.node.AssignOp.{AssignOp as Op};
@@ -20,16 +20,17 @@ ghost use Rattle.rb_code.specs.Stands.{StandsFor};
 ghost use Rattle.rb_machine.specs.Control.{State, Cont, On, Then, Eval, Give, Following, Looping, Turning, Passing, Joining, Step, ReceiverOf, ReceiverToStore, RightOfAnd, RightOfOr, Negate, Choose, ReturnOf, IndexedBy, MemberOf, ReadOf, RightOf, WriteTo, ByName, OfLocal, OfAttribute, Counting};
 ghost use Rattle.rb_machine.specs.Begin.{begin, begin_return};
 ghost use Rattle.rb_machine.specs.Call.{read_place};
-ghost use Rattle.rb_machine.specs.Methods.{deed};
+ghost use Rattle.rb_machine.specs.Methods.{Loops, deed};
 ghost use Rattle.rb_machine.specs.Texts.{shown};
 ghost use Rattle.rb_builtin.specs.Names.{builtin_of};
+ghost use Rattle.rb_builtin.specs.Deeds.{turns_of};
 ghost use Rattle.rb_builtin.specs.Integers as integers;
 ghost use Rattle.rb_code.specs.Erase.{erase, erase_block, erase_piece};
 ghost use Rattle.rb_code.specs.Resolved.{fits, block_fits, piece_fits, every, if_some, form_takes};
 ghost use Rattle.rb_interp.specs.Outcome.{is_left, value_of, outcome, Gave, Over, Came as Comes};
 ghost use Rattle.rb_interp.specs.Ending.{ending, Closes};
 ghost use Rattle.rb_interp.specs.Carries.{Carries, Keeps, scope_of, Passes, Shows, both, at_slot, numbered, unanswered, unwritten, called, printing, Assigns, goes_on, loop_exit, call_exit};
-ghost use Rattle.rb_interp.specs.Answers.{OrMemory, Writes, outcome_of, IsSmall, IsQuick, IsQuickRight, method_of, shown_value, only_value};
+ghost use Rattle.rb_interp.specs.Answers.{OrMemory, Writes, Settles, IsDone, outcome_of, IsSmall, IsQuick, IsQuickRight, method_of, shown_value, only_value};
 
 use crate::came::{Came, Leave, is_left};
 use crate::slots::{clear, start_block};
@@ -67,6 +68,14 @@ struct Walker<'p, O> {
     value: Value,
     /// How a node was left.
     leave: Leave,
+}
+
+/// The iterations of a block: the integers from the first up to the last, and the answer behind them.
+#[derive(Clone, Copy)]
+struct Rounds {
+    first: i64,
+    last: i64,
+    answer: i64,
 }
 
 /// Whether a value is true: only nil and false are not.
@@ -899,6 +908,43 @@ impl<'p, O: OneStore + Drop> Walker<'p, O> {
         self.raise(Fault::NoMethod, at)
     }
 
+    /// What the call of a method of a value with a block comes to before an iteration: those that it makes, or else what it gives.
+    fn rounds(
+        &mut self,
+        receiver: &Value,
+        method: Option<Builtin>,
+        args: &[Value],
+        params: usize,
+        at: Span,
+    ) -> Result<Rounds, Came>
+        ensures rounds { IfOk result (λ r. (name : List ℕ) → builtin_of name ≡ method → deed self.old.context.names.now (plain receiver.now) name (map plain args.now) (Some params) ≡ Loops (Counting r.first (r.last +ℤ pos 1) (Int r.answer))) }
+        ensures gives { IfErr result (λ came. Settles self.old.context.names.now self.old.context.steps method (plain receiver.now) (map plain args.now) params at self.old.left (O.log self.old.store) (outcome came self.new.value self.new.leave)) }
+        ensures base { self.new.base ≡ self.old.base }
+        ensures left { self.new.left ≡ self.old.left }
+        ensures context { self.new.context ≡ self.old.context }
+        ensures store { self.new.store ≡ self.old.store }
+    {
+        let Some(count) = count_of(params) else {
+            return Err(self.over(End::Memory));
+        };
+        match deed_of(
+            self.context.alloc,
+            self.context.names,
+            receiver,
+            method,
+            args,
+            Some(count),
+        ) {
+            Ok(Deed::Give(value)) => Err(self.give(value)),
+            Ok(Deed::Raise(fault)) => Err(self.raise(fault, at)),
+            Ok(Deed::Walk(turns)) => match rounds_of(turns) {
+                Ok(rounds) => Ok(rounds),
+                Err(answer) => Err(Came::Int(answer)),
+            },
+            Err(_) => Err(self.over(End::Memory)),
+        }
+    }
+
     /// A call with a receiver and a block.
     #[cycle(walk)]
     fn send_block(
@@ -932,31 +978,10 @@ impl<'p, O: OneStore + Drop> Walker<'p, O> {
         if is_left(came) {
             return came;
         }
-        let params = block.params.len() as u32;
         let args = passed(room, before, args.len());
-        match deed_of(
-            self.context.alloc,
-            self.context.names,
-            &receiver,
-            method,
-            args,
-            Some(params),
-        ) {
-            Ok(Deed::Give(value)) => self.give(value),
-            Ok(Deed::Raise(fault)) => self.raise(fault, at),
-            Ok(Deed::Walk(Loop::Times(count))) => {
-                if count <= 0 {
-                    return Came::Int(count);
-                }
-                self.turns(0, count - 1, count, block, depth, room)
-            }
-            Ok(Deed::Walk(Loop::Upto(first, last))) => {
-                if first > last {
-                    return Came::Int(first);
-                }
-                self.turns(first, last, first, block, depth, room)
-            }
-            Err(_) => self.over(End::Memory),
+        match self.rounds(&receiver, method, args, block.params.len(), at) {
+            Ok(rounds) => self.turns(rounds.first, rounds.last, rounds.answer, block, depth, room),
+            Err(came) => came,
         }
     }
 
@@ -981,6 +1006,9 @@ impl<'p, O: OneStore + Drop> Walker<'p, O> {
         ensures kept { Keeps self.old.context.script.now self.old.context.names.now (λ S. block_fits S block.now) self.old.base room.old room.new }
         ensures came { Carries self.old.context.script.now self.old.context.names.now self.old.context.steps (λ S. block_fits S block.now) (λ S k sc d n. On (Turning (Counting first (last +ℤ pos 1) (Int answer)) (erase_block block.now)) k sc d n) self.old.base depth self.old.left self.new.left room.old room.new (O.log self.old.store) (O.log self.new.store) (outcome result self.new.value self.new.leave) }
     {
+        if first > last {
+            return Came::Int(answer);
+        }
         let from = block.from as usize;
         let count = block.count as usize;
         if room.len() < from || room.len() - from < count {
@@ -1031,7 +1059,7 @@ impl<'p, O: OneStore + Drop> Walker<'p, O> {
         };
         let before = self.base;
         let size = method.size as usize;
-        if size < args.len() || room.len() < before || room.len() - before < size {
+        if room.len() < before || room.len() - before < size {
             return self.over(End::Memory);
         }
         let came = self.arguments(args, depth, room);
@@ -1494,6 +1522,40 @@ fn end_of(came: Came, leave: Leave) -> End
         Leave::Break | Leave::Next | Leave::Return => End::Value(Value::Nil),
         Leave::Over(end) => end,
     }
+}
+
+/// The iterations of a loop, or its answer where it makes none.
+fn rounds_of(turns: Loop) -> Result<Rounds, i64>
+    ensures some { IfOk result (λ r. turns_of turns ≡ Counting r.first (r.last +ℤ pos 1) (Int r.answer)) }
+    ensures none { IfErr result (λ n. IsDone n (turns_of turns)) }
+{
+    match turns {
+        Loop::Times(count) => {
+            if count <= 0 {
+                return Err(count);
+            }
+            Ok(Rounds {
+                first: 0,
+                last: count - 1,
+                answer: count,
+            })
+        }
+        Loop::Upto(first, last) => Ok(Rounds {
+            first,
+            last,
+            answer: first,
+        }),
+    }
+}
+
+/// A count in 32 bits; none where it has more.
+fn count_of(count: usize) -> Option<u32>
+    ensures { IfSome result (λ n. n ≡ count) }
+{
+    if count > 0xffff_ffff {
+        return None;
+    }
+    Some(count as u32)
 }
 
 /// The values of arguments, which lie behind a frame; none where the row is too short for them.

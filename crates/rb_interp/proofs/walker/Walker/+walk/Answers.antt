@@ -2,18 +2,18 @@ use Rattle.rb_interp.specs.Carries.{goes_on, plainly, updating, scope_of, unwrit
 use Rattle.rb_code.proofs.Slots.{slot_within}
 use Rattle.std.proofs.Common.{rules, to_z, of_z, w64, ◌≡◌, ap, sym, ◌∙◌, refl, subst, ℕ, suc, List, [], ◌∷◌, ◌++◌, take, drop, map, length, ◌+◌, ◌-◌, ◌<◌, ◌≤◌, Some, None, true, false, arith}
 use Rattle.std.proofs.lemmas.List.{drop_all}
-use Rattle.std.specs.Prelude.{◌&&◌, codes}
+use Rattle.std.specs.Prelude.{◌&&◌, codes, pos, ◌+ℤ◌, ◌≤ℤ◌, slice_get}
 use Rattle.rb_model.specs.Values.{Nil, truthy, Int, plain}
-use Rattle.rb_machine.specs.Control.{Then, Under, Rest, AssignTo, ReturnOf, Test, Again, RightOfAnd, RightOfOr, Negate, Choose, Argument, OnReceiver, IndexedBy, IndexOf, MemberOf, ReadOf, RightOf, WriteTo, ReceiverOf, Instead, OfLocal, OfElement, OfAttribute, On, Eval, Give, Passing, Storing, ByName, ReceiverToStore, Joining, PieceOf}
-use Rattle.rb_code.specs.Erase.{erase, erase_piece}
-use Rattle.rb_code.specs.Resolved.{fits, every, if_some}
+use Rattle.rb_machine.specs.Control.{Then, Under, Rest, AssignTo, ReturnOf, Test, Again, RightOfAnd, RightOfOr, Negate, Choose, Argument, OnReceiver, IndexedBy, IndexOf, MemberOf, ReadOf, RightOf, WriteTo, ReceiverOf, Instead, OfLocal, OfElement, OfAttribute, On, Eval, Give, Passing, Storing, ByName, ReceiverToStore, Joining, PieceOf, Counting, Turn, Frame}
+use Rattle.rb_code.specs.Erase.{erase, erase_piece, erase_block, erase_method}
+use Rattle.rb_code.specs.Resolved.{fits, every, if_some, block_fits}
 use Rattle.rb_code.proofs.Showing.{shows-nil, shows-false, shows-true, shows-int, shows-sym, shows-local, shows-and, shows-or, shows-not, shows-if, shows-break, shows-next, shows-set_local, shows-while, shows-return, shows-str, shows-update_local, shows-update_element, shows-update_attribute, shows-store, shows-operate, shows-send, shows-walk, shows-function, shows-print}
 use Rattle.rb_code.proofs.Fitting.{fits-local, fits-and, fits-or, fits-not, fits-if, fits-set_local, fits-while, fits-return, fits-str, fits-update_local, fits-update_element, fits-update_attribute, fits-store, fits-operate, fits-send, fits-walk, fits-function, fits-print}
 use Rattle.rb_interp.specs.Outcome.{value_of, outcome}
 use Rattle.rb_interp.proofs.Moves.{test_true, test_false, on, same, begins, evals, follows, gives, counts, too_many, too_deep, left}
-use Rattle.rb_interp.proofs.Lists.{never, fst, snd, next_item, two, len_set, len_map, len_args, get_set, fst_two, nothing}
-use Rattle.rb_interp.proofs.Rooms.{sub, moved, every_item, read_room, write_room, lies}
-use Rattle.rb_interp.proofs.Outcomes.{gave, given, comes, passes, gone, again, again_out, tested_again, tested_out}
+use Rattle.rb_interp.proofs.Lists.{never, fst, snd, next_item, two, len_set, len_map, len_args, get_set, fst_two, nothing, front}
+use Rattle.rb_interp.proofs.Rooms.{sub, moved, every_item, read_room, write_room, lies, frame_back}
+use Rattle.rb_interp.proofs.Outcomes.{gave, given, comes, passes, gone, again, again_out, tested_again, tested_out, called, turn_too_many, turns_end}
 use Rattle.rb_interp.proofs.Steps.{and_goes, and_stops, or_goes, or_stops, negated, chosen_first, chosen_second, assigned, kept_write}
 use Rattle.rb_machine.specs.Scopes.{text_of}
 use Rattle.rb_builtin.specs.Names.{builtin_of}
@@ -23,12 +23,16 @@ use Rattle.rb_interp.proofs.Places.{operator_number, or_else_stays, or_else_goes
 use mathlib.Core.Logic.{inl, inr}
 use Rattle.rb_machine.specs.Call.{operator, last_value}
 use Rattle.rb_interp.specs.Answers.{shown_value}
-use Rattle.rb_interp.proofs.Arguments.{passing, passed, joined, only_left, only_came, over_left, one_number}
+use Rattle.rb_interp.proofs.Arguments.{passing, passed, joined, only_left, only_came, over_left}
 use Rattle.rb_interp.proofs.Prints.{by_form, printing_is, shown}
 use Rattle.std.specs.Option.{option_map}
 use Rattle.rb_machine.specs.Begin.{begin_return}
-use Rattle.rb_machine.specs.Texts.{shown}
 use Rattle.rb_interp.proofs.Pieces.{piece_code, shows_text, shows_code, joining, joins_code, text_long, text_joins, value_long, value_joins}
+use Rattle.std.proofs.lemmas.Int.{ints, to_z-of_z}
+use Rattle.rb_code.specs.Layout.{bound}
+use Rattle.rb_interp.proofs.Turns.{some_left, none_left, last_done, ends_within, deeper, opens, closes, closes_out, cut, answers_block, block_turns, takes_is}
+use Rattle.rb_machine.specs.Methods.{deed}
+use Rattle.rb_interp.proofs.Frames.{enters, other_count, frame_lies}
 use Rattle.rb_interp.proofs.walker.Walker.+walk.Goals.{text-in-Text+in_default, text-in-Code+else-is_left+in_default-add_value}
 use Rattle.rb_interp.proofs.walker.Walker.+walk.Goals as goal
 
@@ -1050,7 +1054,7 @@ send-returns-clause-came g m c = λ name S start h k me names size st e l a.
     let base = c.take-receiver.new.self.base in
     let long : base + length c.args.args.now ≤ length r.new.room = omega (arith, r.ensures.base came, r.ensures.fits under.room) in
     let values = map plain (take (length c.args.args.now) (drop base r.new.room)) in
-    let number = one_number _ _ (fst _ _ l.fits) in
+    let number = same_is _ _ (fst _ _ l.fits) in
     let m1 = rw (r.ensures.context, c.take-receiver.ensures.context, w.ensures.context, sym e, c.take-receiver.ensures.value, c.passed.ensures long) at (c.call_method.ensures.gives (text_of S name) number) in
     rw (c.call_method.ensures.left, c.call_method.ensures.store) (calls S _ start h _ v (text_of S name) values c.args.at k _ _ _ _ st.classes m1 (on _ (p.1 came) refl))
 
@@ -1437,3 +1441,383 @@ begin-returns-in-Str-clause-came g m c = λ S start h k me names size st e l a.
     let s = sym (ap (λ d. fits S d names size) x.is ∙ fits-str S names size x.pieces x.at) ∙ l.fits in
     let under = sub _ l (rw c.as_slice.ensures s) in
     c.text.ensures.came S start h k me names size st e under (rw c.as_slice.ensures (begins _ _ k _ _ _ (shows-str c.args.code.now x.pieces x.at x.is) a))
+
+pub turns-returns-then-first-last-clause-came : goal.turns-returns-then-first-last-clause-came
+turns-returns-then-first-last-clause-came g m c = λ S start h k me names size st e l a.
+    let zf : to_z w64 (of_z w64 c.args.first) ≡ c.args.first = to_z-of_z w64 c.args.first c.ranges.first in
+    let zl : to_z w64 (of_z w64 c.args.last) ≡ c.args.last = to_z-of_z w64 c.args.last c.ranges.last in
+    let za : to_z w64 (of_z w64 c.args.answer) ≡ c.args.answer = to_z-of_z w64 c.args.answer c.ranges.answer in
+    rw za (turns_end (none_left c.args.first c.args.last (rw (zf, zl) at c.if-first-last.true)) a)
+
+pub turns-returns-then-room-from-clause-came : goal.turns-returns-then-room-from-clause-came
+turns-returns-then-room-from-clause-came g m c = λ S start h k me names size st e l a.
+    let o = c.over.ensures in
+    rw (o.left, o.store) (cut S _ start h _ _ k _ _ _ _ o.gives a refl)
+
+pub turns-returns-then-self-eq0-clause-came : goal.turns-returns-then-self-eq0-clause-came
+turns-returns-then-self-eq0-clause-came g m c = λ S start h k me names size st e l a.
+    let inv = c.turns.invariant in
+    let zf : to_z w64 (of_z w64 c.args.first) ≡ c.args.first = to_z-of_z w64 c.args.first c.ranges.first in
+    let zl : to_z w64 (of_z w64 c.args.last) ≡ c.args.last = to_z-of_z w64 c.args.last c.ranges.last in
+    let za : to_z w64 (of_z w64 c.args.answer) ≡ c.args.answer = to_z-of_z w64 c.args.answer c.ranges.answer in
+    let next = to_z w64 c.turns.next-bits in
+    let back = rw (zf, zl, za) at inv.came in
+    let i = back S start h k me names size st e l a in
+    let more = some_left next c.args.last (rw zl at inv.ordered) in
+    let o = c.over-then-self-eq0.ensures in
+    rw (o.gives, o.left, o.store) (turn_too_many more c.if-self-eq0.true i)
+
+pub turns-returns-then-not-goes_on-clause-kept : goal.turns-returns-then-not-goes_on-clause-kept
+turns-returns-then-not-goes_on-clause-kept g m c = λ S names size st e l i p q.
+    let inv = c.turns.invariant in
+    let within = deeper S c.args.block.now (moved _ _ inv.base (c.start_block.ensures.room ∙ inv.room) l) in
+    let edge = ends_within S c.args.block.now l in
+    let f = rw (inv.context, c.as_slice.ensures) at c.body-came.ensures.kept in
+    f S (names ++ S.block_names c.args.block.now.at) size st e within i p (omega (arith, q, inv.base)) ∙ (c.start_block.ensures.above i (omega (arith, p, edge)) ∙ inv.kept S names size st e l i p q)
+
+pub turns-returns-then-not-goes_on-clause-came : goal.turns-returns-then-not-goes_on-clause-came
+turns-returns-then-not-goes_on-clause-came g m c = λ S start h k me names size st e l a.
+    let inv = c.turns.invariant in
+    let zf : to_z w64 (of_z w64 c.args.first) ≡ c.args.first = to_z-of_z w64 c.args.first c.ranges.first in
+    let zl : to_z w64 (of_z w64 c.args.last) ≡ c.args.last = to_z-of_z w64 c.args.last c.ranges.last in
+    let za : to_z w64 (of_z w64 c.args.answer) ≡ c.args.answer = to_z-of_z w64 c.args.answer c.ranges.answer in
+    let next = to_z w64 c.turns.next-bits in
+    let back = rw (zf, zl, za) at inv.came in
+    let i = back S start h k me names size st e l a in
+    let more = some_left next c.args.last (rw zl at inv.ordered) in
+    let block = c.args.block.now in
+    let own = S.block_names block.at in
+    let some : 0 < c.turns.self.left = omega (arith, c.if-self-eq0.false) in
+    let t = opens block c.turns.room c.start_block.new.room _ next (c.args.last +ℤ pos 1) (Int c.args.answer) (moved _ _ inv.base inv.room l) c.start_block.ensures.room (takes_is c.is_empty-takes.result block.params c.is_empty-takes.ensures) more some c.start_block.ensures.below c.start_block.ensures.within i in
+    let within = deeper S block (moved _ _ inv.base (c.start_block.ensures.room ∙ inv.room) l) in
+    let f = rw (inv.context, c.as_slice.ensures) at c.body-came.ensures.came in
+    let later = Counting (next +ℤ pos 1) (c.args.last +ℤ pos 1) (Int c.args.answer) in
+    let come = f S start h (Turn later (erase_block block) (length names) ∷ k) me (names ++ own) size st e within t in
+    let long : length names ≤ length c.body-came.new.room = omega (arith, l.within, l.below, l.room, c.body-came.ensures.room, c.start_block.ensures.room, inv.room) in
+    let stop = sym c.goes_on.ensures ∙ c.if-not-goes_on.true in
+    rw (c.out_of_loop.ensures stop) (closes_out S _ start h _ _ later (erase_block block) k me names own _ _ _ long stop come)
+
+pub turns-returns-then-next-last-clause-kept : goal.turns-returns-then-next-last-clause-kept
+turns-returns-then-next-last-clause-kept g m c = λ S names size st e l i p q.
+    let inv = c.turns.invariant in
+    let within = deeper S c.args.block.now (moved _ _ inv.base (c.start_block.ensures.room ∙ inv.room) l) in
+    let edge = ends_within S c.args.block.now l in
+    let f = rw (inv.context, c.as_slice.ensures) at c.body-came.ensures.kept in
+    f S (names ++ S.block_names c.args.block.now.at) size st e within i p (omega (arith, q, inv.base)) ∙ (c.start_block.ensures.above i (omega (arith, p, edge)) ∙ inv.kept S names size st e l i p q)
+
+pub turns-returns-then-next-last-clause-came : goal.turns-returns-then-next-last-clause-came
+turns-returns-then-next-last-clause-came g m c = λ S start h k me names size st e l a.
+    let inv = c.turns.invariant in
+    let zf : to_z w64 (of_z w64 c.args.first) ≡ c.args.first = to_z-of_z w64 c.args.first c.ranges.first in
+    let zl : to_z w64 (of_z w64 c.args.last) ≡ c.args.last = to_z-of_z w64 c.args.last c.ranges.last in
+    let za : to_z w64 (of_z w64 c.args.answer) ≡ c.args.answer = to_z-of_z w64 c.args.answer c.ranges.answer in
+    let next = to_z w64 c.turns.next-bits in
+    let back = rw (zf, zl, za) at inv.came in
+    let i = back S start h k me names size st e l a in
+    let more = some_left next c.args.last (rw zl at inv.ordered) in
+    let block = c.args.block.now in
+    let own = S.block_names block.at in
+    let some : 0 < c.turns.self.left = omega (arith, c.if-self-eq0.false) in
+    let t = opens block c.turns.room c.start_block.new.room _ next (c.args.last +ℤ pos 1) (Int c.args.answer) (moved _ _ inv.base inv.room l) c.start_block.ensures.room (takes_is c.is_empty-takes.result block.params c.is_empty-takes.ensures) more some c.start_block.ensures.below c.start_block.ensures.within i in
+    let within = deeper S block (moved _ _ inv.base (c.start_block.ensures.room ∙ inv.room) l) in
+    let f = rw (inv.context, c.as_slice.ensures) at c.body-came.ensures.came in
+    let later = Counting (next +ℤ pos 1) (c.args.last +ℤ pos 1) (Int c.args.answer) in
+    let come = f S start h (Turn later (erase_block block) (length names) ∷ k) me (names ++ own) size st e within t in
+    let long : length names ≤ length c.body-came.new.room = omega (arith, l.within, l.below, l.room, c.body-came.ensures.room, c.start_block.ensures.room, inv.room) in
+    let more_on = sym c.goes_on.ensures ∙ c.if-not-goes_on.false in
+    let test = rw zl at c.if-next-last.true in
+    let past : c.args.last ≤ℤ next = grind (arith, ints) in
+    rw za (turns_end (last_done next c.args.last past) (closes S _ start h _ _ later (erase_block block) k me names own _ _ _ long more_on come))
+
+pub turns-turns-preserved : goal.turns-turns-preserved
+turns-turns-preserved g m c =
+    let old = c.turns.invariant in
+    let y = c.body-came.ensures in
+    let next = to_z w64 c.turns.next-bits in
+    let top = c.ranges.last.sfits in
+    let zl : to_z w64 (of_z w64 c.args.last) ≡ c.args.last = to_z-of_z w64 c.args.last c.ranges.last in
+    let lt = rw zl at c.if-next-last.false in
+    let zn : to_z w64 (of_z w64 (next +ℤ pos 1)) ≡ next +ℤ pos 1 = omega (arith, ints) in
+    let ordered : (next +ℤ pos 1) ≤ℤ c.args.last = grind (arith, ints) in
+    record {
+      base = y.base ∙ old.base;
+      context = y.context ∙ old.context;
+      room = y.room ∙ (c.start_block.ensures.room ∙ old.room);
+      less = omega (arith, y.less, old.less);
+      unended = y.unended;
+      ordered = rw (zn, zl) ordered;
+      within = omega (arith, old.within, y.room, c.start_block.ensures.room);
+      kept = λ S names size st e l i p q.
+    let inv = c.turns.invariant in
+    let within = deeper S c.args.block.now (moved _ _ inv.base (c.start_block.ensures.room ∙ inv.room) l) in
+    let edge = ends_within S c.args.block.now l in
+    let f = rw (inv.context, c.as_slice.ensures) at c.body-came.ensures.kept in
+    f S (names ++ S.block_names c.args.block.now.at) size st e within i p (omega (arith, q, inv.base)) ∙ (c.start_block.ensures.above i (omega (arith, p, edge)) ∙ inv.kept S names size st e l i p q);
+      came = λ S start h k me names size st e l a.
+    let inv = c.turns.invariant in
+    let next = to_z w64 c.turns.next-bits in
+    let last = to_z w64 (of_z w64 c.args.last) in
+    let answer = to_z w64 (of_z w64 c.args.answer) in
+    let i = inv.came S start h k me names size st e l a in
+    let more = some_left next last inv.ordered in
+    let block = c.args.block.now in
+    let own = S.block_names block.at in
+    let some : 0 < c.turns.self.left = omega (arith, c.if-self-eq0.false) in
+    let t = opens block c.turns.room c.start_block.new.room _ next (last +ℤ pos 1) (Int answer) (moved _ _ inv.base inv.room l) c.start_block.ensures.room (takes_is c.is_empty-takes.result block.params c.is_empty-takes.ensures) more some c.start_block.ensures.below c.start_block.ensures.within i in
+    let within = deeper S block (moved _ _ inv.base (c.start_block.ensures.room ∙ inv.room) l) in
+    let f = rw (inv.context, c.as_slice.ensures) at c.body-came.ensures.came in
+    let later = Counting (next +ℤ pos 1) (last +ℤ pos 1) (Int answer) in
+    let come = f S start h (Turn later (erase_block block) (length names) ∷ k) me (names ++ own) size st e within t in
+    let long : length names ≤ length c.body-came.new.room = omega (arith, l.within, l.below, l.room, c.body-came.ensures.room, c.start_block.ensures.room, inv.room) in
+    let more_on = sym c.goes_on.ensures ∙ c.if-not-goes_on.false in
+    rw zn (closes S _ start h _ _ later (erase_block block) k me names own _ _ _ long more_on come);
+    }
+
+pub function-returns-in_default-clause-came : goal.function-returns-in_default-clause-came
+function-returns-in_default-clause-came g m c = λ name S start h k me names size st e l a.
+    let o = c.over.ensures in
+    rw (o.left, o.store) (cut S _ start h _ _ k _ _ _ _ o.gives a refl)
+
+pub function-returns-then-room-before-clause-came : goal.function-returns-then-room-before-clause-came
+function-returns-then-room-before-clause-came g m c = λ name S start h k me names size st e l a.
+    let o = c.over-then-room-before.ensures in
+    rw (o.left, o.store) (cut S _ start h _ _ k _ _ _ _ o.gives a refl)
+
+pub function-returns-then-is_left-clause-kept : goal.function-returns-then-is_left-clause-kept
+function-returns-then-is_left-clause-kept g m c = λ name S names size st e l i p q.
+    let under = sub (every (map (fits S) c.args.args.now)) l (snd _ _ l.fits) in
+    c.arguments-came.ensures.kept S names size st e under i p q
+
+pub function-returns-then-is_left-clause-came : goal.function-returns-then-is_left-clause-came
+function-returns-then-is_left-clause-came g m c = λ name S start h k me names size st e l a.
+    let under = sub (every (map (fits S) c.args.args.now)) l (snd _ _ l.fits) in
+    let y = c.arguments-came in
+    let both = y.ensures.came (ByName name) c.args.at S start h k me names size st e under a in
+    both.0 (sym c.is_left.ensures ∙ c.if-is_left.true)
+
+pub function-returns-then-args-len-clause-came : goal.function-returns-then-args-len-clause-came
+function-returns-then-args-len-clause-came g m c = λ name S start h k me names size st e l a.
+    let under = sub (every (map (fits S) c.args.args.now)) l (snd _ _ l.fits) in
+    let y = c.arguments-came in
+    let both = y.ensures.came (ByName name) c.args.at S start h k me names size st e under a in
+    let none = sym c.is_left.ensures ∙ c.if-is_left.false in
+    let count = length c.args.args.now in
+    let before = c.args.self.now.base in
+    let there = y.new.room in
+    let m = c.in-Some.method.now in
+    let script = c.args.self.now.context.script.now in
+    let is = fst _ _ l.fits in
+    let found = sym c.in-Some.ensures.value in
+    let end = y.ensures.base none in
+    let edge = y.ensures.fits l.room in
+    let long : before + count ≤ length there = omega (arith, end, edge) in
+    let o = c.raise.ensures in
+    let other : count ≡ length m.params → ⊥ = λ z. omega (arith, z, c.if-args-len.true, c.len.ensures) in
+    rw (o.gives, o.left, o.store) (other_count script c.args.number name m count before there c.args.at st is found other long (both.1 none))
+
+pub function-returns-clause-kept : goal.function-returns-clause-kept
+function-returns-clause-kept g m c = λ name S names size st e l i p q.
+    let under = sub (every (map (fits S) c.args.args.now)) l (snd _ _ l.fits) in
+    let y = c.arguments-came in
+    let split = c.split_at_mut-frame.ensures in
+    let short : c.args.self.now.base ≤ length y.new.room = omega (arith, y.ensures.room, l.room) in
+    ap (λ xs. slice_get (xs ++ c.body-came.new.room) i) split.front ∙ (front y.new.room c.body-came.new.room c.args.self.now.base i short q ∙ y.ensures.kept S names size st e under i p q)
+
+pub function-returns-clause-came : goal.function-returns-clause-came
+function-returns-clause-came g m c = λ name S start h k me names size st e l a.
+    let under = sub (every (map (fits S) c.args.args.now)) l (snd _ _ l.fits) in
+    let y = c.arguments-came in
+    let both = y.ensures.came (ByName name) c.args.at S start h k me names size st e under a in
+    let none = sym c.is_left.ensures ∙ c.if-is_left.false in
+    let count = length c.args.args.now in
+    let before = c.args.self.now.base in
+    let there = y.new.room in
+    let m = c.in-Some.method.now in
+    let script = c.args.self.now.context.script.now in
+    let is = fst _ _ l.fits in
+    let found = sym c.in-Some.ensures.value in
+    let end = y.ensures.base none in
+    let edge = y.ensures.fits l.room in
+    let long : before + count ≤ length there = omega (arith, end, edge) in
+    let split = c.split_at_mut-frame.ensures in
+    let frame = c.clear.new.room in
+    let counts : count ≡ length m.params = omega (arith, c.if-args-len.false, c.len.ensures) in
+    let f = enters script c.args.number name m count before there frame c.args.at st is found counts long (λ i q. c.clear.ensures.below i q ∙ ap (λ xs. slice_get xs i) split.back) c.clear.ensures.within (both.1 none) in
+    let sizes : m.size ≤ length frame = omega (arith, c.clear.ensures.room, split.back_len, y.ensures.room, c.if-room-before.false, c.if-room-before-2.false) in
+    let inside = frame_lies S script c.args.number m (length frame) st found sizes in
+    let g1 = rw (y.ensures.context, c.as_slice.ensures) at c.body-came.ensures.came in
+    let done = g1 S start h (Frame (scope_of me names there) ∷ k) Nil (S.method_names (erase_method m)) m.size st e inside f in
+    let out = called S _ start h _ _ (scope_of me names there) k _ _ _ done in
+    let scope : bound names (map plain (c.split_at_mut-frame.result.0.now ++ c.body-came.new.room)) ≡ bound names (map plain there) = ap (λ xs. bound names (map plain (xs ++ c.body-came.new.room))) split.front ∙ frame_back names there c.body-came.new.room before (omega (arith, l.within, l.below)) (omega (arith, long)) in
+    let o = c.out_of_call.ensures in
+    rw (o.gives, o.left, o.store, scope) out
+
+pub send_block-returns-then-is_left-clause-kept : goal.send_block-returns-then-is_left-clause-kept
+send_block-returns-then-is_left-clause-kept g m c = λ name S names size st e l i p q.
+    let w = c.walk-came in
+    let right = snd _ _ l.fits in
+    let first = sub (fits S c.args.receiver.now) l (fst _ _ right) in
+    w.ensures.kept S names size st e first i p q
+
+pub send_block-returns-then-is_left-clause-came : goal.send_block-returns-then-is_left-clause-came
+send_block-returns-then-is_left-clause-came g m c = λ name S start h k me names size st e l a.
+    let w = c.walk-came in
+    let right = snd _ _ l.fits in
+    let first = sub (fits S c.args.receiver.now) l (fst _ _ right) in
+    let step = ReceiverOf (text_of S name) (map erase c.args.args.now) (Some (erase_block c.args.block.now)) c.args.at in
+    let come = w.ensures.came S start h (Then step ∷ k) me names size st e first a in
+    passes S _ start h w.result w.new.self.value w.new.self.leave _ step k _ _ _ (sym c.is_left.ensures ∙ c.if-is_left.true) come
+
+pub send_block-returns-then-is_left-2-clause-kept : goal.send_block-returns-then-is_left-2-clause-kept
+send_block-returns-then-is_left-2-clause-kept g m c = λ name S names size st e l i p q.
+    let w = c.walk-came in
+    let right = snd _ _ l.fits in
+    let first = sub (fits S c.args.receiver.now) l (fst _ _ right) in
+    let t = c.take-receiver.ensures in
+    let y = c.arguments-came in
+    let under = moved _ _ w.ensures.base w.ensures.room (sub (every (map (fits S) c.args.args.now)) l (fst _ _ (snd _ _ right))) in
+    let f = rw (t.context, t.base, w.ensures.context) at y.ensures.kept in
+    let stays = f S names size st e under i p (omega (arith, q, w.ensures.base)) ∙ w.ensures.kept S names size st e first i p q in
+    stays
+
+pub send_block-returns-then-is_left-2-clause-came : goal.send_block-returns-then-is_left-2-clause-came
+send_block-returns-then-is_left-2-clause-came g m c = λ name S start h k me names size st e l a.
+    let w = c.walk-came in
+    let right = snd _ _ l.fits in
+    let first = sub (fits S c.args.receiver.now) l (fst _ _ right) in
+    let step = ReceiverOf (text_of S name) (map erase c.args.args.now) (Some (erase_block c.args.block.now)) c.args.at in
+    let come = w.ensures.came S start h (Then step ∷ k) me names size st e first a in
+    let t = c.take-receiver.ensures in
+    let y = c.arguments-came in
+    let under = moved _ _ w.ensures.base w.ensures.room (sub (every (map (fits S) c.args.args.now)) l (fst _ _ (snd _ _ right))) in
+    let none = sym c.is_left.ensures ∙ c.if-is_left.false in
+    let v = value_of w.result w.new.self.value in
+    let f = rw (t.context, t.base, t.left, t.store, w.ensures.context) at y.ensures.came in
+    let ends = f (OnReceiver v (text_of S name) (Some (erase_block c.args.block.now))) c.args.at S start h k me names size st e under (on _ (given w.result w.new.self.value w.new.self.leave none come) refl) in
+    ends.0 (sym c.is_left-2.ensures ∙ c.if-is_left-2.true)
+
+pub send_block-returns-in-Ok-clause-kept : goal.send_block-returns-in-Ok-clause-kept
+send_block-returns-in-Ok-clause-kept g m c = λ name S names size st e l i p q.
+    let w = c.walk-came in
+    let right = snd _ _ l.fits in
+    let first = sub (fits S c.args.receiver.now) l (fst _ _ right) in
+    let t = c.take-receiver.ensures in
+    let y = c.arguments-came in
+    let under = moved _ _ w.ensures.base w.ensures.room (sub (every (map (fits S) c.args.args.now)) l (fst _ _ (snd _ _ right))) in
+    let f = rw (t.context, t.base, w.ensures.context) at y.ensures.kept in
+    let stays = f S names size st e under i p (omega (arith, q, w.ensures.base)) ∙ w.ensures.kept S names size st e first i p q in
+    let o = c.in-Ok.ensures in
+    let base : c.rounds.new.self.base ≡ c.args.self.now.base = o.base ∙ (t.base ∙ w.ensures.base) in
+    let inside = moved _ _ base (y.ensures.room ∙ w.ensures.room) (sub (block_fits S c.args.block.now) l (snd _ _ (snd _ _ right))) in
+    let u = rw (o.context, y.ensures.context, t.context, w.ensures.context) at c.turns.ensures.kept in
+    u S names size st e inside i p (omega (arith, q, base)) ∙ stays
+
+pub send_block-returns-in-Ok-clause-came : goal.send_block-returns-in-Ok-clause-came
+send_block-returns-in-Ok-clause-came g m c = λ name S start h k me names size st e l a.
+    let w = c.walk-came in
+    let right = snd _ _ l.fits in
+    let first = sub (fits S c.args.receiver.now) l (fst _ _ right) in
+    let step = ReceiverOf (text_of S name) (map erase c.args.args.now) (Some (erase_block c.args.block.now)) c.args.at in
+    let come = w.ensures.came S start h (Then step ∷ k) me names size st e first a in
+    let t = c.take-receiver.ensures in
+    let y = c.arguments-came in
+    let under = moved _ _ w.ensures.base w.ensures.room (sub (every (map (fits S) c.args.args.now)) l (fst _ _ (snd _ _ right))) in
+    let none = sym c.is_left.ensures ∙ c.if-is_left.false in
+    let v = value_of w.result w.new.self.value in
+    let f = rw (t.context, t.base, t.left, t.store, w.ensures.context) at y.ensures.came in
+    let ends = f (OnReceiver v (text_of S name) (Some (erase_block c.args.block.now))) c.args.at S start h k me names size st e under (on _ (given w.result w.new.self.value w.new.self.leave none come) refl) in
+    let at_end = ends.1 (sym c.is_left-2.ensures ∙ c.if-is_left-2.false) in
+    let short : w.new.self.base ≤ length w.new.room = omega (arith, w.ensures.base, w.ensures.room, l.room) in
+    let from = rw t.base at y.ensures.fits in
+    let end = rw t.base at y.ensures.base in
+    let edge = from short in
+    let last = end (sym c.is_left-2.ensures ∙ c.if-is_left-2.false) in
+    let passed = rw t.base at c.passed-args.ensures in
+    let long : w.new.self.base + length c.args.args.now ≤ length y.new.room = omega (arith, edge, last) in
+    let values = passed long in
+    let number = same_is (builtin_of (text_of S name)) c.args.method (fst _ _ l.fits) in
+    let args = map plain (take (length c.args.args.now) (drop w.new.self.base y.new.room)) in
+    let answer = deed c.args.self.now.context.names.now v (text_of S name) args (Some (length c.args.block.now.params)) in
+    let table = answers_block c.args.block.now v (text_of S name) args c.args.at answer st.classes (ap (λ (ns : List (List ℕ)). deed ns v (text_of S name) args (Some (length c.args.block.now.params))) (sym e)) at_end in
+    let o = c.in-Ok.ensures in
+    let base : c.rounds.new.self.base ≡ c.args.self.now.base = o.base ∙ (t.base ∙ w.ensures.base) in
+    let inside = moved _ _ base (y.ensures.room ∙ w.ensures.room) (sub (block_fits S c.args.block.now) l (snd _ _ (snd _ _ right))) in
+    let r = c.in-Ok.rounds in
+    let z1 : to_z w64 (of_z w64 c.in-Ok.rounds.first) ≡ c.in-Ok.rounds.first = search rules in
+    let z2 : to_z w64 (of_z w64 c.in-Ok.rounds.last) ≡ c.in-Ok.rounds.last = search rules in
+    let z3 : to_z w64 (of_z w64 c.in-Ok.rounds.answer) ≡ c.in-Ok.rounds.answer = search rules in
+    let said = rw (y.ensures.context, t.context, w.ensures.context, t.value, values, c.len.ensures) at o.rounds in
+    let turning = block_turns S _ start h _ answer (Counting c.in-Ok.rounds.first (c.in-Ok.rounds.last +ℤ pos 1) (Int c.in-Ok.rounds.answer)) (erase_block c.args.block.now) c.args.at k _ _ _ (said (text_of S name) number) table in
+    let u = rw (z1, z2, z3, o.context, o.left, o.store, y.ensures.context, t.context, w.ensures.context) at c.turns.ensures.came in
+    u S start h k me names size st e inside turning
+
+pub send_block-returns-clause-kept : goal.send_block-returns-clause-kept
+send_block-returns-clause-kept g m c = λ name S names size st e l i p q.
+    let w = c.walk-came in
+    let right = snd _ _ l.fits in
+    let first = sub (fits S c.args.receiver.now) l (fst _ _ right) in
+    let t = c.take-receiver.ensures in
+    let y = c.arguments-came in
+    let under = moved _ _ w.ensures.base w.ensures.room (sub (every (map (fits S) c.args.args.now)) l (fst _ _ (snd _ _ right))) in
+    let f = rw (t.context, t.base, w.ensures.context) at y.ensures.kept in
+    let stays = f S names size st e under i p (omega (arith, q, w.ensures.base)) ∙ w.ensures.kept S names size st e first i p q in
+    stays
+
+pub send_block-returns-clause-came : goal.send_block-returns-clause-came
+send_block-returns-clause-came g m c = λ name S start h k me names size st e l a.
+    let w = c.walk-came in
+    let right = snd _ _ l.fits in
+    let first = sub (fits S c.args.receiver.now) l (fst _ _ right) in
+    let step = ReceiverOf (text_of S name) (map erase c.args.args.now) (Some (erase_block c.args.block.now)) c.args.at in
+    let come = w.ensures.came S start h (Then step ∷ k) me names size st e first a in
+    let t = c.take-receiver.ensures in
+    let y = c.arguments-came in
+    let under = moved _ _ w.ensures.base w.ensures.room (sub (every (map (fits S) c.args.args.now)) l (fst _ _ (snd _ _ right))) in
+    let none = sym c.is_left.ensures ∙ c.if-is_left.false in
+    let v = value_of w.result w.new.self.value in
+    let f = rw (t.context, t.base, t.left, t.store, w.ensures.context) at y.ensures.came in
+    let ends = f (OnReceiver v (text_of S name) (Some (erase_block c.args.block.now))) c.args.at S start h k me names size st e under (on _ (given w.result w.new.self.value w.new.self.leave none come) refl) in
+    let at_end = ends.1 (sym c.is_left-2.ensures ∙ c.if-is_left-2.false) in
+    let short : w.new.self.base ≤ length w.new.room = omega (arith, w.ensures.base, w.ensures.room, l.room) in
+    let from = rw t.base at y.ensures.fits in
+    let end = rw t.base at y.ensures.base in
+    let edge = from short in
+    let last = end (sym c.is_left-2.ensures ∙ c.if-is_left-2.false) in
+    let passed = rw t.base at c.passed-args.ensures in
+    let long : w.new.self.base + length c.args.args.now ≤ length y.new.room = omega (arith, edge, last) in
+    let values = passed long in
+    let number = same_is (builtin_of (text_of S name)) c.args.method (fst _ _ l.fits) in
+    let args = map plain (take (length c.args.args.now) (drop w.new.self.base y.new.room)) in
+    let answer = deed c.args.self.now.context.names.now v (text_of S name) args (Some (length c.args.block.now.params)) in
+    let table = answers_block c.args.block.now v (text_of S name) args c.args.at answer st.classes (ap (λ (ns : List (List ℕ)). deed ns v (text_of S name) args (Some (length c.args.block.now.params))) (sym e)) at_end in
+    let g1 = rw (y.ensures.context, t.context, w.ensures.context, t.value, values, c.len.ensures) at c.in-Err.ensures.gives in
+    let o = c.rounds.ensures in
+    rw (o.left, o.store) (g1 (text_of S name) S start h (erase_block c.args.block.now) k (scope_of me names y.new.room) c.args.depth number table)
+
+pub begin-returns-in-Walk-clause-kept : goal.begin-returns-in-Walk-clause-kept
+begin-returns-in-Walk-clause-kept g m c = λ S names size st e l i p q.
+    let x = c.in-Walk in
+    let s = sym (ap (λ d. fits S d names size) x.is ∙ fits-walk S names size x.method x.field-1 x.receiver x.args x.block x.at) ∙ l.fits in
+    let under = sub _ l (rw (c.get-in-Walk.ensures, c.as_slice-in-Walk.ensures, c.get-in-Walk-2.ensures) s) in
+    c.send_block.ensures.kept x.field-1 S names size st e under i p q
+
+pub begin-returns-in-Walk-clause-came : goal.begin-returns-in-Walk-clause-came
+begin-returns-in-Walk-clause-came g m c = λ S start h k me names size st e l a.
+    let x = c.in-Walk in
+    let s = sym (ap (λ d. fits S d names size) x.is ∙ fits-walk S names size x.method x.field-1 x.receiver x.args x.block x.at) ∙ l.fits in
+    let under = sub _ l (rw (c.get-in-Walk.ensures, c.as_slice-in-Walk.ensures, c.get-in-Walk-2.ensures) s) in
+    c.send_block.ensures.came x.field-1 S start h k me names size st e under (rw (c.get-in-Walk.ensures, c.as_slice-in-Walk.ensures, c.get-in-Walk-2.ensures) (begins _ _ k _ _ _ (shows-walk c.args.code.now x.method x.field-1 x.receiver x.args x.block x.at x.is) a))
+
+pub begin-returns-in-Function-clause-kept : goal.begin-returns-in-Function-clause-kept
+begin-returns-in-Function-clause-kept g m c = λ S names size st e l i p q.
+    let x = c.in-Function in
+    let s = sym (ap (λ d. fits S d names size) x.is ∙ fits-function S names size x.number x.field-1 x.args x.at) ∙ l.fits in
+    let under = sub _ l (rw c.as_slice-in-Function.ensures s) in
+    c.function.ensures.kept x.field-1 S names size st e under i p q
+
+pub begin-returns-in-Function-clause-came : goal.begin-returns-in-Function-clause-came
+begin-returns-in-Function-clause-came g m c = λ S start h k me names size st e l a.
+    let x = c.in-Function in
+    let s = sym (ap (λ d. fits S d names size) x.is ∙ fits-function S names size x.number x.field-1 x.args x.at) ∙ l.fits in
+    let under = sub _ l (rw c.as_slice-in-Function.ensures s) in
+    c.function.ensures.came x.field-1 S start h k me names size st e under (rw c.as_slice-in-Function.ensures (begins _ _ k _ _ _ (shows-function c.args.code.now x.number x.field-1 x.args x.at x.is) a))

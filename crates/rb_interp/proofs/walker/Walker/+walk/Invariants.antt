@@ -1,5 +1,5 @@
 use Rattle.std.proofs.Common.{take, ◌≡◌, ◌≤◌, ◌+◌, ◌-◌, ◌*◌, ℕ, List, [], ◌∷◌, drop, map, length, false}
-use Rattle.std.specs.Prelude.{ℤ, pos, ◌+ℤ◌, OnOk}
+use Rattle.std.specs.Prelude.{ℤ, pos, ◌+ℤ◌, OnOk, ◌≤ℤ◌}
 use Rattle.rb_tree.specs.declared.span.Span.{Span}
 use Rattle.rb_model.specs.Values.{Value as Val, Nil, Int, plain}
 use Rattle.rb_model.specs.Log.{has_end}
@@ -126,6 +126,8 @@ invariant-turns-turns g l =
       room : length l.room ≡ length l.fn.room;
       less : l.self.left ≤ l.fn.self.left;
       unended : has_end (g.O.OneStore.log l.self.store).entries ≡ false;
+      ordered : l.next ≤ℤ l.last;
+      within : l.from + l.count ≤ length l.room;
       kept : Keeps l.fn.self.context.script.now l.fn.self.context.names.now (λ S. block_fits S l.block) l.fn.self.base l.fn.room l.room;
       came : Reaches l.fn.self.context.script.now l.fn.self.context.names.now l.fn.self.context.steps (λ S. block_fits S l.block) (λ S k sc d n. On (Turning (Counting l.fn.first (l.last +ℤ pos 1) (Int l.answer)) (erase_block l.block)) k sc d n) (λ S k sc d n. On (Turning (Counting l.next (l.last +ℤ pos 1) (Int l.answer)) (erase_block l.block)) k sc d n) l.fn.self.base l.depth l.fn.self.left l.self.left l.fn.room l.room (g.O.OneStore.log l.fn.self.store) (g.O.OneStore.log l.self.store);
     }
