@@ -72,7 +72,7 @@ module _ (S : Script) (N : ℕ) (start : State) (h : Private) where
   -- an outcome, or a cut by memory at a state with as many steps left
   pub or_memory : (l : Log) (k : List Cont) (sc : Scope) (d n : ℕ) (wanted o : Outcome) (s : State) → OrMemory wanted o → At S 0 N start l h s → left_in s ≡ n → Came S N start l h wanted k sc d n → Came S N start l h o k sc d n
   or_memory l k sc d n wanted o s (inl e) a q c = subst (λ o. Came S N start l h o k sc d n) (sym e) c
-  or_memory l k sc d n wanted o s (inr e) a q c = subst (λ o. Came S N start l h o k sc d n) (sym e) (s , a , q)
+  or_memory l k sc d n wanted o s (inr e) a q c = subst (λ o. Came S N start l h o k sc d n) (sym e) (s, a, q)
 
   -- a call of a method of a value without a block comes out so
   pub calls : (l : Log) (v : Val) (name : Text) (args : List Val) (at : Span) (k : List Cont) (sc : Scope) (d n : ℕ) (o : Outcome) → S.program.classes ≡ []

@@ -113,4 +113,4 @@ main_fits c S h =
     let own = nat_le (length S.main_names) c.main_size in
     let body = every (map (fits S) c.main) S.main_names c.main_size in
     let rest = snd (list_all (method_fits S) c.functions) (own && body) h in
-    (le_test (length S.main_names) c.main_size (fst own body rest) , snd own body rest)
+    (le_test (length S.main_names) c.main_size (fst own body rest), snd own body rest)

@@ -39,11 +39,11 @@ pub quick_if : (method : Option Builtin) (left right : Code) (room : List Held) 
     → IfSome o (λ answer. (texts : List (List ℕ)) (name : List ℕ) → builtin_of name ≡ method → deed texts (Int m) name (Int n ∷ []) None ≡ answer_of answer)
     → IfSome o (λ answer. IsQuick method left right room (answer_of answer))
 quick_if method left right room None m n l r h = h
-quick_if method left right room (Some answer) m n l r h = (m , n , l , r , h)
+quick_if method left right room (Some answer) m n l r h = (m, n, l, r, h)
 
 -- and over a value that came and a leaf
 pub quick_right_if : (method : Option Builtin) (left : Registers) (right : Code) (room : List Held) (o : Option IntegerAnswer) (m n : ℤ) → left ≡ came.Int m → IsSmall right room n
     → IfSome o (λ answer. (texts : List (List ℕ)) (name : List ℕ) → builtin_of name ≡ method → deed texts (Int m) name (Int n ∷ []) None ≡ answer_of answer)
     → IfSome o (λ answer. IsQuickRight method left right room (answer_of answer))
 quick_right_if method left right room None m n e r h = h
-quick_right_if method left right room (Some answer) m n e r h = (m , n , e , r , h)
+quick_right_if method left right room (Some answer) m n e r h = (m, n, e, r, h)

@@ -130,7 +130,7 @@ front (x ∷ xs) ys (suc n) (suc i) h q = front xs ys n i (omega (arith, h)) (om
 -- an item that there is
 pub there : {A : Type 0} (xs : List A) (i : ℕ) → i < length xs → (x : A) × (slice_get xs i ≡ Some x)
 there [] i h = absurd (omega (arith, h))
-there (x ∷ xs) zero h = (x , refl)
+there (x ∷ xs) zero h = (x, refl)
 there (x ∷ xs) (suc i) h = there xs i (omega (arith, h))
 
 pub two : (a b : Bool) → a ≡ true → b ≡ true → (a && b) ≡ true

@@ -80,7 +80,7 @@ module _ (S : Script) where
       ∙ (ap (λ text. print S text values at k sc d n) ((bytes_eq-Decides (text_of S name) (form_text form)).0 t) ∙ by_text form values at k sc d n h))
 
 all_four : (a b c d : Bool) → (a && (b && (c && d))) ≡ true → (a ≡ true) × (b ≡ true) × (c ≡ true) × (d ≡ true)
-all_four true true true d h = (refl , refl , refl , h)
+all_four true true true d h = (refl, refl, refl, h)
 all_four true true false d h = absurd (cc)
 all_four true false c d h = absurd (cc)
 all_four false b c d h = absurd (cc)

@@ -56,7 +56,7 @@ module _ {S : Script} {N : ℕ} {start : State} {h : Private} where
   assigned {k = k} {d = d} {n = n} name step names slot old new v me o is p s (wrote w e f) a =
       let q : bound names (map plain new) ≡ assign name v (bound names (map plain old)) = ap (λ r. bound names (map plain r)) f ∙ (write_room name names old slot w p s ∙ ap (λ u. assign name u (bound names (map plain old))) e) in
       same (given_to name step is a) (ap (λ ls. On (Give v) k (record { me = me; locals = ls }) d n) (sym q))
-  assigned {k = k} {d = d} {n = n} name step names slot old new v me o is p s (wanted f) a = (On (Give v) (Then step ∷ k) (scope_of me names old) d n , a , refl)
+  assigned {k = k} {d = d} {n = n} name step names slot old new v me o is p s (wanted f) a = (On (Give v) (Then step ∷ k) (scope_of me names old) d n, a, refl)
 
 -- other slots stay
 pub kept_write : (slot i : ℕ) (v : Val) (old new : List Held) (o : Outcome) → (i ≡ slot → ⊥) → Writes slot v old new o → slice_get new i ≡ slice_get old i

@@ -1,7 +1,11 @@
 //! The walk of one thread over the resolved tree, step by step that of the reference machine.
 #![tactic(auto)]
 
+mod bytes;
 mod came;
+mod ending;
+mod leaf;
+mod rounds;
 mod slots;
 mod walker;
 

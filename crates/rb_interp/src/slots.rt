@@ -1,11 +1,10 @@
 // Slots of a frame.
 
-ghost use Rattle.std.specs.Prelude.{◌≡◌, ◌≤◌, ◌<◌, ◌+◌, ℕ, Some, length, slice_get, OnOk, IfOk};
+ghost use Rattle.std.specs.Prelude.{◌≡◌, ◌≤◌, ◌<◌, ◌+◌, ℕ, Some, length, take, drop, slice_get};
 ghost use Rattle.rb_model.specs.declared.value.Value.TheVariants as held;
 ghost use Rattle.rb_interp.specs.Slots.{first_of_block};
 
 use rb_model::Value;
-use std::alloc::AllocError;
 
 /// Sets slots to nil.
 pub(crate) fn clear(room: &mut [Value], from: usize, to: usize)
@@ -32,4 +31,14 @@ pub(crate) fn start_block(room: &mut [Value], from: usize, count: usize, takes: 
     if takes && count > 0 {
         room[from] = Value::Int(first);
     }
+}
+
+/// The values of arguments, which lie behind a frame; none where the row is too short for them.
+pub(crate) fn passed(room: &[Value], from: usize, count: usize) -> &[Value]
+    ensures { from + count ≤ length room.now → result.now ≡ take count (drop from room.now) }
+{
+    if room.len() < from || room.len() - from < count {
+        return &room[0..0];
+    }
+    &room[from..from + count]
 }

@@ -1,16 +1,15 @@
 // The walk.
 
-ghost use Rattle.std.specs.Prelude.{◌≡◌, ◌≤◌, ◌<◌, ◌+◌, ◌+ℤ◌, pos, ℕ, true, false, List, [], ◌∷◌, ◌++◌, length, map, take, drop, slice_get, Some, None, IfSome, IfOk, IfErr, OnOk};
+ghost use Rattle.std.specs.Prelude.{◌≡◌, ◌≤◌, ◌<◌, ◌+◌, ◌+ℤ◌, pos, ℕ, true, false, List, [], ◌∷◌, ◌++◌, length, map, take, slice_get, Some, None, IfOk, IfErr};
 ghost use Rattle.std.specs.Option.{option_map};
 ghost use Rattle.rb_tree.specs.declared.node.Node.{Node as Tree, out-Node};
 ghost use Rattle.rb_tree.specs.declared.node.AssignOp.{AssignOp as Op};
 ghost use Rattle.rb_tree.specs.declared.span.NameId.{NameId};
-ghost use Rattle.rb_tree.specs.Place.{place};
 ghost use Rattle.rb_model.specs.Values.{Value as Val, Nil, Int, plain, truthy};
 ghost use Rattle.rb_model.specs.declared.value.Value.{Value as Held};
 ghost use Rattle.rb_model.specs.declared.value.Value.TheVariants as held;
-ghost use Rattle.rb_model.specs.Ends.{End as Ended, Raised, over};
-ghost use Rattle.rb_model.specs.Log.{has_end, asked};
+ghost use Rattle.rb_model.specs.Ends.{Raised, over};
+ghost use Rattle.rb_model.specs.Log.{has_end};
 ghost use Rattle.rb_model.specs.Log as log;
 ghost use Rattle.rb_model.specs.Private.{Private};
 ghost use Rattle.rb_machine.specs.Scopes.{Script, fresh, text_of};
@@ -23,23 +22,25 @@ ghost use Rattle.rb_machine.specs.Call.{read_place};
 ghost use Rattle.rb_machine.specs.Methods.{Loops, deed};
 ghost use Rattle.rb_machine.specs.Texts.{shown};
 ghost use Rattle.rb_builtin.specs.Names.{builtin_of};
-ghost use Rattle.rb_builtin.specs.Deeds.{turns_of};
 ghost use Rattle.rb_builtin.specs.Integers as integers;
 ghost use Rattle.rb_code.specs.Erase.{erase, erase_block, erase_piece};
 ghost use Rattle.rb_code.specs.Resolved.{fits, block_fits, piece_fits, every, if_some, form_takes};
 ghost use Rattle.rb_interp.specs.Outcome.{is_left, value_of, outcome, Gave, Over, Came as Comes};
-ghost use Rattle.rb_interp.specs.Ending.{ending, Closes};
 ghost use Rattle.rb_interp.specs.Carries.{Carries, Keeps, scope_of, Passes, Shows, both, at_slot, numbered, unanswered, unwritten, called, printing, Assigns, goes_on, loop_exit, call_exit};
-ghost use Rattle.rb_interp.specs.Answers.{OrMemory, Writes, Settles, IsDone, outcome_of, IsSmall, IsQuick, IsQuickRight, method_of, shown_value, only_value};
+ghost use Rattle.rb_interp.specs.Answers.{OrMemory, Writes, Settles, outcome_of, shown_value, only_value};
 
+use crate::bytes::{add_bytes, add_value};
 use crate::came::{Came, Leave, is_left};
-use crate::slots::{clear, start_block};
-use rb_builtin::{Builtin, Deed, IntegerAnswer, Loop, deed_of, integer_operation, is_operation};
+use crate::ending::{close, end_of};
+use crate::leaf::{is_true, method_of, operation_on, place_of, quick, quick_right};
+use crate::rounds::{Rounds, count_of, rounds_of};
+use crate::slots::{clear, passed, start_block};
+use rb_builtin::{Builtin, Deed, IntegerAnswer, deed_of};
 use rb_code::{Code, CodeBlock, CodePiece, CodeScript};
 use rb_model::{Answer, Call, End, Fault, OneStore, SharedText, Value};
-use rb_render::{Form, MAX_BYTES, RenderFault, add_shown, render};
+use rb_render::{Form, MAX_BYTES, RenderFault, render};
 use rb_tree::{AssignOp, Boxed, NameId, Names, Span};
-use std::alloc::{AllocError, Global};
+use std::alloc::Global;
 use std::mem;
 
 /// How many nodes may be under evaluation at once.
@@ -68,146 +69,6 @@ struct Walker<'p, O> {
     value: Value,
     /// How a node was left.
     leave: Leave,
-}
-
-/// The iterations of a block: the integers from the first up to the last, and the answer behind them.
-#[derive(Clone, Copy)]
-struct Rounds {
-    first: i64,
-    last: i64,
-    answer: i64,
-}
-
-/// Whether a value is true: only nil and false are not.
-fn is_true(value: &Value) -> bool
-    ensures { result ≡ truthy (plain value.now) }
-{
-    match value {
-        Value::Nil | Value::False => false,
-        _ => true,
-    }
-}
-
-/// Where a node stands.
-fn place_of(code: &Code) -> Span
-    ensures { result ≡ place (out-Node (erase code.now)) }
-{
-    match code {
-        Code::Nil(at) => *at,
-        Code::False(at) => *at,
-        Code::True(at) => *at,
-        Code::Int(_, at) => *at,
-        Code::Sym(_, at) => *at,
-        Code::Str(_, at) => *at,
-        Code::Local(_, _, at) => *at,
-        Code::SetLocal(_, _, _, at) => *at,
-        Code::UpdateLocal(_, _, _, _, at) => *at,
-        Code::UpdateElement(_, _, _, _, at) => *at,
-        Code::UpdateAttribute(_, _, _, _, _, at) => *at,
-        Code::Store(_, _, _, at) => *at,
-        Code::Operate(_, _, _, _, at) => *at,
-        Code::Send(_, _, _, _, at) => *at,
-        Code::Walk(_, _, _, _, _, at) => *at,
-        Code::Function(_, _, _, at) => *at,
-        Code::Print(_, _, _, at) => *at,
-        Code::And(_, _, at) => *at,
-        Code::Or(_, _, at) => *at,
-        Code::Not(_, at) => *at,
-        Code::If(_, _, _, at) => *at,
-        Code::While(_, _, at) => *at,
-        Code::Return(_, at) => *at,
-        Code::Break(at) => *at,
-        Code::Next(at) => *at,
-    }
-}
-
-/// The integer in a slot.
-fn integer_at(room: &[Value], slot: u32) -> Option<i64>
-    ensures { IfSome result (λ n. slice_get room.now slot ≡ Some (held.Int n)) }
-{
-    match room.get(slot as usize)? {
-        Value::Int(n) => Some(*n),
-        _ => None,
-    }
-}
-
-/// An integer that a leaf has.
-fn small(code: &Code, room: &[Value]) -> Option<i64>
-    ensures { IfSome result (λ n. IsSmall code.now room.now n) }
-{
-    match code {
-        Code::Int(n, _) => Some(*n),
-        Code::Local(slot, _, _) => integer_at(room, *slot),
-        _ => None,
-    }
-}
-
-/// What an operation on two integers gives, where this is one.
-fn operation_by(method: Option<Builtin>, m: i64, n: i64) -> Option<IntegerAnswer>
-    ensures { IfSome result (λ answer. (texts : List (List ℕ)) (name : List ℕ) → builtin_of name ≡ method → deed texts (Int m) name (Int n ∷ []) None ≡ integers.answer_of answer) }
-{
-    let method = method?;
-    if !is_operation(method) {
-        return None;
-    }
-    Some(integer_operation(method, m, n))
-}
-
-/// What an operation on two values gives, where they are integers and this is one.
-fn operation_on(method: Option<Builtin>, receiver: &Value, arg: &Value) -> Option<IntegerAnswer>
-    ensures { IfSome result (λ answer. (texts : List (List ℕ)) (name : List ℕ) → builtin_of name ≡ method → deed texts (plain receiver.now) name (plain arg.now ∷ []) None ≡ integers.answer_of answer) }
-{
-    let Value::Int(m) = receiver else {
-        return None;
-    };
-    let Value::Int(n) = arg else {
-        return None;
-    };
-    operation_by(method, *m, *n)
-}
-
-/// What an operation over two leaves gives, where they are integers and this is one.
-fn quick(
-    method: Option<Builtin>,
-    left: &Code,
-    right: &Code,
-    room: &[Value],
-) -> Option<IntegerAnswer>
-    ensures { IfSome result (λ answer. IsQuick method left.now right.now room.now (integers.answer_of answer)) }
-{
-    let m = small(left, room)?;
-    let n = small(right, room)?;
-    operation_by(method, m, n)
-}
-
-/// What an operation over a value that came and a leaf gives, where they are integers and this is one.
-fn quick_right(
-    method: Option<Builtin>,
-    left: Came,
-    right: &Code,
-    room: &[Value],
-) -> Option<IntegerAnswer>
-    ensures { IfSome result (λ answer. IsQuickRight method left right.now room.now (integers.answer_of answer)) }
-{
-    let Came::Int(m) = left else {
-        return None;
-    };
-    let n = small(right, room)?;
-    operation_by(method, m, n)
-}
-
-/// The built-in method of an assignment's operator; none for the two that decide.
-fn method_of(op: AssignOp) -> Option<Builtin>
-    ensures { result ≡ method_of op }
-{
-    match op {
-        AssignOp::Plus => Some(Builtin::Plus),
-        AssignOp::Minus => Some(Builtin::Minus),
-        AssignOp::Times => Some(Builtin::Times),
-        AssignOp::Over => Some(Builtin::Over),
-        AssignOp::Modulo => Some(Builtin::Modulo),
-        AssignOp::OrElse | AssignOp::AndThen => None,
-    }
 }
 
 impl<'p, O: OneStore + Drop> Walker<'p, O> {
@@ -1480,110 +1341,10 @@ pub fn run_main<'p, O: OneStore + Drop>(
     };
     let came = walker.top(room);
     let Walker {
-        store, left, leave, ..
+        store,
+        left,
+        leave,
+        ..
     } = walker;
     close(store, context.steps - left, end_of(came, leave))
-}
-
-/// Makes the end entry of the main thread.
-fn close<O: OneStore + Drop>(mut store: O, step: u64, end: End) -> (O, End)
-    requires unended { has_end (O.log store).entries ≡ false }
-    ensures { Closes step (O.log store) (over end) (O.log result.0) (over result.1) }
-{
-    let call = Call::End(end);
-    match store.call(step, &call) {
-        Answer::Memory => {
-            store.call(step, &Call::End(End::Memory));
-            (store, End::Memory)
-        }
-        Answer::Done => (store, end_in(call)),
-        Answer::SinkFailed => (store, end_in(call)),
-    }
-}
-
-/// The end that is told.
-fn end_in(call: Call) -> End
-    ensures { (e : Ended) → asked call ≡ log.End e → over result ≡ e }
-{
-    match call {
-        Call::End(end) => end,
-        Call::Print(_) => End::Memory,
-    }
-}
-
-/// How the thread ends whose top level came out so.
-fn end_of(came: Came, leave: Leave) -> End
-    ensures { (v : Held) → over result ≡ ending (outcome came v leave) }
-{
-    if !is_left(came) {
-        return End::Value(Value::Nil);
-    }
-    match leave {
-        Leave::Break | Leave::Next | Leave::Return => End::Value(Value::Nil),
-        Leave::Over(end) => end,
-    }
-}
-
-/// The iterations of a loop, or its answer where it makes none.
-fn rounds_of(turns: Loop) -> Result<Rounds, i64>
-    ensures some { IfOk result (λ r. turns_of turns ≡ Counting r.first (r.last +ℤ pos 1) (Int r.answer)) }
-    ensures none { IfErr result (λ n. IsDone n (turns_of turns)) }
-{
-    match turns {
-        Loop::Times(count) => {
-            if count <= 0 {
-                return Err(count);
-            }
-            Ok(Rounds {
-                first: 0,
-                last: count - 1,
-                answer: count,
-            })
-        }
-        Loop::Upto(first, last) => Ok(Rounds {
-            first,
-            last,
-            answer: first,
-        }),
-    }
-}
-
-/// A count in 32 bits; none where it has more.
-fn count_of(count: usize) -> Option<u32>
-    ensures { IfSome result (λ n. n ≡ count) }
-{
-    if count > 0xffff_ffff {
-        return None;
-    }
-    Some(count as u32)
-}
-
-/// The values of arguments, which lie behind a frame; none where the row is too short for them.
-fn passed(room: &[Value], from: usize, count: usize) -> &[Value]
-    ensures { from + count ≤ length room.now → result.now ≡ take count (drop from room.now) }
-{
-    if room.len() < from || room.len() - from < count {
-        return &room[0..0];
-    }
-    &room[from..from + count]
-}
-
-/// Adds bytes behind others.
-fn add_bytes(out: &mut Vec<u8>, bytes: &[u8]) -> Result<(), AllocError>
-    ensures { OnOk result (out.new.items ≡ out.old.items ++ bytes.now) }
-{
-    out.extend_from_slice(bytes)?;
-    Ok(())
-}
-
-/// Adds the text of a value behind bytes.
-fn add_value(
-    alloc: Global,
-    out: &mut Vec<u8>,
-    names: &Names,
-    value: Value,
-) -> Result<(), AllocError>
-    ensures { OnOk result (out.new.items ≡ out.old.items ++ shown names.now (plain value)) }
-{
-    add_shown(alloc, out, names, &value)
 }

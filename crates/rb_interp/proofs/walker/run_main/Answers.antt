@@ -11,11 +11,11 @@ pub returns : goal.returns
 returns g c =
     record {
       follows = λ S st e.
-    let top = c.top-came in
-    let budget = c.args.context.steps in
-    let start = opening S budget in
-    let begun = subst (λ l. At S 0 budget start l (bare 0) start) (sym c.requires.begun) here in
-    let came = top.ensures.came S start (bare 0) (Then (Instead Nil) ∷ []) st e begun in
-    let closes = rw (c.end_of.ensures top.new.self.value) at c.close.ensures in
-    follows S budget start (bare 0) _ _ _ _ _ 0 _ came closes;
+          let top = c.top-came in
+          let budget = c.args.context.steps in
+          let start = opening S budget in
+          let begun = subst (λ l. At S 0 budget start l (bare 0) start) (sym c.requires.begun) here in
+          let came = top.ensures.came S start (bare 0) (Then (Instead Nil) ∷ []) st e begun in
+          let closes = rw (c.end_of.ensures top.new.self.value) at c.close.ensures in
+          follows S budget start (bare 0) _ _ _ _ _ 0 _ came closes;
     }

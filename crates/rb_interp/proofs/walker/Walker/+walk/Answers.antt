@@ -325,23 +325,23 @@ body-nodes-preserved g m c =
       unended = w.unended;
       going = sym c.is_left.ensures ∙ c.if-is_left.false;
       kept = λ S names size st e l i p q.
-    let loop = c.nodes in
-    let inv = loop.invariant in
-    let item = next_item _ _ c.node-item.result c.nodes-test.true c.node-item.is in
-    let right = every_item S _ _ c.node-item.result names size c.nodes-test.true c.node-item.is l.fits in
-    let under = moved _ _ inv.base inv.room (sub (fits S c.node-item.result) l right) in
-    let f = rw inv.context at c.walk-came.ensures.kept in
-    f S names size st e under i p (omega (arith, q, inv.base)) ∙ inv.kept S names size st e l i p q;
+          let loop = c.nodes in
+          let inv = loop.invariant in
+          let item = next_item _ _ c.node-item.result c.nodes-test.true c.node-item.is in
+          let right = every_item S _ _ c.node-item.result names size c.nodes-test.true c.node-item.is l.fits in
+          let under = moved _ _ inv.base inv.room (sub (fits S c.node-item.result) l right) in
+          let f = rw inv.context at c.walk-came.ensures.kept in
+          f S names size st e under i p (omega (arith, q, inv.base)) ∙ inv.kept S names size st e l i p q;
       came = λ S start h k me names size st e l a.
-    let loop = c.nodes in
-    let inv = loop.invariant in
-    let item = next_item _ _ c.node-item.result c.nodes-test.true c.node-item.is in
-    let right = every_item S _ _ c.node-item.result names size c.nodes-test.true c.node-item.is l.fits in
-    let under = moved _ _ inv.base inv.room (sub (fits S c.node-item.result) l right) in
-    let h1 = on _ (follows _ (sym (ap (map erase) item)) (inv.came S start h k me names size st e l a)) refl in
-    let f = rw inv.context at c.walk-came.ensures.came in
-    let come = f S start h (Then (Rest (map erase (drop (loop.node-index + 1) c.args.nodes.now))) ∷ k) me names size st e under h1 in
-    on _ (given c.walk-came.result c.walk-came.new.self.value c.walk-came.new.self.leave (sym c.is_left.ensures ∙ c.if-is_left.false) come) refl;
+          let loop = c.nodes in
+          let inv = loop.invariant in
+          let item = next_item _ _ c.node-item.result c.nodes-test.true c.node-item.is in
+          let right = every_item S _ _ c.node-item.result names size c.nodes-test.true c.node-item.is l.fits in
+          let under = moved _ _ inv.base inv.room (sub (fits S c.node-item.result) l right) in
+          let h1 = on _ (follows _ (sym (ap (map erase) item)) (inv.came S start h k me names size st e l a)) refl in
+          let f = rw inv.context at c.walk-came.ensures.came in
+          let come = f S start h (Then (Rest (map erase (drop (loop.node-index + 1) c.args.nodes.now))) ∷ k) me names size st e under h1 in
+          on _ (given c.walk-came.result c.walk-came.new.self.value c.walk-came.new.self.leave (sym c.is_left.ensures ∙ c.if-is_left.false) come) refl;
     }
 
 pub begin-returns-in-Local-clause-came : goal.begin-returns-in-Local-clause-came
@@ -474,30 +474,30 @@ repeat-turns-preserved g m c =
       less = omega (arith, y.less, w.less, old.less);
       unended = y.unended;
       kept = λ S names size st e l i p q.
-    let inv = c.turns.invariant in
-    let w = c.walk-came in
-    let under = moved _ _ inv.base inv.room (sub (fits S c.args.condition.now) l (fst _ _ l.fits)) in
-    let y = c.body-came in
-    let within = moved _ _ (w.ensures.base ∙ inv.base) (w.ensures.room ∙ inv.room) (sub (every (map (fits S) c.args.body.now)) l (snd _ _ l.fits)) in
-    let f = rw inv.context at w.ensures.kept in
-    let j = rw (w.ensures.context, inv.context) at y.ensures.kept in
-    j S names size st e within i p (omega (arith, q, w.ensures.base, inv.base)) ∙ (f S names size st e under i p (omega (arith, q, inv.base)) ∙ inv.kept S names size st e l i p q);
+          let inv = c.turns.invariant in
+          let w = c.walk-came in
+          let under = moved _ _ inv.base inv.room (sub (fits S c.args.condition.now) l (fst _ _ l.fits)) in
+          let y = c.body-came in
+          let within = moved _ _ (w.ensures.base ∙ inv.base) (w.ensures.room ∙ inv.room) (sub (every (map (fits S) c.args.body.now)) l (snd _ _ l.fits)) in
+          let f = rw inv.context at w.ensures.kept in
+          let j = rw (w.ensures.context, inv.context) at y.ensures.kept in
+          j S names size st e within i p (omega (arith, q, w.ensures.base, inv.base)) ∙ (f S names size st e under i p (omega (arith, q, inv.base)) ∙ inv.kept S names size st e l i p q);
       came = λ S start h k me names size st e l a.
-    let inv = c.turns.invariant in
-    let w = c.walk-came in
-    let under = moved _ _ inv.base inv.room (sub (fits S c.args.condition.now) l (fst _ _ l.fits)) in
-    let i1 = on _ (inv.came S start h k me names size st e l a) refl in
-    let f = rw inv.context at w.ensures.came in
-    let e1 = f S start h (Test (erase c.args.condition.now) (map erase c.args.body.now) ∷ k) me names size st e under i1 in
-    let none = sym c.is_left.ensures ∙ c.if-is_left.false in
-    let v = given w.result w.new.self.value w.new.self.leave none e1 in
-    let t = sym (c.is_true_now.ensures none) in
-    let y = c.body-came in
-    let within = moved _ _ (w.ensures.base ∙ inv.base) (w.ensures.room ∙ inv.room) (sub (every (map (fits S) c.args.body.now)) l (snd _ _ l.fits)) in
-    let m1 = test_true (t ∙ c.if-not-is_true_now.false) v in
-    let j = rw (w.ensures.context, inv.context) at y.ensures.came in
-    let e2 = j S start h (Again (erase c.args.condition.now) (map erase c.args.body.now) ∷ k) me names size st e within m1 in
-    again S _ start h _ _ (erase c.args.condition.now) (map erase c.args.body.now) k _ _ _ (sym c.goes_on-in-turns.ensures ∙ c.if-not-goes_on-2.false) e2;
+          let inv = c.turns.invariant in
+          let w = c.walk-came in
+          let under = moved _ _ inv.base inv.room (sub (fits S c.args.condition.now) l (fst _ _ l.fits)) in
+          let i1 = on _ (inv.came S start h k me names size st e l a) refl in
+          let f = rw inv.context at w.ensures.came in
+          let e1 = f S start h (Test (erase c.args.condition.now) (map erase c.args.body.now) ∷ k) me names size st e under i1 in
+          let none = sym c.is_left.ensures ∙ c.if-is_left.false in
+          let v = given w.result w.new.self.value w.new.self.leave none e1 in
+          let t = sym (c.is_true_now.ensures none) in
+          let y = c.body-came in
+          let within = moved _ _ (w.ensures.base ∙ inv.base) (w.ensures.room ∙ inv.room) (sub (every (map (fits S) c.args.body.now)) l (snd _ _ l.fits)) in
+          let m1 = test_true (t ∙ c.if-not-is_true_now.false) v in
+          let j = rw (w.ensures.context, inv.context) at y.ensures.came in
+          let e2 = j S start h (Again (erase c.args.condition.now) (map erase c.args.body.now) ∷ k) me names size st e within m1 in
+          again S _ start h _ _ (erase c.args.condition.now) (map erase c.args.body.now) k _ _ _ (sym c.goes_on-in-turns.ensures ∙ c.if-not-goes_on-2.false) e2;
     }
 
 pub repeat-turns-preserved-then-is_left : goal.repeat-turns-preserved-then-is_left
@@ -511,20 +511,20 @@ repeat-turns-preserved-then-is_left g m c =
       less = omega (arith, w.less, old.less);
       unended = w.unended;
       kept = λ S names size st e l i p q.
-    let inv = c.turns.invariant in
-    let w = c.walk-came in
-    let under = moved _ _ inv.base inv.room (sub (fits S c.args.condition.now) l (fst _ _ l.fits)) in
-    let f = rw inv.context at w.ensures.kept in
-    f S names size st e under i p (omega (arith, q, inv.base)) ∙ inv.kept S names size st e l i p q;
+          let inv = c.turns.invariant in
+          let w = c.walk-came in
+          let under = moved _ _ inv.base inv.room (sub (fits S c.args.condition.now) l (fst _ _ l.fits)) in
+          let f = rw inv.context at w.ensures.kept in
+          f S names size st e under i p (omega (arith, q, inv.base)) ∙ inv.kept S names size st e l i p q;
       came = λ S start h k me names size st e l a.
-    let inv = c.turns.invariant in
-    let w = c.walk-came in
-    let under = moved _ _ inv.base inv.room (sub (fits S c.args.condition.now) l (fst _ _ l.fits)) in
-    let i1 = on _ (inv.came S start h k me names size st e l a) refl in
-    let f = rw inv.context at w.ensures.came in
-    let e1 = f S start h (Test (erase c.args.condition.now) (map erase c.args.body.now) ∷ k) me names size st e under i1 in
-    let z = gone w.result w.new.self.value w.new.self.leave (sym c.is_left.ensures ∙ c.if-is_left.true) in
-    tested_again S _ start h w.new.self.leave w.new.self.value _ (erase c.args.condition.now) (map erase c.args.body.now) k _ _ _ (ap goes_on (sym z) ∙ (sym c.goes_on.ensures ∙ c.if-not-goes_on.false)) (comes S _ start h _ _ _ _ _ _ _ (sym z) e1);
+          let inv = c.turns.invariant in
+          let w = c.walk-came in
+          let under = moved _ _ inv.base inv.room (sub (fits S c.args.condition.now) l (fst _ _ l.fits)) in
+          let i1 = on _ (inv.came S start h k me names size st e l a) refl in
+          let f = rw inv.context at w.ensures.came in
+          let e1 = f S start h (Test (erase c.args.condition.now) (map erase c.args.body.now) ∷ k) me names size st e under i1 in
+          let z = gone w.result w.new.self.value w.new.self.leave (sym c.is_left.ensures ∙ c.if-is_left.true) in
+          tested_again S _ start h w.new.self.leave w.new.self.value _ (erase c.args.condition.now) (map erase c.args.body.now) k _ _ _ (ap goes_on (sym z) ∙ (sym c.goes_on.ensures ∙ c.if-not-goes_on.false)) (comes S _ start h _ _ _ _ _ _ _ (sym z) e1);
     }
 
 pub read_element-returns-then-is_left-clause-came : goal.read_element-returns-then-is_left-clause-came
@@ -948,7 +948,7 @@ arguments-returns-then-self-room-clause-came g m c = λ aim at S start h k me na
     let come = f S start h (Then step ∷ k) me names size st e under h1 in
     let v = given w.result w.new.self.value w.new.self.leave (sym c.is_left.ensures ∙ c.if-is_left.false) come in
     let o = c.over.ensures in
-    only_left _ (over_left c.over.result c.over.new.self.value c.over.new.self.leave _ o.gives) (rw (o.gives, o.left, o.store) (_ , v , refl))
+    only_left _ (over_left c.over.result c.over.new.self.value c.over.new.self.leave _ o.gives) (rw (o.gives, o.left, o.store) (_, v, refl))
 
 pub arguments-each-preserved : goal.arguments-each-preserved
 arguments-each-preserved g m c =
@@ -964,32 +964,32 @@ arguments-each-preserved g m c =
       less = omega (arith, t.left, w.less, old.less);
       unended = rw t.store w.unended;
       kept = λ S names size st e l i p q.
-    let loop = c.each in
-    let inv = loop.invariant in
-    let w = c.walk-came in
-    let right = every_item S _ _ c.arg-item.result names size c.each-test.true c.arg-item.is l.fits in
-    let under = lies (fits S c.arg-item.result) names size loop.self.base (length loop.room) right l.within (omega (arith, l.below, inv.base)) (inv.bound l.room) in
-    let f = rw inv.context at w.ensures.kept in
-    get_set w.new.room c.take.new.self.base i _ (λ z. omega (arith, z, q, t.base, w.ensures.base, inv.base)) ∙ (f S names size st e under i p (omega (arith, q, inv.base)) ∙ inv.kept S names size st e l i p q);
+          let loop = c.each in
+          let inv = loop.invariant in
+          let w = c.walk-came in
+          let right = every_item S _ _ c.arg-item.result names size c.each-test.true c.arg-item.is l.fits in
+          let under = lies (fits S c.arg-item.result) names size loop.self.base (length loop.room) right l.within (omega (arith, l.below, inv.base)) (inv.bound l.room) in
+          let f = rw inv.context at w.ensures.kept in
+          get_set w.new.room c.take.new.self.base i _ (λ z. omega (arith, z, q, t.base, w.ensures.base, inv.base)) ∙ (f S names size st e under i p (omega (arith, q, inv.base)) ∙ inv.kept S names size st e l i p q);
       came = λ aim at S start h k me names size st e l a.
-    let loop = c.each in
-    let inv = loop.invariant in
-    let w = c.walk-came in
-    let right = every_item S _ _ c.arg-item.result names size c.each-test.true c.arg-item.is l.fits in
-    let under = lies (fits S c.arg-item.result) names size loop.self.base (length loop.room) right l.within (omega (arith, l.below, inv.base)) (inv.bound l.room) in
-    let item = next_item _ _ c.arg-item.result c.each-test.true c.arg-item.is in
-    let rest = map erase (drop (loop.arg-index + 1) c.args.args.now) in
-    let step = Argument aim (map plain (take loop.arg-index (drop c.args.self.now.base loop.room))) rest at in
-    let h1 = on _ (passing _ (sym (ap (map erase) item)) (inv.came aim at S start h k me names size st e l a)) refl in
-    let f = rw inv.context at w.ensures.came in
-    let come = f S start h (Then step ∷ k) me names size st e under h1 in
-    let v = value_of w.result w.new.self.value in
-    let base = c.args.self.now.base in
-    let spot : c.take.new.self.base ≡ base + loop.arg-index = t.base ∙ (w.ensures.base ∙ inv.base) in
-    let within : base + loop.arg-index < length w.new.room = omega (arith, w.ensures.base, inv.base, c.if-self-room.false) in
-    let f2 = rw inv.context at w.ensures.kept in
-    let g1 = given w.result w.new.self.value w.new.self.leave (sym c.is_left.ensures ∙ c.if-is_left.false) come in
-    rw (t.left, t.store, spot) (joined me names base loop.arg-index loop.room w.new.room c.take.result v t.value (omega (arith, l.within, l.below)) within (λ j q. f2 S names size st e under (base + j) (omega (arith, l.below)) (omega (arith, q, inv.base))) g1);
+          let loop = c.each in
+          let inv = loop.invariant in
+          let w = c.walk-came in
+          let right = every_item S _ _ c.arg-item.result names size c.each-test.true c.arg-item.is l.fits in
+          let under = lies (fits S c.arg-item.result) names size loop.self.base (length loop.room) right l.within (omega (arith, l.below, inv.base)) (inv.bound l.room) in
+          let item = next_item _ _ c.arg-item.result c.each-test.true c.arg-item.is in
+          let rest = map erase (drop (loop.arg-index + 1) c.args.args.now) in
+          let step = Argument aim (map plain (take loop.arg-index (drop c.args.self.now.base loop.room))) rest at in
+          let h1 = on _ (passing _ (sym (ap (map erase) item)) (inv.came aim at S start h k me names size st e l a)) refl in
+          let f = rw inv.context at w.ensures.came in
+          let come = f S start h (Then step ∷ k) me names size st e under h1 in
+          let v = value_of w.result w.new.self.value in
+          let base = c.args.self.now.base in
+          let spot : c.take.new.self.base ≡ base + loop.arg-index = t.base ∙ (w.ensures.base ∙ inv.base) in
+          let within : base + loop.arg-index < length w.new.room = omega (arith, w.ensures.base, inv.base, c.if-self-room.false) in
+          let f2 = rw inv.context at w.ensures.kept in
+          let g1 = given w.result w.new.self.value w.new.self.leave (sym c.is_left.ensures ∙ c.if-is_left.false) come in
+          rw (t.left, t.store, spot) (joined me names base loop.arg-index loop.room w.new.room c.take.result v t.value (omega (arith, l.within, l.below)) within (λ j q. f2 S names size st e under (base + j) (omega (arith, l.below)) (omega (arith, q, inv.base))) g1);
     }
 
 pub arguments-returns-clause-came : goal.arguments-returns-clause-came
@@ -1548,29 +1548,29 @@ turns-turns-preserved g m c =
       ordered = rw (zn, zl) ordered;
       within = omega (arith, old.within, y.room, c.start_block.ensures.room);
       kept = λ S names size st e l i p q.
-    let inv = c.turns.invariant in
-    let within = deeper S c.args.block.now (moved _ _ inv.base (c.start_block.ensures.room ∙ inv.room) l) in
-    let edge = ends_within S c.args.block.now l in
-    let f = rw (inv.context, c.as_slice.ensures) at c.body-came.ensures.kept in
-    f S (names ++ S.block_names c.args.block.now.at) size st e within i p (omega (arith, q, inv.base)) ∙ (c.start_block.ensures.above i (omega (arith, p, edge)) ∙ inv.kept S names size st e l i p q);
+          let inv = c.turns.invariant in
+          let within = deeper S c.args.block.now (moved _ _ inv.base (c.start_block.ensures.room ∙ inv.room) l) in
+          let edge = ends_within S c.args.block.now l in
+          let f = rw (inv.context, c.as_slice.ensures) at c.body-came.ensures.kept in
+          f S (names ++ S.block_names c.args.block.now.at) size st e within i p (omega (arith, q, inv.base)) ∙ (c.start_block.ensures.above i (omega (arith, p, edge)) ∙ inv.kept S names size st e l i p q);
       came = λ S start h k me names size st e l a.
-    let inv = c.turns.invariant in
-    let next = to_z w64 c.turns.next-bits in
-    let last = to_z w64 (of_z w64 c.args.last) in
-    let answer = to_z w64 (of_z w64 c.args.answer) in
-    let i = inv.came S start h k me names size st e l a in
-    let more = some_left next last inv.ordered in
-    let block = c.args.block.now in
-    let own = S.block_names block.at in
-    let some : 0 < c.turns.self.left = omega (arith, c.if-self-eq0.false) in
-    let t = opens block c.turns.room c.start_block.new.room _ next (last +ℤ pos 1) (Int answer) (moved _ _ inv.base inv.room l) c.start_block.ensures.room (takes_is c.is_empty-takes.result block.params c.is_empty-takes.ensures) more some c.start_block.ensures.below c.start_block.ensures.within i in
-    let within = deeper S block (moved _ _ inv.base (c.start_block.ensures.room ∙ inv.room) l) in
-    let f = rw (inv.context, c.as_slice.ensures) at c.body-came.ensures.came in
-    let later = Counting (next +ℤ pos 1) (last +ℤ pos 1) (Int answer) in
-    let come = f S start h (Turn later (erase_block block) (length names) ∷ k) me (names ++ own) size st e within t in
-    let long : length names ≤ length c.body-came.new.room = omega (arith, l.within, l.below, l.room, c.body-came.ensures.room, c.start_block.ensures.room, inv.room) in
-    let more_on = sym c.goes_on.ensures ∙ c.if-not-goes_on.false in
-    rw zn (closes S _ start h _ _ later (erase_block block) k me names own _ _ _ long more_on come);
+          let inv = c.turns.invariant in
+          let next = to_z w64 c.turns.next-bits in
+          let last = to_z w64 (of_z w64 c.args.last) in
+          let answer = to_z w64 (of_z w64 c.args.answer) in
+          let i = inv.came S start h k me names size st e l a in
+          let more = some_left next last inv.ordered in
+          let block = c.args.block.now in
+          let own = S.block_names block.at in
+          let some : 0 < c.turns.self.left = omega (arith, c.if-self-eq0.false) in
+          let t = opens block c.turns.room c.start_block.new.room _ next (last +ℤ pos 1) (Int answer) (moved _ _ inv.base inv.room l) c.start_block.ensures.room (takes_is c.is_empty-takes.result block.params c.is_empty-takes.ensures) more some c.start_block.ensures.below c.start_block.ensures.within i in
+          let within = deeper S block (moved _ _ inv.base (c.start_block.ensures.room ∙ inv.room) l) in
+          let f = rw (inv.context, c.as_slice.ensures) at c.body-came.ensures.came in
+          let later = Counting (next +ℤ pos 1) (last +ℤ pos 1) (Int answer) in
+          let come = f S start h (Turn later (erase_block block) (length names) ∷ k) me (names ++ own) size st e within t in
+          let long : length names ≤ length c.body-came.new.room = omega (arith, l.within, l.below, l.room, c.body-came.ensures.room, c.start_block.ensures.room, inv.room) in
+          let more_on = sym c.goes_on.ensures ∙ c.if-not-goes_on.false in
+          rw zn (closes S _ start h _ _ later (erase_block block) k me names own _ _ _ long more_on come);
     }
 
 pub function-returns-in_default-clause-came : goal.function-returns-in_default-clause-came

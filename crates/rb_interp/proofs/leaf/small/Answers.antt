@@ -6,7 +6,7 @@ use Rattle.rb_code.proofs.Fitting.{fits-local}
 use Rattle.rb_code.specs.Resolved.{fits}
 use Rattle.rb_interp.proofs.Moves.{on, begins, counts, gives}
 use Rattle.rb_interp.proofs.Leaves.{small_if}
-use Rattle.rb_interp.proofs.walker.small.Goals as goal
+use Rattle.rb_interp.proofs.leaf.small.Goals as goal
 
 pub returns-in-Int : goal.returns-in-Int
 returns-in-Int c = λ S N names size depth left start h log k me f l p q a.

@@ -1,7 +1,7 @@
 use Rattle.std.proofs.Common.{sym, ap}
 use Rattle.rb_tree.specs.Place.{place}
 use Rattle.rb_code.proofs.Showing.{shows-nil, shows-false, shows-true, shows-int, shows-sym, shows-str, shows-local, shows-set_local, shows-update_local, shows-update_element, shows-update_attribute, shows-store, shows-operate, shows-send, shows-walk, shows-function, shows-print, shows-and, shows-or, shows-not, shows-if, shows-while, shows-return, shows-break, shows-next}
-use Rattle.rb_interp.proofs.walker.place_of.Goals as goal
+use Rattle.rb_interp.proofs.leaf.place_of.Goals as goal
 
 pub returns-in-Nil : goal.returns-in-Nil
 returns-in-Nil c = sym (ap place (shows-nil c.args.code.now _ c.in-Nil.is))

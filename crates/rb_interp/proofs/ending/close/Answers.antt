@@ -1,6 +1,6 @@
 use Rattle.rb_model.specs.Ends.{over}
 use Rattle.rb_interp.proofs.Endings.{lacking, telling, never_sinks}
-use Rattle.rb_interp.proofs.walker.close.Goals as goal
+use Rattle.rb_interp.proofs.ending.close.Goals as goal
 use Rattle.std.proofs.Common.{refl}
 
 pub returns-in-Memory : goal.returns-in-Memory

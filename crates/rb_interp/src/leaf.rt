@@ -1,0 +1,154 @@
+// Leaves, and operations on integers, which call nothing of the walk.
+
+ghost use Rattle.std.specs.Prelude.{◌≡◌, ℕ, List, [], ◌∷◌, slice_get, Some, None, IfSome};
+ghost use Rattle.rb_tree.specs.declared.node.Node.{out-Node};
+ghost use Rattle.rb_tree.specs.Place.{place};
+ghost use Rattle.rb_model.specs.Values.{Int, plain, truthy};
+ghost use Rattle.rb_model.specs.declared.value.Value.TheVariants as held;
+ghost use Rattle.rb_machine.specs.Methods.{deed};
+ghost use Rattle.rb_builtin.specs.Names.{builtin_of};
+ghost use Rattle.rb_builtin.specs.Integers as integers;
+ghost use Rattle.rb_code.specs.Erase.{erase};
+ghost use Rattle.rb_interp.specs.Answers.{IsSmall, IsQuick, IsQuickRight, method_of};
+
+use crate::came::Came;
+use rb_builtin::{Builtin, IntegerAnswer, integer_operation, is_operation};
+use rb_code::Code;
+use rb_model::Value;
+use rb_tree::{AssignOp, Span};
+
+/// Whether a value is true: only nil and false are not.
+pub(crate) fn is_true(value: &Value) -> bool
+    ensures { result ≡ truthy (plain value.now) }
+{
+    match value {
+        Value::Nil | Value::False => false,
+        _ => true,
+    }
+}
+
+/// Where a node stands.
+pub(crate) fn place_of(code: &Code) -> Span
+    ensures { result ≡ place (out-Node (erase code.now)) }
+{
+    match code {
+        Code::Nil(at) => *at,
+        Code::False(at) => *at,
+        Code::True(at) => *at,
+        Code::Int(_, at) => *at,
+        Code::Sym(_, at) => *at,
+        Code::Str(_, at) => *at,
+        Code::Local(_, _, at) => *at,
+        Code::SetLocal(_, _, _, at) => *at,
+        Code::UpdateLocal(_, _, _, _, at) => *at,
+        Code::UpdateElement(_, _, _, _, at) => *at,
+        Code::UpdateAttribute(_, _, _, _, _, at) => *at,
+        Code::Store(_, _, _, at) => *at,
+        Code::Operate(_, _, _, _, at) => *at,
+        Code::Send(_, _, _, _, at) => *at,
+        Code::Walk(_, _, _, _, _, at) => *at,
+        Code::Function(_, _, _, at) => *at,
+        Code::Print(_, _, _, at) => *at,
+        Code::And(_, _, at) => *at,
+        Code::Or(_, _, at) => *at,
+        Code::Not(_, at) => *at,
+        Code::If(_, _, _, at) => *at,
+        Code::While(_, _, at) => *at,
+        Code::Return(_, at) => *at,
+        Code::Break(at) => *at,
+        Code::Next(at) => *at,
+    }
+}
+
+/// The integer in a slot.
+pub(crate) fn integer_at(room: &[Value], slot: u32) -> Option<i64>
+    ensures { IfSome result (λ n. slice_get room.now slot ≡ Some (held.Int n)) }
+{
+    match room.get(slot as usize)? {
+        Value::Int(n) => Some(*n),
+        _ => None,
+    }
+}
+
+/// An integer that a leaf has.
+pub(crate) fn small(code: &Code, room: &[Value]) -> Option<i64>
+    ensures { IfSome result (λ n. IsSmall code.now room.now n) }
+{
+    match code {
+        Code::Int(n, _) => Some(*n),
+        Code::Local(slot, _, _) => integer_at(room, *slot),
+        _ => None,
+    }
+}
+
+/// What an operation on two integers gives, where this is one.
+pub(crate) fn operation_by(method: Option<Builtin>, m: i64, n: i64) -> Option<IntegerAnswer>
+    ensures { IfSome result (λ answer. (texts : List (List ℕ)) (name : List ℕ) → builtin_of name ≡ method → deed texts (Int m) name (Int n ∷ []) None ≡ integers.answer_of answer) }
+{
+    let method = method?;
+    if !is_operation(method) {
+        return None;
+    }
+    Some(integer_operation(method, m, n))
+}
+
+/// What an operation on two values gives, where they are integers and this is one.
+pub(crate) fn operation_on(
+    method: Option<Builtin>,
+    receiver: &Value,
+    arg: &Value,
+) -> Option<IntegerAnswer>
+    ensures { IfSome result (λ answer. (texts : List (List ℕ)) (name : List ℕ) → builtin_of name ≡ method → deed texts (plain receiver.now) name (plain arg.now ∷ []) None ≡ integers.answer_of answer) }
+{
+    let Value::Int(m) = receiver else {
+        return None;
+    };
+    let Value::Int(n) = arg else {
+        return None;
+    };
+    operation_by(method, *m, *n)
+}
+
+/// What an operation over two leaves gives, where they are integers and this is one.
+pub(crate) fn quick(
+    method: Option<Builtin>,
+    left: &Code,
+    right: &Code,
+    room: &[Value],
+) -> Option<IntegerAnswer>
+    ensures { IfSome result (λ answer. IsQuick method left.now right.now room.now (integers.answer_of answer)) }
+{
+    let m = small(left, room)?;
+    let n = small(right, room)?;
+    operation_by(method, m, n)
+}
+
+/// What an operation over a value that came and a leaf gives, where they are integers and this is one.
+pub(crate) fn quick_right(
+    method: Option<Builtin>,
+    left: Came,
+    right: &Code,
+    room: &[Value],
+) -> Option<IntegerAnswer>
+    ensures { IfSome result (λ answer. IsQuickRight method left right.now room.now (integers.answer_of answer)) }
+{
+    let Came::Int(m) = left else {
+        return None;
+    };
+    let n = small(right, room)?;
+    operation_by(method, m, n)
+}
+
+/// The built-in method of an assignment's operator; none for the two that decide.
+pub(crate) fn method_of(op: AssignOp) -> Option<Builtin>
+    ensures { result ≡ method_of op }
+{
+    match op {
+        AssignOp::Plus => Some(Builtin::Plus),
+        AssignOp::Minus => Some(Builtin::Minus),
+        AssignOp::Times => Some(Builtin::Times),
+        AssignOp::Over => Some(Builtin::Over),
+        AssignOp::Modulo => Some(Builtin::Modulo),
+        AssignOp::OrElse | AssignOp::AndThen => None,
+    }
+}
