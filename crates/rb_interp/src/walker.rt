@@ -245,6 +245,7 @@ impl<'p, O: OneStore + Drop> Walker<'p, O> {
         ensures base { self.new.base ≡ self.old.base }
         ensures left { self.new.left ≡ self.old.left }
         ensures context { self.new.context ≡ self.old.context }
+        ensures origin { O.origin self.new.store ≡ O.origin self.old.store }
         ensures unended { has_end (O.log self.new.store).entries ≡ false }
         ensures came { Shows self.old.context.names.now self.old.context.steps form (map plain args.now) at self.old.left (O.log self.old.store) (O.log self.new.store) (outcome result self.new.value self.new.leave) }
     {
@@ -308,6 +309,7 @@ impl<'p, O: OneStore + Drop> Walker<'p, O> {
         ensures counted { goes_on (outcome result self.new.value self.new.leave) ≡ true → self.new.left < self.old.left }
         ensures base { self.new.base ≡ self.old.base }
         ensures context { self.new.context ≡ self.old.context }
+        ensures origin { O.origin self.new.store ≡ O.origin self.old.store }
         ensures room { length room.new ≡ length room.old }
         ensures less { self.new.left ≤ self.old.left }
         ensures unended { has_end (O.log self.new.store).entries ≡ false }
@@ -331,6 +333,7 @@ impl<'p, O: OneStore + Drop> Walker<'p, O> {
         requires steps { self.old.left ≤ self.old.context.steps }
         ensures base { self.new.base ≡ self.old.base }
         ensures context { self.new.context ≡ self.old.context }
+        ensures origin { O.origin self.new.store ≡ O.origin self.old.store }
         ensures room { length room.new ≡ length room.old }
         ensures less { self.new.left ≤ self.old.left }
         ensures unended { has_end (O.log self.new.store).entries ≡ false }
@@ -415,6 +418,7 @@ impl<'p, O: OneStore + Drop> Walker<'p, O> {
         requires steps { self.old.left ≤ self.old.context.steps }
         ensures base { self.new.base ≡ self.old.base }
         ensures context { self.new.context ≡ self.old.context }
+        ensures origin { O.origin self.new.store ≡ O.origin self.old.store }
         ensures room { length room.new ≡ length room.old }
         ensures less { self.new.left ≤ self.old.left }
         ensures unended { has_end (O.log self.new.store).entries ≡ false }
@@ -443,6 +447,7 @@ impl<'p, O: OneStore + Drop> Walker<'p, O> {
         requires steps { self.old.left ≤ self.old.context.steps }
         ensures base { self.new.base ≡ self.old.base }
         ensures context { self.new.context ≡ self.old.context }
+        ensures origin { O.origin self.new.store ≡ O.origin self.old.store }
         ensures room { length room.new ≡ length room.old }
         ensures less { self.new.left ≤ self.old.left }
         ensures unended { has_end (O.log self.new.store).entries ≡ false }
@@ -492,6 +497,7 @@ impl<'p, O: OneStore + Drop> Walker<'p, O> {
         requires came { is_left current ≡ false }
         ensures base { self.new.base ≡ self.old.base }
         ensures context { self.new.context ≡ self.old.context }
+        ensures origin { O.origin self.new.store ≡ O.origin self.old.store }
         ensures room { length room.new ≡ length room.old }
         ensures less { self.new.left ≤ self.old.left }
         ensures unended { has_end (O.log self.new.store).entries ≡ false }
@@ -545,6 +551,7 @@ impl<'p, O: OneStore + Drop> Walker<'p, O> {
         requires steps { self.old.left ≤ self.old.context.steps }
         ensures base { self.new.base ≡ self.old.base }
         ensures context { self.new.context ≡ self.old.context }
+        ensures origin { O.origin self.new.store ≡ O.origin self.old.store }
         ensures room { length room.new ≡ length room.old }
         ensures less { self.new.left ≤ self.old.left }
         ensures unended { has_end (O.log self.new.store).entries ≡ false }
@@ -578,6 +585,7 @@ impl<'p, O: OneStore + Drop> Walker<'p, O> {
         requires steps { self.old.left ≤ self.old.context.steps }
         ensures base { self.new.base ≡ self.old.base }
         ensures context { self.new.context ≡ self.old.context }
+        ensures origin { O.origin self.new.store ≡ O.origin self.old.store }
         ensures room { length room.new ≡ length room.old }
         ensures less { self.new.left ≤ self.old.left }
         ensures unended { has_end (O.log self.new.store).entries ≡ false }
@@ -612,6 +620,7 @@ impl<'p, O: OneStore + Drop> Walker<'p, O> {
         requires came { is_left current ≡ false }
         ensures base { self.new.base ≡ self.old.base }
         ensures context { self.new.context ≡ self.old.context }
+        ensures origin { O.origin self.new.store ≡ O.origin self.old.store }
         ensures room { length room.new ≡ length room.old }
         ensures less { self.new.left ≤ self.old.left }
         ensures unended { has_end (O.log self.new.store).entries ≡ false }
@@ -648,6 +657,7 @@ impl<'p, O: OneStore + Drop> Walker<'p, O> {
         requires steps { self.old.left ≤ self.old.context.steps }
         ensures base { self.new.base ≡ self.old.base }
         ensures context { self.new.context ≡ self.old.context }
+        ensures origin { O.origin self.new.store ≡ O.origin self.old.store }
         ensures room { length room.new ≡ length room.old }
         ensures less { self.new.left ≤ self.old.left }
         ensures unended { has_end (O.log self.new.store).entries ≡ false }
@@ -676,6 +686,7 @@ impl<'p, O: OneStore + Drop> Walker<'p, O> {
         requires steps { self.old.left ≤ self.old.context.steps }
         ensures base { self.new.base ≡ self.old.base }
         ensures context { self.new.context ≡ self.old.context }
+        ensures origin { O.origin self.new.store ≡ O.origin self.old.store }
         ensures room { length room.new ≡ length room.old }
         ensures less { self.new.left ≤ self.old.left }
         ensures unended { has_end (O.log self.new.store).entries ≡ false }
@@ -716,6 +727,7 @@ impl<'p, O: OneStore + Drop> Walker<'p, O> {
         requires steps { self.old.left ≤ self.old.context.steps }
         ensures base { self.new.base ≡ self.old.base }
         ensures context { self.new.context ≡ self.old.context }
+        ensures origin { O.origin self.new.store ≡ O.origin self.old.store }
         ensures room { length room.new ≡ length room.old }
         ensures less { self.new.left ≤ self.old.left }
         ensures unended { has_end (O.log self.new.store).entries ≡ false }
@@ -750,6 +762,7 @@ impl<'p, O: OneStore + Drop> Walker<'p, O> {
         requires steps { self.old.left ≤ self.old.context.steps }
         ensures base { self.new.base ≡ self.old.base }
         ensures context { self.new.context ≡ self.old.context }
+        ensures origin { O.origin self.new.store ≡ O.origin self.old.store }
         ensures room { length room.new ≡ length room.old }
         ensures less { self.new.left ≤ self.old.left }
         ensures unended { has_end (O.log self.new.store).entries ≡ false }
@@ -822,6 +835,7 @@ impl<'p, O: OneStore + Drop> Walker<'p, O> {
         requires steps { self.old.left ≤ self.old.context.steps }
         ensures base { self.new.base ≡ self.old.base }
         ensures context { self.new.context ≡ self.old.context }
+        ensures origin { O.origin self.new.store ≡ O.origin self.old.store }
         ensures room { length room.new ≡ length room.old }
         ensures less { self.new.left ≤ self.old.left }
         ensures unended { has_end (O.log self.new.store).entries ≡ false }
@@ -861,6 +875,7 @@ impl<'p, O: OneStore + Drop> Walker<'p, O> {
         requires steps { self.old.left ≤ self.old.context.steps }
         ensures base { self.new.base ≡ self.old.base }
         ensures context { self.new.context ≡ self.old.context }
+        ensures origin { O.origin self.new.store ≡ O.origin self.old.store }
         ensures room { length room.new ≡ length room.old }
         ensures less { self.new.left ≤ self.old.left }
         ensures unended { has_end (O.log self.new.store).entries ≡ false }
@@ -908,6 +923,7 @@ impl<'p, O: OneStore + Drop> Walker<'p, O> {
         requires steps { self.old.left ≤ self.old.context.steps }
         ensures base { self.new.base ≡ self.old.base }
         ensures context { self.new.context ≡ self.old.context }
+        ensures origin { O.origin self.new.store ≡ O.origin self.old.store }
         ensures room { length room.new ≡ length room.old }
         ensures less { self.new.left ≤ self.old.left }
         ensures unended { has_end (O.log self.new.store).entries ≡ false }
@@ -953,6 +969,7 @@ impl<'p, O: OneStore + Drop> Walker<'p, O> {
         requires steps { self.old.left ≤ self.old.context.steps }
         ensures base { self.new.base ≡ self.old.base }
         ensures context { self.new.context ≡ self.old.context }
+        ensures origin { O.origin self.new.store ≡ O.origin self.old.store }
         ensures room { length room.new ≡ length room.old }
         ensures less { self.new.left ≤ self.old.left }
         ensures unended { has_end (O.log self.new.store).entries ≡ false }
@@ -981,6 +998,7 @@ impl<'p, O: OneStore + Drop> Walker<'p, O> {
         ensures rises { self.old.base ≤ self.new.base }
         ensures fits { self.old.base ≤ length room.old → self.new.base ≤ length room.new }
         ensures context { self.new.context ≡ self.old.context }
+        ensures origin { O.origin self.new.store ≡ O.origin self.old.store }
         ensures room { length room.new ≡ length room.old }
         ensures less { self.new.left ≤ self.old.left }
         ensures unended { has_end (O.log self.new.store).entries ≡ false }
@@ -1008,6 +1026,7 @@ impl<'p, O: OneStore + Drop> Walker<'p, O> {
         requires steps { self.old.left ≤ self.old.context.steps }
         ensures base { self.new.base ≡ self.old.base }
         ensures context { self.new.context ≡ self.old.context }
+        ensures origin { O.origin self.new.store ≡ O.origin self.old.store }
         ensures room { length room.new ≡ length room.old }
         ensures less { self.new.left ≤ self.old.left }
         ensures unended { has_end (O.log self.new.store).entries ≡ false }
@@ -1055,6 +1074,7 @@ impl<'p, O: OneStore + Drop> Walker<'p, O> {
         requires steps { self.old.left ≤ self.old.context.steps }
         ensures base { self.new.base ≡ self.old.base }
         ensures context { self.new.context ≡ self.old.context }
+        ensures origin { O.origin self.new.store ≡ O.origin self.old.store }
         ensures room { length room.new ≡ length room.old }
         ensures less { self.new.left ≤ self.old.left }
         ensures unended { has_end (O.log self.new.store).entries ≡ false }
@@ -1078,6 +1098,7 @@ impl<'p, O: OneStore + Drop> Walker<'p, O> {
         requires steps { self.old.left ≤ self.old.context.steps }
         ensures base { self.new.base ≡ self.old.base }
         ensures context { self.new.context ≡ self.old.context }
+        ensures origin { O.origin self.new.store ≡ O.origin self.old.store }
         ensures room { length room.new ≡ length room.old }
         ensures less { self.new.left ≤ self.old.left }
         ensures unended { has_end (O.log self.new.store).entries ≡ false }
@@ -1101,6 +1122,7 @@ impl<'p, O: OneStore + Drop> Walker<'p, O> {
         requires steps { self.old.left ≤ self.old.context.steps }
         ensures base { self.new.base ≡ self.old.base }
         ensures context { self.new.context ≡ self.old.context }
+        ensures origin { O.origin self.new.store ≡ O.origin self.old.store }
         ensures room { length room.new ≡ length room.old }
         ensures less { self.new.left ≤ self.old.left }
         ensures unended { has_end (O.log self.new.store).entries ≡ false }
@@ -1132,6 +1154,7 @@ impl<'p, O: OneStore + Drop> Walker<'p, O> {
         requires steps { self.old.left ≤ self.old.context.steps }
         ensures base { self.new.base ≡ self.old.base }
         ensures context { self.new.context ≡ self.old.context }
+        ensures origin { O.origin self.new.store ≡ O.origin self.old.store }
         ensures room { length room.new ≡ length room.old }
         ensures less { self.new.left ≤ self.old.left }
         ensures unended { has_end (O.log self.new.store).entries ≡ false }
@@ -1155,6 +1178,7 @@ impl<'p, O: OneStore + Drop> Walker<'p, O> {
         requires steps { self.old.left ≤ self.old.context.steps }
         ensures base { self.new.base ≡ self.old.base }
         ensures context { self.new.context ≡ self.old.context }
+        ensures origin { O.origin self.new.store ≡ O.origin self.old.store }
         ensures room { length room.new ≡ length room.old }
         ensures less { self.new.left ≤ self.old.left }
         ensures unended { has_end (O.log self.new.store).entries ≡ false }
@@ -1184,6 +1208,7 @@ impl<'p, O: OneStore + Drop> Walker<'p, O> {
         requires steps { self.old.left ≤ self.old.context.steps }
         ensures base { self.new.base ≡ self.old.base }
         ensures context { self.new.context ≡ self.old.context }
+        ensures origin { O.origin self.new.store ≡ O.origin self.old.store }
         ensures room { length room.new ≡ length room.old }
         ensures less { self.new.left ≤ self.old.left }
         ensures unended { has_end (O.log self.new.store).entries ≡ false }
@@ -1220,6 +1245,7 @@ impl<'p, O: OneStore + Drop> Walker<'p, O> {
         requires steps { self.old.left ≤ self.old.context.steps }
         ensures base { self.new.base ≡ self.old.base }
         ensures context { self.new.context ≡ self.old.context }
+        ensures origin { O.origin self.new.store ≡ O.origin self.old.store }
         ensures room { length room.new ≡ length room.old }
         ensures less { self.new.left ≤ self.old.left }
         ensures unended { has_end (O.log self.new.store).entries ≡ false }
@@ -1241,6 +1267,7 @@ impl<'p, O: OneStore + Drop> Walker<'p, O> {
         requires steps { self.old.left ≤ self.old.context.steps }
         ensures base { self.new.base ≡ self.old.base }
         ensures context { self.new.context ≡ self.old.context }
+        ensures origin { O.origin self.new.store ≡ O.origin self.old.store }
         ensures room { length room.new ≡ length room.old }
         ensures less { self.new.left ≤ self.old.left }
         ensures unended { has_end (O.log self.new.store).entries ≡ false }
@@ -1306,6 +1333,7 @@ impl<'p, O: OneStore + Drop> Walker<'p, O> {
         requires steps { self.old.left ≤ self.old.context.steps }
         requires base { self.old.base ≡ self.old.context.script.now.main_size }
         ensures context { self.new.context ≡ self.old.context }
+        ensures origin { O.origin self.new.store ≡ O.origin self.old.store }
         ensures unended { has_end (O.log self.new.store).entries ≡ false }
         ensures less { self.new.left ≤ self.old.left }
         ensures came { (S : Script) (start : State) (h : Private) (k : List Cont) → StandsFor self.old.context.script.now S → S.program.names ≡ self.old.context.names.now
@@ -1329,6 +1357,7 @@ pub fn run_main<'p, O: OneStore + Drop>(
     room: &mut [Value],
 ) -> (O, End)
     requires begun { O.log store ≡ log.fresh }
+    ensures origin { O.origin result.0 ≡ O.origin store }
     ensures follows { (S : Script) → StandsFor context.entry.script.now S → S.program.names ≡ context.entry.names.now → Follows S 0 context.entry.steps (opening S context.entry.steps) (O.log result.0) (over result.1) }
 {
     let mut walker = Walker {
