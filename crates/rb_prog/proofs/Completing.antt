@@ -5,8 +5,8 @@ use Rattle.rb_tree.specs.declared.node.Program.{Program}
 use Rattle.rb_lexer.specs.declared.token.Token.{Token}
 use Rattle.rb_lexer.specs.Tokens.{Outcome, Lexes, too_large, not_utf8}
 use Rattle.rb_lexer.specs.Tokens as lexer
-use Rattle.rb_prog.specs.Edge.{Held, Bytes}
-use Rattle.rb_prog.specs.Transfer.{ReadOf, NotHeld}
+use Rattle.rb_edge.specs.Edge.{Held, Bytes}
+use Rattle.rb_edge.specs.Transfer.{ReadOf, NotHeld}
 use Rattle.rb_prog.specs.declared.model.Entry.{Entry}
 use Rattle.rb_prog.specs.declared.model.End.{End}
 use Rattle.rb_prog.specs.declared.model.End.TheVariants as ending

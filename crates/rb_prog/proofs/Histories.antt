@@ -2,7 +2,7 @@
 use Rattle.std.proofs.Common.{◌≡◌, ℕ, ◌<◌, List, [], ◌∷◌, ◌++◌, length, take, Option, Some, None, refl, sym, ap, ◌∙◌, subst, append_assoc}
 use Rattle.std.specs.Prelude.{ℤ}
 use Rattle.rb_tree.specs.declared.node.Program.{Program}
-use Rattle.rb_prog.specs.Edge.{Adds}
+use Rattle.rb_edge.specs.Edge.{Adds}
 use Rattle.rb_prog.specs.declared.model.End.{End as Ending}
 use Rattle.rb_prog.specs.declared.model.End.TheVariants as ending
 use Rattle.rb_prog.specs.declared.model.Entry.{Entry}

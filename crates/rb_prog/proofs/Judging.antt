@@ -17,7 +17,7 @@ use Rattle.rb_checker.specs.Check.{fault_of}
 use Rattle.rb_prog.specs.declared.refusal.Refusal.TheVariants as refusal
 use Rattle.rb_prog.specs.declared.source.Unaccepted.{Unaccepted}
 use Rattle.rb_prog.specs.declared.source.Unaccepted.TheVariants as unaccepted
-use Rattle.rb_prog.specs.Edge.{Adds}
+use Rattle.rb_edge.specs.Edge.{Adds}
 use Rattle.rb_prog.specs.Accepting.{Keeps_out, IsRunnable, Judges, AcceptsOf, rejected_status, rejected_line}
 use Rattle.rb_prog.specs.Accepting as spec
 use Rattle.rb_prog.specs.Run as run

@@ -1,4 +1,3 @@
-pub mod Turns
 pub mod Walking
 pub mod Histories
 pub mod Meant

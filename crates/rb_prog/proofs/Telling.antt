@@ -5,7 +5,7 @@ use Rattle.std.specs.List.{concat, count_by, suffix_len}
 use Rattle.std.proofs.lemmas.List.{append-nil, drop_more, take_all, take-append-drop, take-append-le, map_more, map-append}
 use Rattle.std.proofs.Math.Seq.{take-append-add}
 use Rattle.rb_tree.specs.Place.{line_of, column_of}
-use Rattle.rb_prog.specs.Edge.{Rose, Adds, Told}
+use Rattle.rb_edge.specs.Edge.{Rose, Adds, Told}
 use Rattle.rb_prog.proofs.Histories.{adds_then}
 
 -- a byte behind the end is told as the end

@@ -1,7 +1,7 @@
 -- The history of a run with one thread.
 use Rattle.std.specs.Prelude.{◌≡◌, ℕ, ℤ, ◌<◌, List, [], ◌∷◌, ◌++◌, Option, Some, None, length, take}
 use Rattle.std.specs.Fmt.{signed_decimal}
-use Rattle.rb_prog.specs.Edge.{Adds}
+use Rattle.rb_edge.specs.Edge.{Adds}
 use Rattle.rb_prog.specs.declared.model.Call.{Call}
 use Rattle.rb_prog.specs.declared.model.Call.TheVariants.{Print, End}
 use Rattle.rb_prog.specs.declared.model.End.{End as Ending}

@@ -1,7 +1,3 @@
-pub mod Edge
-pub mod Memory
-pub mod Stream
-pub mod Transfer
 pub mod History
 pub mod Meaning
 pub mod Lines

@@ -12,8 +12,8 @@ use Rattle.rb_parser.specs.Limits.{PassesLimits}
 use Rattle.rb_checker.specs.declared.fault.CheckFault.{CheckFault}
 use Rattle.rb_checker.specs.Check.{fault_of}
 use Rattle.rb_command.specs.Words.{Wanted, run, command_of}
-use Rattle.rb_prog.specs.Edge.{Held, Adds}
-use Rattle.rb_prog.specs.Transfer.{ReadOf, NotHeld}
+use Rattle.rb_edge.specs.Edge.{Held, Adds}
+use Rattle.rb_edge.specs.Transfer.{ReadOf, NotHeld}
 use Rattle.rb_prog.specs.declared.model.Entry.{Entry}
 use Rattle.rb_prog.specs.declared.model.End.{End}
 use Rattle.rb_prog.specs.declared.model.End.TheVariants as ending

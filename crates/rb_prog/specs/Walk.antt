@@ -1,6 +1,6 @@
 -- What a print leaves.
 use Rattle.std.specs.Prelude.{◌≡◌, ℕ, ℤ, ◌<◌, List, [], ◌∷◌, ◌++◌, Option, Result, Ok, Err, length, take}
-use Rattle.rb_prog.specs.Edge.{Adds}
+use Rattle.rb_edge.specs.Edge.{Adds}
 use Rattle.rb_prog.specs.declared.model.Entry.{Entry}
 use Rattle.rb_prog.specs.declared.walk.Cut.{Cut}
 use Rattle.rb_prog.specs.declared.walk.Cut.TheVariants as cut

@@ -3,7 +3,6 @@
 
 mod assigned;
 mod built;
-pub mod edge;
 mod history;
 mod lines;
 mod locals;
@@ -14,7 +13,6 @@ mod source;
 #[cfg(test)]
 mod tests;
 mod top;
-mod transfer;
 mod walk;
 
 pub use history::RunFront;

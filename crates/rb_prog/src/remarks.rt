@@ -4,13 +4,13 @@ ghost use Rattle.std.specs.Prelude.{◌≡◌, ◌≤◌, ◌<◌, ℕ, List, ma
 ghost use Rattle.std.specs.List.{concat};
 ghost use Rattle.std.specs.Borrow.{Bor};
 ghost use Rattle.rb_tree.specs.Place.{line_of, column_of};
-ghost use Rattle.rb_prog.specs.Edge.{Rose, Told};
+ghost use Rattle.rb_edge.specs.Edge.{Rose, Told};
 ghost use Rattle.rb_prog.specs.Remarks.{fault_name, fault_line, refused_as, refusal_line, end_line};
 
-use crate::edge::Sink;
+use rb_edge::Sink;
 use crate::model::{End, Fault};
 use crate::refusal::{Refusal, Row, row_of};
-use crate::transfer::write_all;
+use rb_edge::write_all;
 use itoa::Buffer;
 use rb_tree::line_column;
 

@@ -2,7 +2,7 @@
 
 mod refusals;
 
-use crate::edge::{Gate, MemoryFiles, MemorySink, OpenGate};
+use rb_edge::{Gate, MemoryFiles, MemorySink, OpenGate};
 use crate::model::{Call, End, Fault, Reply, Value};
 use crate::{Report, run};
 use rb_tree::{Items, Span, Text};

@@ -2,18 +2,18 @@
 
 ghost use Rattle.std.specs.Prelude.{◌≡◌, ◌<◌, ◌≤◌, ◌∷◌, [], ◌++◌, Some, None, IsSome, IfSome, IfNone, IfOk, length, replicate, vec_len, vec_capacity};
 ghost use Rattle.rb_prog.specs.declared.model.End.TheVariants as ending;
-ghost use Rattle.rb_prog.specs.Edge.{Rose};
+ghost use Rattle.rb_edge.specs.Edge.{Rose};
 ghost use Rattle.rb_prog.specs.Meaning.{meaning};
 ghost use Rattle.rb_prog.specs.History.{line_of, ended, end_of};
 ghost use Rattle.rb_prog.specs.Walk.{Prints};
 ghost use Rattle.rb_prog.specs.Run.{IsRunOf};
 
-use crate::edge::Sink;
+use rb_edge::Sink;
 use crate::history::{History, RunFront};
 use crate::lines::{Deed, deed_of, nodes_of};
 use crate::locals::Locals;
 use crate::model::{Call, End, Entry, Fault, Reply, Value};
-use crate::transfer::write_all;
+use rb_edge::write_all;
 use rb_tree::{Items, Program, Text};
 use std::alloc::{AllocError, Global};
 

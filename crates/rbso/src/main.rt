@@ -1,7 +1,7 @@
 //! `rbso`: runs a script of a stated Ruby subset.
 #![tactic(auto)]
 
-use rb_prog::edge::{OpenGate, RealFiles, StreamSink};
+use rb_edge::{OpenGate, RealFiles, StreamSink};
 use rb_prog::run;
 use std::alloc::Global;
 use std::process::ExitCode;

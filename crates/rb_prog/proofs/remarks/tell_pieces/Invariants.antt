@@ -1,5 +1,5 @@
 use Rattle.std.proofs.Common.{◌≤◌, take}
-use Rattle.rb_prog.specs.Edge.{Adds}
+use Rattle.rb_edge.specs.Edge.{Adds}
 use Rattle.rb_prog.proofs.Telling.{joined}
 use Rattle.rb_prog.proofs.remarks.tell_pieces.Given as goal
 

@@ -1,5 +1,5 @@
 use Rattle.std.proofs.Common.{◌≡◌, ◌≤◌, ◌<◌, ◌*◌, length, vec_len, vec_capacity}
-use Rattle.rb_prog.specs.Edge.{Adds}
+use Rattle.rb_edge.specs.Edge.{Adds}
 use Rattle.rb_prog.specs.Meaning.{meaning}
 use Rattle.rb_prog.specs.History.{prints}
 use Rattle.rb_prog.proofs.Walking.{Underway}

@@ -1,5 +1,0 @@
-use Rattle.std.specs.Io.KnownBytes.{Keeps}
-use Rattle.rb_prog.proofs.edge.stream.write_some.Given as goal
-
-abbrev pub invariant-tries : goal.invariant-tries
-invariant-tries g l = Keeps (g.W.Write.contents l.fn.output) (g.W.Write.contents l.output)
