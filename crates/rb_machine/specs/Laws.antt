@@ -1,5 +1,5 @@
 -- What holds of the machine, whatever the script.
-use Rattle.std.specs.Prelude.{◌≡◌, ◌<◌, ◌≤◌, ℕ, suc, ◌+◌, Bool, true, false, ◌&&◌, nat_lt, ℤ, pos, negsuc, ◌+ℤ◌, ◌*ℤ◌, ◌≤ℤ◌, ◌<ℤ◌, int_lt, List, [], ◌∷◌, ◌++◌, length, map, take, slice_get, Option, Some, None, codes}
+use Rattle.std.specs.Prelude.{◌≡◌, ◌<◌, ◌≤◌, ℕ, suc, ◌+◌, Bool, true, false, ◌&&◌, not, nat_lt, ℤ, pos, negsuc, ◌+ℤ◌, ◌*ℤ◌, ◌≤ℤ◌, ◌<ℤ◌, int_lt, List, [], ◌∷◌, ◌++◌, length, map, take, slice_get, Option, Some, None, codes}
 use Rattle.std.specs.Option.{is_some}
 use Rattle.rb_tree.specs.declared.span.Span.{Span}
 use Rattle.rb_tree.specs.declared.span.NameId.{NameId}
@@ -13,13 +13,17 @@ use Rattle.rb_model.specs.Values.{Value, Nil, Int, Reference, truthy}
 use Rattle.rb_model.specs.Acts.{Act, Reply}
 use Rattle.rb_model.specs.Private.{Private, held}
 use Rattle.rb_model.specs.Ends.{End, Steps, Raised}
+use Rattle.rb_model.specs.Ends as ending
+use Rattle.rb_model.specs.Log.{Call, Entry, Log, prints}
+use Rattle.rb_model.specs.Log as log
 use Rattle.rb_machine.specs.Scopes.{Script, Scope, Text, text_of, Locals, with_locals, found, look, assign, fresh}
 use Rattle.rb_machine.specs.Control.{Control, State, On, Eval, Give, Leave, Following, Looping, Turning, Passing, Break, Next, Return, Turns, Counting, Cont, Then, Under, Test, Again, Turn, Frame, Aim, OnReceiver, Place, Argument, ReceiverOf, RightOfAnd, RightOfOr, ReadOf, WriteTo, Ended}
 use Rattle.rb_machine.specs.Methods.{deed, integer, Raises, quotient, modulo}
 use Rattle.rb_machine.specs.Call.{perform}
 use Rattle.rb_machine.specs.Give.{back}
 use Rattle.rb_machine.specs.Move.{Next as Coming, Go, Ask, Stop, move, replied, left_in, IsWant, max_depth}
-use Rattle.rb_machine.specs.Alone.{Runs, Alone}
+use Rattle.rb_machine.specs.Follows.{Follows}
+use Rattle.rb_machine.specs.Alone.{Runs, Alone, opening}
 
 -- from a state to another by silent moves
 pub data Quiet (S : Script) : State → State → Type 0 where
