@@ -14,4 +14,5 @@ pub mod Locals
 pub mod Turns
 pub mod Division
 pub mod Budgets
+pub mod Main
 pub mod Examples

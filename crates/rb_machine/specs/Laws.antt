@@ -1,5 +1,5 @@
 -- What holds of the machine, whatever the script.
-use Rattle.std.specs.Prelude.{◌≡◌, ◌<◌, ◌≤◌, ℕ, suc, ◌+◌, Bool, true, false, ◌&&◌, nat_lt, ℤ, pos, negsuc, ◌+ℤ◌, ◌*ℤ◌, ◌≤ℤ◌, ◌<ℤ◌, int_lt, List, [], ◌∷◌, ◌++◌, length, map, take, slice_get, Option, Some, None, codes}
+use Rattle.std.specs.Prelude.{◌≡◌, ◌<◌, ◌≤◌, ℕ, suc, ◌+◌, Bool, true, false, ◌&&◌, not, nat_lt, ℤ, pos, negsuc, ◌+ℤ◌, ◌*ℤ◌, ◌≤ℤ◌, ◌<ℤ◌, int_lt, List, [], ◌∷◌, ◌++◌, length, map, take, slice_get, Option, Some, None, codes}
 use Rattle.std.specs.Option.{is_some}
 use Rattle.rb_tree.specs.declared.span.Span.{Span}
 use Rattle.rb_tree.specs.declared.span.NameId.{NameId}
@@ -13,13 +13,17 @@ use Rattle.rb_model.specs.Values.{Value, Nil, Int, Reference, truthy}
 use Rattle.rb_model.specs.Acts.{Act, Reply}
 use Rattle.rb_model.specs.Private.{Private, held}
 use Rattle.rb_model.specs.Ends.{End, Steps, Raised}
+use Rattle.rb_model.specs.Ends as ending
+use Rattle.rb_model.specs.Log.{Call, Entry, Log, prints}
+use Rattle.rb_model.specs.Log as log
 use Rattle.rb_machine.specs.Scopes.{Script, Scope, Text, text_of, Locals, with_locals, found, look, assign, fresh}
 use Rattle.rb_machine.specs.Control.{Control, State, On, Eval, Give, Leave, Following, Looping, Turning, Passing, Break, Next, Return, Turns, Counting, Cont, Then, Under, Test, Again, Turn, Frame, Aim, OnReceiver, Place, Argument, ReceiverOf, RightOfAnd, RightOfOr, ReadOf, WriteTo, Ended}
 use Rattle.rb_machine.specs.Methods.{deed, integer, Raises, quotient, modulo}
 use Rattle.rb_machine.specs.Call.{perform}
 use Rattle.rb_machine.specs.Give.{back}
 use Rattle.rb_machine.specs.Move.{Next as Coming, Go, Ask, Stop, move, replied, left_in, IsWant, max_depth}
-use Rattle.rb_machine.specs.Alone.{Runs, Alone}
+use Rattle.rb_machine.specs.Follows.{Follows}
+use Rattle.rb_machine.specs.Alone.{Runs, Alone, opening}
 
 -- from a state to another by silent moves
 pub data Quiet (S : Script) : State → State → Type 0 where
@@ -273,3 +277,39 @@ AndGoesOnWhereTrue = (S : Script) (v : Value) (place : Place) (right : Node) (at
     × (truthy v ≡ true → move S (On (Give v) (Then (RightOfAnd right) ∷ k) sc d left) ≡ Go (On (Eval right) k sc d left))
     × (truthy v ≡ false → move S (On (Give v) (Then (ReadOf place AndThen right at) ∷ k) sc d left) ≡ Go (On (Give v) k sc d left))
     × (truthy v ≡ true → move S (On (Give v) (Then (ReadOf place AndThen right at) ∷ k) sc d left) ≡ Go (On (Eval right) (Then (WriteTo place at) ∷ k) sc d left))
+
+-- ---- the main thread, and its script alone
+
+-- whether a call asks something of a shared thing
+abbrev pub asks_thing : Call → Bool
+asks_thing (log.On thing act) = true
+asks_thing call = false
+
+-- whether a thread asked nothing of what is shared
+abbrev pub keeps_to_itself : List Entry → Bool
+keeps_to_itself [] = true
+keeps_to_itself (e ∷ es) = not (asks_thing e.call) && keeps_to_itself es
+
+-- the step of the last entry
+abbrev pub last_step : List Entry → ℕ
+last_step [] = 0
+last_step (e ∷ []) = e.step
+last_step (e ∷ f ∷ es) = last_step (f ∷ es)
+
+-- the ends that cut a thread short, in the place of its own end
+abbrev pub is_cut : End → Bool
+is_cut ending.Sink = true
+is_cut ending.Memory = true
+is_cut (ending.Full used asked) = true
+is_cut own = false
+
+-- A main thread that asks nothing of what is shared does what its script does alone: the bytes of its prints, its end, and the step of
+-- its last entry are the same.
+abbrev pub DoesAsAlone : Type 0
+DoesAsAlone = (S : Script) (N : ℕ) (l : Log) (how : End) → Follows S 0 N (opening S N) l how → keeps_to_itself l.entries ≡ true → is_cut how ≡ false
+    → Alone S N (prints l.entries) how (last_step l.entries)
+
+-- Where it is cut short, it has shown a front of what its script shows alone.
+abbrev pub ShowsAFront : Type 0
+ShowsAFront = (S : Script) (N : ℕ) (l : Log) (how : End) (bytes : List ℕ) (own : End) (steps : ℕ) → Follows S 0 N (opening S N) l how → keeps_to_itself l.entries ≡ true
+    → Alone S N bytes own steps → (behind : List ℕ) × (bytes ≡ prints l.entries ++ behind)

@@ -98,3 +98,10 @@ pub fn right_sides()
     ensures or { law.OrGoesOnWhereFalse }
     ensures and { law.AndGoesOnWhereTrue }
 {}
+
+/// A main thread that asks nothing of what is shared does what its script does alone; and where it is cut short, it has shown a front of
+/// what its script shows alone.
+pub fn main_thread()
+    ensures whole { law.DoesAsAlone }
+    ensures front { law.ShowsAFront }
+{}
