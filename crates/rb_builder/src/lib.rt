@@ -17,8 +17,6 @@ mod numbers;
 mod operand;
 mod said;
 mod script;
-#[cfg(test)]
-mod tests;
 mod word;
 
 pub use block::{GrownBlock, GrownParams};

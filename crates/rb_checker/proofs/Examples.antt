@@ -1,5 +1,5 @@
--- The rules by example, on the events of texts.
-use Rattle.std.proofs.Common.{◌≡◌, ℕ, refl, List, [], ◌∷◌, ◌++◌}
+-- The rules by example, on the events of texts, and which fault counts.
+use Rattle.std.proofs.Common.{◌≡◌, ℕ, refl, List, [], ◌∷◌, ◌++◌, Some}
 use Rattle.std.specs.Prelude.{codes}
 use Rattle.rb_tree.specs.declared.span.Span.{Span}
 use Rattle.rb_tree.specs.declared.span.NameId.{NameId}
@@ -8,6 +8,7 @@ use Rattle.rb_checker.specs.declared.event.Sight.TheVariants as sight
 use Rattle.rb_checker.specs.declared.event.Around.TheVariants as around
 use Rattle.rb_checker.specs.declared.fault.CheckFault.{CheckFault}
 use Rattle.rb_checker.specs.declared.fault.CheckFault.TheVariants as fault
+use Rattle.rb_checker.specs.Fault.{first_of}
 use Rattle.rb_checker.specs.Around.{placed}
 use Rattle.rb_checker.specs.Events.{event, inside}
 use Rattle.rb_checker.specs.Rules.{top_level, top_level_method, broken}
@@ -102,3 +103,32 @@ param_of_the_thread = refl
 -- `Thread.new(x = 1) { x }`
 assigned_in_the_arguments : settles (event sight.Starts (at 7) ∷ sets x 13 [] ++ inside around.Thread (at 7) (event (sight.Reads x) (at 20) ∷ [])) ≡ fault.UnsettledCapture (at 20) ∷ []
 assigned_in_the_arguments = refl
+
+-- of two faults the one that stands first counts, whatever their rules
+first_place : first_of (fault.UnknownName (at 9) ∷ fault.SelfOutside (at 3) ∷ []) ≡ Some (fault.SelfOutside (at 3))
+first_place = refl
+
+first_of_one_rule : first_of (fault.SelfOutside (at 9) ∷ fault.SelfOutside (at 3) ∷ []) ≡ Some (fault.SelfOutside (at 3))
+first_of_one_rule = refl
+
+-- at one place that of the lower number, in the order of the rules
+name_before_class : first_of (fault.UnknownClass (at 3) ∷ fault.UnknownName (at 3) ∷ []) ≡ Some (fault.UnknownName (at 3))
+name_before_class = refl
+
+class_before_definition : first_of (fault.TwiceDefined (at 3) ∷ fault.UnknownClass (at 3) ∷ []) ≡ Some (fault.UnknownClass (at 3))
+class_before_definition = refl
+
+definition_before_capture : first_of (fault.UnsettledCapture (at 3) ∷ fault.TwiceDefined (at 3) ∷ []) ≡ Some (fault.TwiceDefined (at 3))
+definition_before_capture = refl
+
+capture_before_variables : first_of (fault.TooManyFields (at 3) ∷ fault.UnsettledCapture (at 3) ∷ []) ≡ Some (fault.UnsettledCapture (at 3))
+capture_before_variables = refl
+
+variables_before_classes : first_of (fault.TooManyClasses (at 3) ∷ fault.TooManyFields (at 3) ∷ []) ≡ Some (fault.TooManyFields (at 3))
+variables_before_classes = refl
+
+classes_before_break : first_of (fault.BreakOutside (at 3) ∷ fault.TooManyClasses (at 3) ∷ []) ≡ Some (fault.TooManyClasses (at 3))
+classes_before_break = refl
+
+break_before_self : first_of (fault.SelfOutside (at 3) ∷ fault.BreakOutside (at 3) ∷ []) ≡ Some (fault.BreakOutside (at 3))
+break_before_self = refl

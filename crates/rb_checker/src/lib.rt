@@ -19,8 +19,6 @@ mod repeated;
 mod rules;
 mod sets;
 mod settling;
-#[cfg(test)]
-mod tests;
 mod texts;
 mod unsettled;
 mod walking;

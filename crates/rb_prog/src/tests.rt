@@ -1,6 +1,8 @@
 // Whole runs over files and sinks in memory. The expected values are worked out by hand from the language.
 
+mod names;
 mod refusals;
+mod sources;
 
 use rb_edge::{Gate, MemoryFiles, MemorySink, OpenGate};
 use crate::model::{Call, End, Fault, Reply, Value};

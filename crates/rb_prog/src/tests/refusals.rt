@@ -1,5 +1,6 @@
 // Each refusal and each fault, with its whole line on standard error.
 
+use super::sources::{numbered, repeated};
 use super::{Outcome, ran_source};
 use std::alloc::{AllocError, Global};
 use std::test::Fail;
@@ -83,15 +84,6 @@ fn each_refusal_has_its_line(rt: HostRuntime) -> Result<(), Fail> {
     Ok(())
 }
 
-/// A text so many times, behind another.
-fn repeated(alloc: Global, front: &str, text: &str, times: u32) -> Result<String, AllocError> {
-    let mut all = String::from_str(alloc, front)?;
-    for _ in 0..times {
-        all.push_str(text)?;
-    }
-    Ok(all)
-}
-
 #[test]
 fn more_than_64_open_brackets_are_too_nested(rt: HostRuntime) -> Result<(), Fail> {
     for (front, said) in [
@@ -112,50 +104,47 @@ fn more_than_64_open_brackets_are_too_nested(rt: HostRuntime) -> Result<(), Fail
     Ok(())
 }
 
-/// Lines with the numbers from 0 on, each between a front and a back, behind a beginning.
-fn numbered(
-    alloc: Global,
-    beginning: &str,
-    front: &str,
-    back: &str,
-    lines: u32,
-) -> Result<String, AllocError> {
-    let mut all = String::from_str(alloc, beginning)?;
-    for number in 0..lines {
-        let line = format!(in alloc; "{front}{number}{back}\n")?;
-        all.push_str(line.as_str())?;
-    }
-    Ok(all)
-}
-
 #[test]
 fn too_many_variables_and_classes_are_told_at_the_first_that_is_too_many(
     rt: HostRuntime,
 ) -> Result<(), Fail> {
-    for (beginning, front, back, lines, said) in [
-        ("", "puts $g", "", 257, "13 TooManyFields at 257:6"),
-        ("\n", "puts $g", "", 257, "13 TooManyFields at 258:6"),
+    for (beginning, front, back, end, lines, said) in [
+        ("", "puts $g", "", "", 257, "13 TooManyFields at 257:6"),
+        ("\n", "puts $g", "", "", 257, "13 TooManyFields at 258:6"),
         (
             "class A\ndef f\n",
             "puts @f",
             "",
+            "end\nend",
             33,
             "13 TooManyFields at 35:6",
         ),
-        ("", "class C", "; end", 257, "14 TooManyClasses at 257:7"),
-        ("\n", "class C", "; end", 257, "14 TooManyClasses at 258:7"),
+        (
+            "",
+            "class C",
+            "; end",
+            "",
+            257,
+            "14 TooManyClasses at 257:7",
+        ),
+        (
+            "\n",
+            "class C",
+            "; end",
+            "",
+            257,
+            "14 TooManyClasses at 258:7",
+        ),
         (
             "puts 1\n\n",
             "class C",
             "; end",
+            "",
             257,
             "14 TooManyClasses at 259:7",
         ),
     ] {
-        let mut source = numbered(rt.alloc(), beginning, front, back, lines)?;
-        if beginning.starts_with("class") {
-            source.push_str("end\nend\n")?;
-        }
+        let source = numbered(rt.alloc(), beginning, front, back, end, lines)?;
         let Outcome { err, .. } = ran_source(rt.alloc(), source.as_bytes())?;
         assert_eq!(rt;
             err.bytes(),
