@@ -14,8 +14,7 @@ use rb_model::{Answer, Call, End, OneStore, Value};
 /// Makes the end entry of the main thread.
 pub(crate) fn close<O: OneStore + Drop>(mut store: O, step: u64, end: End) -> (O, End)
     requires unended { has_end (O.log store).entries ≡ false }
-    ensures closes { Closes step (O.log store) (over end) (O.log result.0) (over result.1) }
-    ensures origin { O.origin result.0 ≡ O.origin store }
+    ensures { Closes step (O.log store) (over end) (O.log result.0) (over result.1) }
 {
     let call = Call::End(end);
     match store.call(step, &call) {

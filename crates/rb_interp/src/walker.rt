@@ -245,7 +245,6 @@ impl<'p, O: OneStore + Drop> Walker<'p, O> {
         ensures base { self.new.base ≡ self.old.base }
         ensures left { self.new.left ≡ self.old.left }
         ensures context { self.new.context ≡ self.old.context }
-        ensures origin { O.origin self.new.store ≡ O.origin self.old.store }
         ensures unended { has_end (O.log self.new.store).entries ≡ false }
         ensures came { Shows self.old.context.names.now self.old.context.steps form (map plain args.now) at self.old.left (O.log self.old.store) (O.log self.new.store) (outcome result self.new.value self.new.leave) }
     {
@@ -309,7 +308,6 @@ impl<'p, O: OneStore + Drop> Walker<'p, O> {
         ensures counted { goes_on (outcome result self.new.value self.new.leave) ≡ true → self.new.left < self.old.left }
         ensures base { self.new.base ≡ self.old.base }
         ensures context { self.new.context ≡ self.old.context }
-        ensures origin { O.origin self.new.store ≡ O.origin self.old.store }
         ensures room { length room.new ≡ length room.old }
         ensures less { self.new.left ≤ self.old.left }
         ensures unended { has_end (O.log self.new.store).entries ≡ false }
@@ -333,7 +331,6 @@ impl<'p, O: OneStore + Drop> Walker<'p, O> {
         requires steps { self.old.left ≤ self.old.context.steps }
         ensures base { self.new.base ≡ self.old.base }
         ensures context { self.new.context ≡ self.old.context }
-        ensures origin { O.origin self.new.store ≡ O.origin self.old.store }
         ensures room { length room.new ≡ length room.old }
         ensures less { self.new.left ≤ self.old.left }
         ensures unended { has_end (O.log self.new.store).entries ≡ false }
@@ -418,7 +415,6 @@ impl<'p, O: OneStore + Drop> Walker<'p, O> {
         requires steps { self.old.left ≤ self.old.context.steps }
         ensures base { self.new.base ≡ self.old.base }
         ensures context { self.new.context ≡ self.old.context }
-        ensures origin { O.origin self.new.store ≡ O.origin self.old.store }
         ensures room { length room.new ≡ length room.old }
         ensures less { self.new.left ≤ self.old.left }
         ensures unended { has_end (O.log self.new.store).entries ≡ false }
@@ -447,7 +443,6 @@ impl<'p, O: OneStore + Drop> Walker<'p, O> {
         requires steps { self.old.left ≤ self.old.context.steps }
         ensures base { self.new.base ≡ self.old.base }
         ensures context { self.new.context ≡ self.old.context }
-        ensures origin { O.origin self.new.store ≡ O.origin self.old.store }
         ensures room { length room.new ≡ length room.old }
         ensures less { self.new.left ≤ self.old.left }
         ensures unended { has_end (O.log self.new.store).entries ≡ false }
@@ -497,7 +492,6 @@ impl<'p, O: OneStore + Drop> Walker<'p, O> {
         requires came { is_left current ≡ false }
         ensures base { self.new.base ≡ self.old.base }
         ensures context { self.new.context ≡ self.old.context }
-        ensures origin { O.origin self.new.store ≡ O.origin self.old.store }
         ensures room { length room.new ≡ length room.old }
         ensures less { self.new.left ≤ self.old.left }
         ensures unended { has_end (O.log self.new.store).entries ≡ false }
@@ -551,7 +545,6 @@ impl<'p, O: OneStore + Drop> Walker<'p, O> {
         requires steps { self.old.left ≤ self.old.context.steps }
         ensures base { self.new.base ≡ self.old.base }
         ensures context { self.new.context ≡ self.old.context }
-        ensures origin { O.origin self.new.store ≡ O.origin self.old.store }
         ensures room { length room.new ≡ length room.old }
         ensures less { self.new.left ≤ self.old.left }
         ensures unended { has_end (O.log self.new.store).entries ≡ false }
@@ -585,7 +578,6 @@ impl<'p, O: OneStore + Drop> Walker<'p, O> {
         requires steps { self.old.left ≤ self.old.context.steps }
         ensures base { self.new.base ≡ self.old.base }
         ensures context { self.new.context ≡ self.old.context }
-        ensures origin { O.origin self.new.store ≡ O.origin self.old.store }
         ensures room { length room.new ≡ length room.old }
         ensures less { self.new.left ≤ self.old.left }
         ensures unended { has_end (O.log self.new.store).entries ≡ false }
@@ -620,7 +612,6 @@ impl<'p, O: OneStore + Drop> Walker<'p, O> {
         requires came { is_left current ≡ false }
         ensures base { self.new.base ≡ self.old.base }
         ensures context { self.new.context ≡ self.old.context }
-        ensures origin { O.origin self.new.store ≡ O.origin self.old.store }
         ensures room { length room.new ≡ length room.old }
         ensures less { self.new.left ≤ self.old.left }
         ensures unended { has_end (O.log self.new.store).entries ≡ false }
@@ -657,7 +648,6 @@ impl<'p, O: OneStore + Drop> Walker<'p, O> {
         requires steps { self.old.left ≤ self.old.context.steps }
         ensures base { self.new.base ≡ self.old.base }
         ensures context { self.new.context ≡ self.old.context }
-        ensures origin { O.origin self.new.store ≡ O.origin self.old.store }
         ensures room { length room.new ≡ length room.old }
         ensures less { self.new.left ≤ self.old.left }
         ensures unended { has_end (O.log self.new.store).entries ≡ false }
@@ -686,7 +676,6 @@ impl<'p, O: OneStore + Drop> Walker<'p, O> {
         requires steps { self.old.left ≤ self.old.context.steps }
         ensures base { self.new.base ≡ self.old.base }
         ensures context { self.new.context ≡ self.old.context }
-        ensures origin { O.origin self.new.store ≡ O.origin self.old.store }
         ensures room { length room.new ≡ length room.old }
         ensures less { self.new.left ≤ self.old.left }
         ensures unended { has_end (O.log self.new.store).entries ≡ false }
@@ -727,7 +716,6 @@ impl<'p, O: OneStore + Drop> Walker<'p, O> {
         requires steps { self.old.left ≤ self.old.context.steps }
         ensures base { self.new.base ≡ self.old.base }
         ensures context { self.new.context ≡ self.old.context }
-        ensures origin { O.origin self.new.store ≡ O.origin self.old.store }
         ensures room { length room.new ≡ length room.old }
         ensures less { self.new.left ≤ self.old.left }
         ensures unended { has_end (O.log self.new.store).entries ≡ false }
@@ -762,7 +750,6 @@ impl<'p, O: OneStore + Drop> Walker<'p, O> {
         requires steps { self.old.left ≤ self.old.context.steps }
         ensures base { self.new.base ≡ self.old.base }
         ensures context { self.new.context ≡ self.old.context }
-        ensures origin { O.origin self.new.store ≡ O.origin self.old.store }
         ensures room { length room.new ≡ length room.old }
         ensures less { self.new.left ≤ self.old.left }
         ensures unended { has_end (O.log self.new.store).entries ≡ false }
@@ -835,7 +822,6 @@ impl<'p, O: OneStore + Drop> Walker<'p, O> {
         requires steps { self.old.left ≤ self.old.context.steps }
         ensures base { self.new.base ≡ self.old.base }
         ensures context { self.new.context ≡ self.old.context }
-        ensures origin { O.origin self.new.store ≡ O.origin self.old.store }
         ensures room { length room.new ≡ length room.old }
         ensures less { self.new.left ≤ self.old.left }
         ensures unended { has_end (O.log self.new.store).entries ≡ false }
@@ -875,7 +861,6 @@ impl<'p, O: OneStore + Drop> Walker<'p, O> {
         requires steps { self.old.left ≤ self.old.context.steps }
         ensures base { self.new.base ≡ self.old.base }
         ensures context { self.new.context ≡ self.old.context }
-        ensures origin { O.origin self.new.store ≡ O.origin self.old.store }
         ensures room { length room.new ≡ length room.old }
         ensures less { self.new.left ≤ self.old.left }
         ensures unended { has_end (O.log self.new.store).entries ≡ false }
@@ -923,7 +908,6 @@ impl<'p, O: OneStore + Drop> Walker<'p, O> {
         requires steps { self.old.left ≤ self.old.context.steps }
         ensures base { self.new.base ≡ self.old.base }
         ensures context { self.new.context ≡ self.old.context }
-        ensures origin { O.origin self.new.store ≡ O.origin self.old.store }
         ensures room { length room.new ≡ length room.old }
         ensures less { self.new.left ≤ self.old.left }
         ensures unended { has_end (O.log self.new.store).entries ≡ false }
@@ -969,7 +953,6 @@ impl<'p, O: OneStore + Drop> Walker<'p, O> {
         requires steps { self.old.left ≤ self.old.context.steps }
         ensures base { self.new.base ≡ self.old.base }
         ensures context { self.new.context ≡ self.old.context }
-        ensures origin { O.origin self.new.store ≡ O.origin self.old.store }
         ensures room { length room.new ≡ length room.old }
         ensures less { self.new.left ≤ self.old.left }
         ensures unended { has_end (O.log self.new.store).entries ≡ false }
@@ -998,7 +981,6 @@ impl<'p, O: OneStore + Drop> Walker<'p, O> {
         ensures rises { self.old.base ≤ self.new.base }
         ensures fits { self.old.base ≤ length room.old → self.new.base ≤ length room.new }
         ensures context { self.new.context ≡ self.old.context }
-        ensures origin { O.origin self.new.store ≡ O.origin self.old.store }
         ensures room { length room.new ≡ length room.old }
         ensures less { self.new.left ≤ self.old.left }
         ensures unended { has_end (O.log self.new.store).entries ≡ false }
@@ -1026,7 +1008,6 @@ impl<'p, O: OneStore + Drop> Walker<'p, O> {
         requires steps { self.old.left ≤ self.old.context.steps }
         ensures base { self.new.base ≡ self.old.base }
         ensures context { self.new.context ≡ self.old.context }
-        ensures origin { O.origin self.new.store ≡ O.origin self.old.store }
         ensures room { length room.new ≡ length room.old }
         ensures less { self.new.left ≤ self.old.left }
         ensures unended { has_end (O.log self.new.store).entries ≡ false }
@@ -1074,7 +1055,6 @@ impl<'p, O: OneStore + Drop> Walker<'p, O> {
         requires steps { self.old.left ≤ self.old.context.steps }
         ensures base { self.new.base ≡ self.old.base }
         ensures context { self.new.context ≡ self.old.context }
-        ensures origin { O.origin self.new.store ≡ O.origin self.old.store }
         ensures room { length room.new ≡ length room.old }
         ensures less { self.new.left ≤ self.old.left }
         ensures unended { has_end (O.log self.new.store).entries ≡ false }
@@ -1098,7 +1078,6 @@ impl<'p, O: OneStore + Drop> Walker<'p, O> {
         requires steps { self.old.left ≤ self.old.context.steps }
         ensures base { self.new.base ≡ self.old.base }
         ensures context { self.new.context ≡ self.old.context }
-        ensures origin { O.origin self.new.store ≡ O.origin self.old.store }
         ensures room { length room.new ≡ length room.old }
         ensures less { self.new.left ≤ self.old.left }
         ensures unended { has_end (O.log self.new.store).entries ≡ false }
@@ -1122,7 +1101,6 @@ impl<'p, O: OneStore + Drop> Walker<'p, O> {
         requires steps { self.old.left ≤ self.old.context.steps }
         ensures base { self.new.base ≡ self.old.base }
         ensures context { self.new.context ≡ self.old.context }
-        ensures origin { O.origin self.new.store ≡ O.origin self.old.store }
         ensures room { length room.new ≡ length room.old }
         ensures less { self.new.left ≤ self.old.left }
         ensures unended { has_end (O.log self.new.store).entries ≡ false }
@@ -1154,7 +1132,6 @@ impl<'p, O: OneStore + Drop> Walker<'p, O> {
         requires steps { self.old.left ≤ self.old.context.steps }
         ensures base { self.new.base ≡ self.old.base }
         ensures context { self.new.context ≡ self.old.context }
-        ensures origin { O.origin self.new.store ≡ O.origin self.old.store }
         ensures room { length room.new ≡ length room.old }
         ensures less { self.new.left ≤ self.old.left }
         ensures unended { has_end (O.log self.new.store).entries ≡ false }
@@ -1178,7 +1155,6 @@ impl<'p, O: OneStore + Drop> Walker<'p, O> {
         requires steps { self.old.left ≤ self.old.context.steps }
         ensures base { self.new.base ≡ self.old.base }
         ensures context { self.new.context ≡ self.old.context }
-        ensures origin { O.origin self.new.store ≡ O.origin self.old.store }
         ensures room { length room.new ≡ length room.old }
         ensures less { self.new.left ≤ self.old.left }
         ensures unended { has_end (O.log self.new.store).entries ≡ false }
@@ -1208,7 +1184,6 @@ impl<'p, O: OneStore + Drop> Walker<'p, O> {
         requires steps { self.old.left ≤ self.old.context.steps }
         ensures base { self.new.base ≡ self.old.base }
         ensures context { self.new.context ≡ self.old.context }
-        ensures origin { O.origin self.new.store ≡ O.origin self.old.store }
         ensures room { length room.new ≡ length room.old }
         ensures less { self.new.left ≤ self.old.left }
         ensures unended { has_end (O.log self.new.store).entries ≡ false }
@@ -1245,7 +1220,6 @@ impl<'p, O: OneStore + Drop> Walker<'p, O> {
         requires steps { self.old.left ≤ self.old.context.steps }
         ensures base { self.new.base ≡ self.old.base }
         ensures context { self.new.context ≡ self.old.context }
-        ensures origin { O.origin self.new.store ≡ O.origin self.old.store }
         ensures room { length room.new ≡ length room.old }
         ensures less { self.new.left ≤ self.old.left }
         ensures unended { has_end (O.log self.new.store).entries ≡ false }
@@ -1267,7 +1241,6 @@ impl<'p, O: OneStore + Drop> Walker<'p, O> {
         requires steps { self.old.left ≤ self.old.context.steps }
         ensures base { self.new.base ≡ self.old.base }
         ensures context { self.new.context ≡ self.old.context }
-        ensures origin { O.origin self.new.store ≡ O.origin self.old.store }
         ensures room { length room.new ≡ length room.old }
         ensures less { self.new.left ≤ self.old.left }
         ensures unended { has_end (O.log self.new.store).entries ≡ false }
@@ -1333,7 +1306,6 @@ impl<'p, O: OneStore + Drop> Walker<'p, O> {
         requires steps { self.old.left ≤ self.old.context.steps }
         requires base { self.old.base ≡ self.old.context.script.now.main_size }
         ensures context { self.new.context ≡ self.old.context }
-        ensures origin { O.origin self.new.store ≡ O.origin self.old.store }
         ensures unended { has_end (O.log self.new.store).entries ≡ false }
         ensures less { self.new.left ≤ self.old.left }
         ensures came { (S : Script) (start : State) (h : Private) (k : List Cont) → StandsFor self.old.context.script.now S → S.program.names ≡ self.old.context.names.now
@@ -1357,7 +1329,6 @@ pub fn run_main<'p, O: OneStore + Drop>(
     room: &mut [Value],
 ) -> (O, End)
     requires begun { O.log store ≡ log.fresh }
-    ensures origin { O.origin result.0 ≡ O.origin store }
     ensures follows { (S : Script) → StandsFor context.entry.script.now S → S.program.names ≡ context.entry.names.now → Follows S 0 context.entry.steps (opening S context.entry.steps) (O.log result.0) (over result.1) }
 {
     let mut walker = Walker {

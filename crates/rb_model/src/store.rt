@@ -1,6 +1,6 @@
 // The store of a run with one thread.
 
-ghost use Rattle.std.specs.Prelude.{◌≡◌, ◌≤◌, true, false, ℕ, List, Option};
+ghost use Rattle.std.specs.Prelude.{◌≡◌, ◌≤◌, true, false, ℕ};
 ghost use Rattle.rb_model.specs.Log.{Log as Calls, Answers, is_sure, has_end, asked};
 
 use crate::call::{Answer, Call};
@@ -9,9 +9,6 @@ use crate::call::{Answer, Call};
 pub trait OneStore {
     /// What it was asked, and what it refused.
     ghost log: { Self → Calls };
-
-    /// What its sink told before the first call, where it tells now just that and the prints behind it. No call changes it.
-    ghost origin: { Self → Option (Option (List ℕ)) };
 
     /// How often its sink has failed.
     ghost faults: { Self → ℕ };
@@ -22,6 +19,5 @@ pub trait OneStore {
         ensures answers { Answers result step (asked call.now) (log self.old) (log self.new) }
         // Room for an end that is no value was taken before.
         ensures sure { is_sure (asked call.now) ≡ true → result ≡ Answer.Done }
-        ensures origin { origin self.new ≡ origin self.old }
         ensures rises { faults self.old ≤ faults self.new };
 }

@@ -1,4 +1,4 @@
-use Rattle.std.proofs.Common.{◌≡◌, ◌∙◌, ℕ, sym, subst, List, [], ◌∷◌}
+use Rattle.std.proofs.Common.{◌≡◌, ℕ, sym, subst, List, [], ◌∷◌}
 use Rattle.rb_model.specs.Values.{Nil}
 use Rattle.rb_model.specs.Private.{bare}
 use Rattle.rb_machine.specs.Control.{Then, Instead}
@@ -10,13 +10,12 @@ use Rattle.rb_interp.proofs.walker.run_main.Goals as goal
 pub returns : goal.returns
 returns g c =
     record {
-      origin = c.close.ensures.origin ∙ c.top-came.ensures.origin;
       follows = λ S st e.
           let top = c.top-came in
           let budget = c.args.context.steps in
           let start = opening S budget in
           let begun = subst (λ l. At S 0 budget start l (bare 0) start) (sym c.requires.begun) here in
           let came = top.ensures.came S start (bare 0) (Then (Instead Nil) ∷ []) st e begun in
-          let closes = rw (c.end_of.ensures top.new.self.value) at c.close.ensures.closes in
+          let closes = rw (c.end_of.ensures top.new.self.value) at c.close.ensures in
           follows S budget start (bare 0) _ _ _ _ _ 0 _ came closes;
     }

@@ -320,7 +320,6 @@ body-nodes-preserved g m c =
     record {
       base = w.base ∙ old.base;
       context = w.context ∙ old.context;
-      origin = w.origin ∙ old.origin;
       room = w.room ∙ old.room;
       less = omega (arith, w.less, old.less);
       unended = w.unended;
@@ -471,7 +470,6 @@ repeat-turns-preserved g m c =
     record {
       base = y.base ∙ (w.base ∙ old.base);
       context = y.context ∙ (w.context ∙ old.context);
-      origin = y.origin ∙ (w.origin ∙ old.origin);
       room = y.room ∙ (w.room ∙ old.room);
       less = omega (arith, y.less, w.less, old.less);
       unended = y.unended;
@@ -509,7 +507,6 @@ repeat-turns-preserved-then-is_left g m c =
     record {
       base = w.base ∙ old.base;
       context = w.context ∙ old.context;
-      origin = w.origin ∙ old.origin;
       room = w.room ∙ old.room;
       less = omega (arith, w.less, old.less);
       unended = w.unended;
@@ -963,7 +960,6 @@ arguments-each-preserved g m c =
       base = omega (arith, t.base, w.base, old.base);
       bound = λ r. omega (arith, long, t.base, c.if-self-room.false);
       context = t.context ∙ (w.context ∙ old.context);
-      origin = ap g.O.OneStore.origin t.store ∙ (w.origin ∙ old.origin);
       room = long ∙ (w.room ∙ old.room);
       less = omega (arith, t.left, w.less, old.less);
       unended = rw t.store w.unended;
@@ -1382,7 +1378,6 @@ text-pieces-preserved g m c =
       | text-in-Text+in_default x ↦ rw (x.self-is, x.room-is) (record {
         base = inv.base;
         context = inv.context;
-        origin = inv.origin;
         room = inv.room;
         less = inv.less;
         unended = inv.unended;
@@ -1399,7 +1394,6 @@ text-pieces-preserved g m c =
           rw (x.self-is, x.room-is) (record {
             base = t.base ∙ (y.base ∙ inv.base);
             context = t.context ∙ (y.context ∙ inv.context);
-            origin = ap g.O.OneStore.origin t.store ∙ (y.origin ∙ inv.origin);
             room = y.room ∙ inv.room;
             less = omega (arith, t.left, y.less, inv.less);
             unended = rw t.store y.unended;
@@ -1548,7 +1542,6 @@ turns-turns-preserved g m c =
     record {
       base = y.base ∙ old.base;
       context = y.context ∙ old.context;
-      origin = y.origin ∙ old.origin;
       room = y.room ∙ (c.start_block.ensures.room ∙ old.room);
       less = omega (arith, y.less, old.less);
       unended = y.unended;

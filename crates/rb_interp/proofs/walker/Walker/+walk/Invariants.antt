@@ -95,7 +95,6 @@ invariant-body-nodes g l =
     record {
       base : l.self.base ≡ l.fn.self.base;
       context : l.self.context ≡ l.fn.self.context;
-      origin : g.O.OneStore.origin l.self.store ≡ g.O.OneStore.origin l.fn.self.store;
       room : length l.room ≡ length l.fn.room;
       less : l.self.left ≤ l.fn.self.left;
       unended : has_end (g.O.OneStore.log l.self.store).entries ≡ false;
@@ -109,7 +108,6 @@ invariant-repeat-turns g l =
     record {
       base : l.self.base ≡ l.fn.self.base;
       context : l.self.context ≡ l.fn.self.context;
-      origin : g.O.OneStore.origin l.self.store ≡ g.O.OneStore.origin l.fn.self.store;
       room : length l.room ≡ length l.fn.room;
       less : l.self.left ≤ l.fn.self.left;
       unended : has_end (g.O.OneStore.log l.self.store).entries ≡ false;
@@ -125,7 +123,6 @@ invariant-turns-turns g l =
     record {
       base : l.self.base ≡ l.fn.self.base;
       context : l.self.context ≡ l.fn.self.context;
-      origin : g.O.OneStore.origin l.self.store ≡ g.O.OneStore.origin l.fn.self.store;
       room : length l.room ≡ length l.fn.room;
       less : l.self.left ≤ l.fn.self.left;
       unended : has_end (g.O.OneStore.log l.self.store).entries ≡ false;
@@ -143,7 +140,6 @@ invariant-text-pieces g l =
     record {
       base : l.self.base ≡ l.fn.self.base;
       context : l.self.context ≡ l.fn.self.context;
-      origin : g.O.OneStore.origin l.self.store ≡ g.O.OneStore.origin l.fn.self.store;
       room : length l.room ≡ length l.fn.room;
       less : l.self.left ≤ l.fn.self.left;
       unended : has_end (g.O.OneStore.log l.self.store).entries ≡ false;
@@ -157,7 +153,6 @@ invariant-arguments-each g l =
       base : l.self.base ≡ l.fn.self.base + l.arg-index;
       bound : l.fn.self.base ≤ length l.fn.room → l.self.base ≤ length l.room;
       context : l.self.context ≡ l.fn.self.context;
-      origin : g.O.OneStore.origin l.self.store ≡ g.O.OneStore.origin l.fn.self.store;
       room : length l.room ≡ length l.fn.room;
       less : l.self.left ≤ l.fn.self.left;
       unended : has_end (g.O.OneStore.log l.self.store).entries ≡ false;

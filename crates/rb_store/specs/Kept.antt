@@ -1,0 +1,46 @@
+-- What the store keeps, as a log; and what its sink has taken.
+use Rattle.std.specs.Prelude.{ℕ, ◌<◌, ◌≡◌, Bool, ◌||◌, ◌==◌, nat_lt, ◌^◌, ◌-◌, is_none, List, [], ◌∷◌, ◌++◌, map, take, length, Option, Some, None}
+use Rattle.std.specs.Option.{option_map}
+use Rattle.rb_model.specs.Log.{Log, Entry, Refusal, Print, asked, plain_entry, prints}
+use Rattle.rb_edge.specs.Edge.{Adds}
+use Rattle.rb_store.specs.declared.history.Entry.{Entry as Kept}
+use Rattle.rb_store.specs.declared.store.Refused.{Refused}
+
+-- an entry of the code, as one of the log of the main thread
+abbrev pub entry_of : Kept → Entry
+entry_of e = plain_entry e.step (asked e.call)
+
+-- the last entry, where the thread has ended
+abbrev pub closed_by : Option Kept → List Kept
+closed_by None = []
+closed_by (Some e) = e ∷ []
+
+-- the print that the sink refused
+abbrev pub refusals_of : Option Refused → List Refusal
+refusals_of None = []
+refusals_of (Some r) = record { call = Print r.text; moved = []; before = r.before } ∷ []
+
+abbrev pub log_of : List Kept → Option Kept → Option Refused → Log
+log_of entries closing refused = record { entries = map entry_of (entries ++ closed_by closing); refusals = refusals_of refused }
+
+-- the bytes of a refused print that the sink took all the same
+abbrev pub front_of : Option Refused → List ℕ
+front_of None = []
+front_of (Some r) = take r.taken r.text
+
+-- the bytes that the sink took: those of the prints, and behind them a front of the one that it refused
+abbrev pub taken_of : List Kept → Option Refused → List ℕ
+taken_of entries refused = prints (map entry_of entries) ++ front_of refused
+
+-- whether a count of faults rose, or stands at the last value of a `u64`
+abbrev pub has_risen : ℕ → ℕ → Bool
+has_risen before now = nat_lt before now || now == 2 ^ 64 - 1
+
+-- What was written, where a log is all that was asked: the bytes of its prints, and behind them a front of the print that was refused,
+-- which is not the whole of it.
+abbrev pub Written : Option (List ℕ) → Option (List ℕ) → Log → Type 0
+Written old new l = WrittenBut old new (prints l.entries) l.refusals
+  where
+    abbrev WrittenBut : Option (List ℕ) → Option (List ℕ) → List ℕ → List Refusal → Type 0
+    WrittenBut old new bytes [] = Adds old new bytes
+    WrittenBut old new bytes (r ∷ rs) = (n : ℕ) × (front : List ℕ) × (n < length front) × Adds old new (bytes ++ take n front)
