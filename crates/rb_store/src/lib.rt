@@ -1,8 +1,0 @@
-//! The store of a run with one thread: its history in memory, and the sink that its prints are written to.
-#![tactic(auto)]
-
-mod history;
-mod store;
-
-pub use history::{Entry, RunFront};
-pub use store::{Begun, MainStore};
