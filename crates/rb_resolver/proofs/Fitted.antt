@@ -1,6 +1,6 @@
 -- Where code is right, by its parts.
-use Rattle.std.proofs.Common.{◌≡◌, ℕ, ◌+◌, ◌<◌, ◌≤◌, Bool, true, false, List, [], ◌∷◌, ◌++◌, length, map, take, get_or, Option, refl, sym, ap, ◌∙◌, eq-eqb, rules, arith}
-use Rattle.std.specs.Prelude.{◌&&◌, ◌==◌, nat_le}
+use Rattle.std.proofs.Common.{◌≡◌, ℕ, ◌+◌, ◌<◌, ◌≤◌, Bool, true, false, List, [], ◌∷◌, ◌++◌, length, map, take, get_or, Option, refl, sym, ap, ◌∙◌, eq-eqb, arith}
+use Rattle.std.specs.Prelude.{◌&&◌, nat_le}
 use Rattle.std.specs.List.{list_all}
 use Rattle.std.specs.Option.{option_map}
 use Rattle.std.proofs.lemmas.Bool.Decides.{nat_tests}
@@ -12,14 +12,15 @@ use Rattle.rb_tree.specs.declared.node.Block.{Block}
 use Rattle.rb_tree.specs.declared.node.Node.{Node}
 use Rattle.rb_tree.specs.declared.node.Param.{Param}
 use Rattle.rb_machine.specs.Scopes.{Script}
-use Rattle.rb_code.specs.declared.code.Code.{Code, the_lemmas}
+use Rattle.rb_code.specs.declared.code.Code.{Code}
 use Rattle.rb_code.specs.declared.code.Code.TheVariants as is
 use Rattle.rb_code.specs.declared.code.CodePiece.{CodePiece}
 use Rattle.rb_code.specs.declared.code.CodeBlock.{CodeBlock}
 use Rattle.rb_code.specs.Erase.{erase, erase_block}
 use Rattle.rb_code.specs.Layout.{has_slot}
 use Rattle.rb_code.specs.Resolved.{Fits, every, if_some, fits, piece_fits, block_fits}
-use Rattle.rb_code.proofs.Fitting.{fits-str, fits-local, fits-set_local, fits-update_local, fits-update_element, fits-update_attribute, fits-store, fits-and, fits-or, fits-not, fits-if, fits-while, fits-return}
+use Rattle.rb_code.proofs.Fitting.{fits-str, fits-local, fits-set_local, fits-update_local, fits-update_element, fits-and, fits-or, fits-not, fits-if, fits-while, fits-return, block_fits-parts}
+use Rattle.rb_code.proofs.Erasing.{erase_block-parts}
 use Rattle.rb_resolver.proofs.Numbered.{both}
 
 -- what is right for names is right for the same names
@@ -44,14 +45,6 @@ module _ (S : Script) (names : List NameId) (size : ℕ) where
       → fits S (is.UpdateElement receiver index op value at) names size ≡ true
   update_element_fits receiver index op value at r i v = fits-update_element S names size receiver index op value at ∙ both _ _ r (both _ _ i v)
 
-  pub update_attribute_fits : (receiver : Code) (name : NameId) (op : AssignOp) (value : Code) (at : Span) → fits S receiver names size ≡ true → fits S value names size ≡ true
-      → fits S (is.UpdateAttribute receiver name op value at) names size ≡ true
-  update_attribute_fits receiver name op value at r v = fits-update_attribute S names size receiver name op value at ∙ both _ _ r v
-
-  pub store_fits : (receiver : Code) (name : NameId) (args : List Code) (at : Span) → fits S receiver names size ≡ true → every (map (fits S) args) names size ≡ true
-      → fits S (is.Store receiver name args at) names size ≡ true
-  store_fits receiver name args at r a = fits-store S names size receiver name args at ∙ both _ _ r a
-
   pub and_fits : (left right : Code) (at : Span) → fits S left names size ≡ true → fits S right names size ≡ true → fits S (is.And left right at) names size ≡ true
   and_fits left right at l r = fits-and S names size left right at ∙ both _ _ l r
 
@@ -73,16 +66,6 @@ module _ (S : Script) (names : List NameId) (size : ℕ) where
 
 pub within : (m n : ℕ) → m ≤ n → nat_le m n ≡ true
 within m n h = grind (arith, nat_tests, h)
-
--- a block stands for its parts
-pub erase_block-parts : (b : CodeBlock) → erase_block b ≡ record { params = b.params; body = map erase b.body; at = b.at }
-unfolding erase erase_block
-erase_block-parts b = search (rules, the_lemmas)
-
-block_fits-parts : (S : Script) (names : List NameId) (size : ℕ) (b : CodeBlock)
-    → block_fits S b names size ≡ ((b.from == length names) && ((b.count == length (S.block_names b.at)) && (nat_le (length names + length (S.block_names b.at)) size && every (map (fits S) b.body) (names ++ S.block_names b.at) size)))
-unfolding fits block_fits
-block_fits-parts S names size b = search (rules, the_lemmas)
 
 pub block_is_right : (S : Script) (names : List NameId) (size : ℕ) (b : CodeBlock) → b.from ≡ length names → b.count ≡ length (S.block_names b.at) → length names + length (S.block_names b.at) ≤ size
     → every (map (fits S) b.body) (names ++ S.block_names b.at) size ≡ true → block_fits S b names size ≡ true

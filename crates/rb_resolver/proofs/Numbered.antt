@@ -1,5 +1,5 @@
 -- Where the code of calls is right.
-use Rattle.std.proofs.Common.{◌≡◌, ℕ, Bool, true, false, cond, List, [], ◌∷◌, ◌++◌, length, map, Option, Some, None, refl, sym, ap, ◌∙◌, eq-eqb, length-append, arith}
+use Rattle.std.proofs.Common.{◌≡◌, ℕ, Bool, true, false, cond, List, [], ◌∷◌, ◌++◌, length, map, Option, Some, None, refl, sym, ap, ◌∙◌, eq-eqb, length-append, rules, arith}
 use Rattle.std.specs.Prelude.{◌&&◌, is_none}
 use Rattle.std.specs.Str.{bytes_eq}
 use Rattle.std.specs.HashMap as hash
@@ -7,6 +7,7 @@ use Rattle.std.specs.Prelude.{nat_eq, codes}
 use Rattle.std.proofs.lemmas.List.{length-map}
 use Rattle.rb_tree.specs.declared.span.Span.{Span}
 use Rattle.rb_tree.specs.declared.span.NameId.{NameId}
+use Rattle.rb_tree.specs.declared.node.AssignOp.{AssignOp}
 use Rattle.rb_machine.specs.Scopes.{Script, Text, name_text, text_of}
 use Rattle.rb_builtin.specs.declared.builtin.Builtin.{Builtin}
 use Rattle.rb_builtin.specs.Names.{builtin_of, same_number}
@@ -16,8 +17,8 @@ use Rattle.rb_code.specs.declared.code.Code.{Code}
 use Rattle.rb_code.specs.declared.code.Code.TheVariants as is
 use Rattle.rb_code.specs.declared.code.CodeBlock.{CodeBlock}
 use Rattle.rb_code.specs.Layout.{is_at}
-use Rattle.rb_code.specs.Resolved.{every, form_text, form_takes, function_of, has_number, fits, block_fits}
-use Rattle.rb_code.proofs.Fitting.{fits-function, fits-print, fits-send, fits-operate, fits-walk}
+use Rattle.rb_code.specs.Resolved.{every, form_text, form_takes, function_of, has_number, is_free, fits, block_fits}
+use Rattle.rb_code.proofs.Fitting.{fits-function, fits-print, fits-send, fits-operate, fits-walk, fits-store, fits-update_attribute}
 use Rattle.rb_resolver.specs.Known.{form_of, IsKnown}
 use Rattle.rb_resolver.specs.declared.known.Known.{Known}
 use Rattle.rb_resolver.proofs.Layers.{same_number_itself}
@@ -56,6 +57,58 @@ form_is text form.Puts h = choose (bytes_eq text (codes "puts")) (bytes_eq text 
 form_is text form.Print h = choose (bytes_eq text (codes "puts")) (bytes_eq text (codes "print")) (bytes_eq text (codes "p")) form.Print h
 form_is text form.Inspect h = choose (bytes_eq text (codes "puts")) (bytes_eq text (codes "print")) (bytes_eq text (codes "p")) form.Inspect h
 
+-- the texts with `=` behind them that are names of built-in methods
+none_more : (b : Bool) → (b && false) ≡ false
+none_more true = refl
+none_more false = refl
+
+ends : List ℕ → Bool
+ends [] = false
+ends (y ∷ []) = nat_eq 61 y
+ends (x ∷ y ∷ ys) = ends (y ∷ ys)
+
+is_other : (text word : List ℕ) → ends word ≡ false → bytes_eq (text ++ 61 ∷ []) word ≡ false
+unfolding ends
+is_other [] [] h = refl
+is_other (x ∷ xs) [] h = refl
+is_other [] (y ∷ []) h = ap (λ b. b && true) h
+is_other [] (y ∷ z ∷ zs) h = none_more (nat_eq 61 y)
+is_other (x ∷ xs) (y ∷ []) h = ap (λ b. nat_eq x y && b) (is_other xs [] refl) ∙ none_more (nat_eq x y)
+is_other (x ∷ xs) (y ∷ z ∷ zs) h = ap (λ b. nat_eq x y && b) (is_other xs (z ∷ zs) h) ∙ none_more (nat_eq x y)
+
+is_before : (text word : List ℕ) → bytes_eq (text ++ 61 ∷ []) (word ++ 61 ∷ []) ≡ bytes_eq text word
+is_before [] [] = refl
+is_before (x ∷ []) [] = none_more (nat_eq x 61)
+is_before (x ∷ y ∷ ys) [] = none_more (nat_eq x 61)
+is_before [] (y ∷ []) = none_more (nat_eq 61 y)
+is_before [] (y ∷ z ∷ zs) = none_more (nat_eq 61 y)
+is_before (x ∷ xs) (y ∷ ys) = ap (λ b. nat_eq x y && b) (is_before xs ys)
+
+pub writer_is : (text : List ℕ) → is_free (text ++ codes "=")
+    ≡ cond (bytes_eq text (codes "=")) false (cond (bytes_eq text (codes "<")) false (cond (bytes_eq text (codes ">")) false true))
+unfolding ends
+writer_is text =
+    rw (
+      is_before text (codes "="),
+      is_before text (codes "<"),
+      is_before text (codes ">"),
+      is_other text (codes "nil?") refl,
+      is_other text (codes "to_s") refl,
+      is_other text (codes "inspect") refl,
+      is_other text (codes "+") refl,
+      is_other text (codes "-") refl,
+      is_other text (codes "*") refl,
+      is_other text (codes "/") refl,
+      is_other text (codes "%") refl,
+      is_other text (codes "-@") refl,
+      is_other text (codes "<") refl,
+      is_other text (codes ">") refl,
+      is_other text (codes "times") refl,
+      is_other text (codes "upto") refl,
+      is_other text (codes "length") refl,
+    )
+    (search rules)
+
 -- a number is right where it is that of the text of the name
 pub number_fits : (S : Script) (names : List Text) (name : NameId) (number : Option Builtin) → S.program.names ≡ names → number ≡ builtin_of (name_text names name) → has_number S number name ≡ true
 number_fits S names name number texts h =
@@ -79,6 +132,18 @@ pub walk_fits : (S : Script) (scope : List NameId) (size : ℕ) (number : Option
     → fits S receiver scope size ≡ true → every (map (fits S) args) scope size ≡ true → block_fits S block scope size ≡ true → fits S (is.Walk number name receiver args block at) scope size ≡ true
 walk_fits S scope size number name receiver args block at n r a b =
     fits-walk S scope size number name receiver args block at ∙ both _ _ n (both _ _ r (both _ _ a b))
+
+pub store_fits : (S : Script) (scope : List NameId) (size : ℕ) (names : List Text) (name : NameId) (receiver : Code) (args : List Code) (at : Span) → S.program.names ≡ names
+    → is_free (name_text names name) ≡ true → fits S receiver scope size ≡ true → every (map (fits S) args) scope size ≡ true → fits S (is.Store receiver name args at) scope size ≡ true
+store_fits S scope size names name receiver args at texts free r a =
+    fits-store S scope size receiver name args at ∙ both _ _ (ap (λ ns. is_free (name_text ns name)) texts ∙ free) (both _ _ r a)
+
+pub update_attribute_fits : (S : Script) (scope : List NameId) (size : ℕ) (names : List Text) (number : Option Builtin) (name : NameId) (receiver : Code) (op : AssignOp) (value : Code) (at : Span)
+    → S.program.names ≡ names → number ≡ builtin_of (name_text names name) → is_free (name_text names name ++ codes "=") ≡ true
+    → fits S receiver scope size ≡ true → fits S value scope size ≡ true → fits S (is.UpdateAttribute number name receiver op value at) scope size ≡ true
+update_attribute_fits S scope size names number name receiver op value at texts n free r v =
+    fits-update_attribute S scope size number name receiver op value at
+    ∙ both _ _ (number_fits S names name number texts n) (both _ _ (ap (λ ns. is_free (name_text ns name ++ codes "=")) texts ∙ free) (both _ _ r v))
 
 module _ (known : Known) (names : List Text) (S : Script) (k : IsKnown known names S) (scope : List NameId) (size : ℕ) where
   pub function_fits : (number : ℕ) (name : NameId) (args : List Code) (at : Span) → Some number ≡ hash.get nat_eq known.functions name.0

@@ -19,7 +19,7 @@ use rb_tree::{Boxed, Items, NameId, Names, Span};
 use std::alloc::Global;
 
 /// The number of the built-in methods of a name, where there are some.
-fn number_of(names: &Names, name: NameId) -> Option<Builtin>
+pub(crate) fn number_of(names: &Names, name: NameId) -> Option<Builtin>
     ensures { result ≡ builtin.builtin_of (name_text names.now name) }
 {
     builtin_of(name_text(names, name))

@@ -7,6 +7,7 @@ mod frame;
 mod known;
 mod nodes;
 mod script;
+mod stores;
 #[cfg(test)]
 mod tests;
 

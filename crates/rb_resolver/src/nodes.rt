@@ -11,6 +11,7 @@ use crate::calls::called;
 use crate::fault::ResolveFault;
 use crate::frame::Frame;
 use crate::known::Known;
+use crate::stores::{attribute_updated, stored};
 use rb_code::{Code, CodeBlock, CodePiece};
 use rb_tree::{Block, Boxed, Items, Names, Node, Piece, Target};
 
@@ -55,7 +56,7 @@ fn node(
         } => {
             let receiver = boxed(known, names, receiver.get(), frame)?;
             let args = body(known, names, args.as_slice(), frame)?;
-            Ok(Code::Store(receiver, *name, args, *at))
+            stored(names, *name, receiver, args, *at)
         }
         Node::OpAssign {
             target,
@@ -77,7 +78,7 @@ fn node(
             Target::Attribute(receiver, name) => {
                 let receiver = boxed(known, names, receiver.get(), frame)?;
                 let value = boxed(known, names, value.get(), frame)?;
-                Ok(Code::UpdateAttribute(receiver, *name, *op, value, *at))
+                attribute_updated(names, *name, receiver, *op, value, *at)
             }
             Target::Field(_) | Target::Global(_) => Err(ResolveFault::NotBuilt(*at)),
         },

@@ -114,7 +114,12 @@ fn calls_have_the_numbers_of_built_in_methods(rt: HostRuntime) -> Result<(), Fai
             "x = 1\nx[2] += 3",
             "[1]: (set x/0 1) (update element x/0 2 3)",
         ),
-        ("x = 1\nx.y += 3", "[1]: (set x/0 1) (update .y x/0 3)"),
+        ("x = 1\nx.y += 3", "[1]: (set x/0 1) (update .y? x/0 3)"),
+        // The number is that of the method that reads the attribute, also where no value can be stored by its name.
+        ("1.y ||= 3", "[0]: (update .y? 1 3)"),
+        ("\"ab\".length ||= 3", "[0]: (update .length (text 'ab') 3)"),
+        ("1.y = 2", "[0]: (store y= 1 2)"),
+        ("1.length = 2", "[0]: (store length= 1 2)"),
         ("puts 1, 2", "[0]: (Puts 1 2)"),
         ("p 1", "[0]: (Inspect 1)"),
         ("p", "[0]: (Inspect)"),

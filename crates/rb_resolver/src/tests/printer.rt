@@ -99,9 +99,9 @@ fn write_code(out: &mut String, names: &Names, code: &Code) -> Result<(), AllocE
             write_inner(out, names, index.get())?;
             write_inner(out, names, value.get())?;
         }
-        Code::UpdateAttribute(receiver, name, _, value, _) => {
+        Code::UpdateAttribute(number, name, receiver, _, value, _) => {
             out.push_str("(update .")?;
-            write_name(out, names, *name)?;
+            write_called(out, names, *number, *name)?;
             write_inner(out, names, receiver.get())?;
             write_inner(out, names, value.get())?;
         }

@@ -4,12 +4,14 @@ use Rattle.std.proofs.lemmas.List.{take_all}
 use Rattle.std.proofs.lemmas.Result.{IfOk-weaker}
 use Rattle.rb_tree.specs.declared.node.Node.{Node}
 use Rattle.rb_tree.specs.declared.node.Node.TheVariants as tree
+use Rattle.rb_tree.specs.declared.node.Target.{Target}
+use Rattle.rb_tree.specs.declared.node.Target.TheVariants as target
 use Rattle.rb_tree.specs.declared.node.Block.{Block}
 use Rattle.rb_code.specs.declared.code.CodeBlock.{CodeBlock}
 use Rattle.rb_code.specs.Erase.{erase, erase_piece, erase_block}
 use Rattle.rb_code.specs.Resolved.{every, if_some, fits, piece_fits, block_fits}
 use Rattle.rb_code.proofs.Fitting.{fits-nil, fits-false, fits-true, fits-int, fits-sym, fits-break, fits-next, piece_fits-text, piece_fits-code}
-use Rattle.rb_resolver.proofs.Fitted.{at_names, str_fits, local_fits, set_local_fits, update_local_fits, update_element_fits, update_attribute_fits, store_fits, and_fits, or_fits, not_fits, if_fits, while_fits, return_fits, block_of, names_left, block_is_right, map_pushed, every_pushed}
+use Rattle.rb_resolver.proofs.Fitted.{at_names, str_fits, local_fits, set_local_fits, update_local_fits, update_element_fits, and_fits, or_fits, not_fits, if_fits, while_fits, return_fits, block_of, names_left, block_is_right, map_pushed, every_pushed}
 use Rattle.rb_resolver.proofs.nodes.+resolving.Goals as goal
 
 pub node-returns-in_ok-pieces-in-Str-clause-fits : goal.node-returns-in_ok-pieces-in-Str-clause-fits
@@ -22,7 +24,14 @@ pub node-returns-in_ok-value-in-SetLocal-clause-fits : goal.node-returns-in_ok-v
 node-returns-in_ok-value-in-SetLocal-clause-fits t c = λ S k size h. set_local_fits S _ size _ _ _ _ c.in_ok-slot-in-SetLocal.ensures (c.in_ok-value-in-SetLocal.ensures.fits S k size h)
 
 pub node-returns-in_ok-args-in-Store-clause-fits : goal.node-returns-in_ok-args-in-Store-clause-fits
-node-returns-in_ok-args-in-Store-clause-fits t c = λ S k size h. store_fits S _ size _ _ _ _ (c.in_ok-receiver-in-Store.ensures.fits S k size (omega (arith, h, c.in_ok-args-in-Store.ensures.rises))) (at_names (λ ns z. every (map (fits S) c.in_ok-args-in-Store.args) ns z) _ _ size (c.in_ok-receiver-in-Store.ensures.names) (c.in_ok-args-in-Store.ensures.fits S k size h))
+node-returns-in_ok-args-in-Store-clause-fits t c = IfOk-weaker c.stored.result _ _ (λ code is S k size h. is S _ size k.texts (c.in_ok-receiver-in-Store.ensures.fits S k size (omega (arith, h, c.in_ok-args-in-Store.ensures.rises))) (at_names (λ ns z. every (map (fits S) c.in_ok-args-in-Store.args) ns z) _ _ size (c.in_ok-receiver-in-Store.ensures.names) (c.in_ok-args-in-Store.ensures.fits S k size h))) c.stored.ensures.fits
+
+pub node-returns-in_ok-args-in-Store-clause-erases : goal.node-returns-in_ok-args-in-Store-clause-erases
+node-returns-in_ok-args-in-Store-clause-erases t c =
+    IfOk-weaker c.stored.result _ _ (λ code is. is
+    ∙ ap (λ (r : Node). tree.Store r c.in-Store.name (map erase c.in_ok-args-in-Store.args) c.in-Store.at) (c.in_ok-receiver-in-Store.ensures.erases ∙ c.get-in-Store.ensures)
+    ∙ ap (λ (ns : List Node). tree.Store c.in-Store.receiver c.in-Store.name ns c.in-Store.at) (c.in_ok-args-in-Store.ensures.erases ∙ c.as_slice-in-Store.ensures)
+    ∙ sym c.in-Store.is) c.stored.ensures.erases
 
 pub node-returns-in_ok-value-in-Local-target-clause-fits : goal.node-returns-in_ok-value-in-Local-target-clause-fits
 node-returns-in_ok-value-in-Local-target-clause-fits t c = λ S k size h. update_local_fits S _ size _ _ _ _ _ c.in_ok-slot-in-Local-target.ensures (c.in_ok-value-in-Local-target.ensures.fits S k size h)
@@ -31,7 +40,15 @@ pub node-returns-in_ok-value-in-Index-clause-fits : goal.node-returns-in_ok-valu
 node-returns-in_ok-value-in-Index-clause-fits t c = λ S k size h. update_element_fits S _ size _ _ _ _ _ (c.in_ok-receiver-in-Index.ensures.fits S k size (omega (arith, h, c.in_ok-index-in-Index.ensures.rises, c.in_ok-value-in-Index.ensures.rises))) (at_names (fits S c.in_ok-index-in-Index.index) _ _ size (c.in_ok-receiver-in-Index.ensures.names) (c.in_ok-index-in-Index.ensures.fits S k size (omega (arith, h, c.in_ok-value-in-Index.ensures.rises)))) (at_names (fits S c.in_ok-value-in-Index.value) _ _ size (c.in_ok-index-in-Index.ensures.names ∙ c.in_ok-receiver-in-Index.ensures.names) (c.in_ok-value-in-Index.ensures.fits S k size h))
 
 pub node-returns-in_ok-value-in-Attribute-clause-fits : goal.node-returns-in_ok-value-in-Attribute-clause-fits
-node-returns-in_ok-value-in-Attribute-clause-fits t c = λ S k size h. update_attribute_fits S _ size _ _ _ _ _ (c.in_ok-receiver-in-Attribute.ensures.fits S k size (omega (arith, h, c.in_ok-value-in-Attribute.ensures.rises))) (at_names (fits S c.in_ok-value-in-Attribute.value) _ _ size (c.in_ok-receiver-in-Attribute.ensures.names) (c.in_ok-value-in-Attribute.ensures.fits S k size h))
+node-returns-in_ok-value-in-Attribute-clause-fits t c = IfOk-weaker c.attribute_updated.result _ _ (λ code is S k size h. is S _ size k.texts (c.in_ok-receiver-in-Attribute.ensures.fits S k size (omega (arith, h, c.in_ok-value-in-Attribute.ensures.rises))) (at_names (fits S c.in_ok-value-in-Attribute.value) _ _ size (c.in_ok-receiver-in-Attribute.ensures.names) (c.in_ok-value-in-Attribute.ensures.fits S k size h))) c.attribute_updated.ensures.fits
+
+pub node-returns-in_ok-value-in-Attribute-clause-erases : goal.node-returns-in_ok-value-in-Attribute-clause-erases
+node-returns-in_ok-value-in-Attribute-clause-erases t c =
+    IfOk-weaker c.attribute_updated.result _ _ (λ code is. is
+    ∙ ap (λ (r : Node). tree.OpAssign (target.Attribute r c.in-Attribute.name) c.in-OpAssign.op (erase c.in_ok-value-in-Attribute.value) c.in-OpAssign.at) (c.in_ok-receiver-in-Attribute.ensures.erases ∙ c.get-in-Attribute.ensures)
+    ∙ ap (λ (v : Node). tree.OpAssign (target.Attribute c.in-Attribute.receiver c.in-Attribute.name) c.in-OpAssign.op v c.in-OpAssign.at) (c.in_ok-value-in-Attribute.ensures.erases ∙ c.get-in-Attribute-2.ensures)
+    ∙ ap (λ (o : Target). tree.OpAssign o c.in-OpAssign.op c.in-OpAssign.value c.in-OpAssign.at) (sym c.in-Attribute.is)
+    ∙ sym c.in-OpAssign.is) c.attribute_updated.ensures.erases
 
 pub node-returns-in_ok-right-in-And-clause-fits : goal.node-returns-in_ok-right-in-And-clause-fits
 node-returns-in_ok-right-in-And-clause-fits t c = λ S k size h. and_fits S _ size _ _ _ (c.in_ok-left-in-And.ensures.fits S k size (omega (arith, h, c.in_ok-right-in-And.ensures.rises))) (at_names (fits S c.in_ok-right-in-And.right) _ _ size (c.in_ok-left-in-And.ensures.names) (c.in_ok-right-in-And.ensures.fits S k size h))

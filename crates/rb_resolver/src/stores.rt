@@ -1,0 +1,75 @@
+// Which code an assignment by the call of a method becomes, once its parts are resolved.
+
+ghost use Rattle.std.specs.Prelude.{◌≡◌, ◌++◌, ℕ, List, codes, true, map, IfOk};
+ghost use Rattle.rb_code.specs.Erase.{erase};
+ghost use Rattle.rb_code.specs.Resolved.{every, fits};
+ghost use Rattle.rb_code.specs.Resolved as resolved;
+ghost use Rattle.rb_machine.specs.Scopes.{Script};
+ghost use Rattle.rb_tree.specs.declared.node.Node.TheVariants as tree;
+ghost use Rattle.rb_tree.specs.declared.node.Target.TheVariants as target;
+ghost use Rattle.rb_tree.specs.declared.span.NameId.{NameId as Id};
+
+use crate::calls::number_of;
+use crate::fault::ResolveFault;
+use rb_builtin::builtin_of;
+use rb_code::Code;
+use rb_render::name_text;
+use rb_tree::{AssignOp, Boxed, Items, NameId, Names, Span};
+
+/// Whether a text is the name of no built-in method.
+fn is_free(text: &[u8]) -> bool
+    ensures { result ≡ resolved.is_free text.now }
+{
+    builtin_of(text).is_none()
+}
+
+/// Whether a text with `=` behind it is the name of no built-in method: `==`, `<=` and `>=` are all that end so.
+#[tactic(auto, using(crate::proofs::Numbered::writer_is))]
+fn is_writer_free(text: &[u8]) -> bool
+    ensures { result ≡ resolved.is_free (text.now ++ codes "=") }
+{
+    match text {
+        _ if text == b"=".as_slice() => false,
+        _ if text == b"<".as_slice() => false,
+        _ if text == b">".as_slice() => false,
+        _ => true,
+    }
+}
+
+/// An assignment by the call of a method. The name of that method ends in `=` behind a word or brackets, so that it is never that of a
+/// built-in method.
+pub(crate) fn stored(
+    names: &Names,
+    name: NameId,
+    receiver: Boxed<Code>,
+    args: Items<Code>,
+    at: Span,
+) -> Result<Code, ResolveFault>
+    ensures erases { IfOk result (λ code. erase code ≡ tree.Store (erase receiver) name (map erase args) at) }
+    ensures fits { IfOk result (λ code. (S : Script) (scope : List Id) (size : ℕ) → S.program.names ≡ names.now → fits S receiver scope size ≡ true → every (map (fits S) args) scope size ≡ true → fits S code scope size ≡ true) }
+{
+    if !is_free(name_text(names, name)) {
+        return Err(ResolveFault::NotBuilt(at));
+    }
+    Ok(Code::Store(receiver, name, args, at))
+}
+
+/// An assignment with an operator to an attribute. The name of an attribute is a word, so that with `=` behind it it is never that of a
+/// built-in method.
+pub(crate) fn attribute_updated(
+    names: &Names,
+    name: NameId,
+    receiver: Boxed<Code>,
+    op: AssignOp,
+    value: Boxed<Code>,
+    at: Span,
+) -> Result<Code, ResolveFault>
+    ensures erases { IfOk result (λ code. erase code ≡ tree.OpAssign (target.Attribute (erase receiver) name) op (erase value) at) }
+    ensures fits { IfOk result (λ code. (S : Script) (scope : List Id) (size : ℕ) → S.program.names ≡ names.now → fits S receiver scope size ≡ true → fits S value scope size ≡ true → fits S code scope size ≡ true) }
+{
+    if !is_writer_free(name_text(names, name)) {
+        return Err(ResolveFault::NotBuilt(at));
+    }
+    let number = number_of(names, name);
+    Ok(Code::UpdateAttribute(number, name, receiver, op, value, at))
+}
