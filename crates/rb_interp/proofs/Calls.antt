@@ -3,8 +3,6 @@ use Rattle.std.proofs.Common.{◌≡◌, ℕ, Bool, true, false, List, [], ◌�
 use Rattle.std.specs.Prelude.{is_none}
 use mathlib.Core.Logic.{inl, inr}
 use Rattle.rb_tree.specs.declared.span.Span.{Span}
-use Rattle.rb_tree.specs.declared.node.Class.{Class}
-use Rattle.rb_tree.specs.declared.node.Method.{Method}
 use Rattle.rb_tree.specs.declared.node.Block.{Block}
 use Rattle.rb_model.specs.declared.value.Sort.{Sort}
 use Rattle.rb_model.specs.declared.value.Sort.TheVariants as sort
@@ -25,27 +23,27 @@ use Rattle.rb_interp.specs.Outcome.{Outcome, Gave, Over, Came}
 use Rattle.rb_interp.specs.Answers.{OrMemory, outcome_of}
 use Rattle.rb_interp.proofs.Moves.{same}
 
-none_found : (S : Script) (name : Text) (classes : List Class) (s : Sort) → S.program.classes ≡ [] → texted S name (methods_of_sort S s) ≡ None
-none_found S name classes (sort.Object class) e = rw e refl
-none_found S name classes sort.List e = refl
-none_found S name classes sort.Pairs e = refl
-none_found S name classes sort.Mutex e = refl
-none_found S name classes sort.Thread e = refl
+none_of_sort : (S : Script) (s : Sort) → S.program.classes ≡ [] → methods_of_sort S s ≡ []
+none_of_sort S (sort.Object class) e = rw e refl
+none_of_sort S sort.List e = refl
+none_of_sort S sort.Pairs e = refl
+none_of_sort S sort.Mutex e = refl
+none_of_sort S sort.Thread e = refl
 
 -- where there are no classes, no value has a method of the script
-no_method : (S : Script) (name : Text) (v : Val) → S.program.classes ≡ [] → texted S name (methods_of S v) ≡ None
-no_method S name Nil e = refl
-no_method S name False e = refl
-no_method S name True e = refl
-no_method S name (Int n) e = refl
-no_method S name (Sym other) e = refl
-no_method S name (Str bytes) e = refl
-no_method S name (To thing) e = none_found S name [] thing.sort e
+pub no_methods : (S : Script) (v : Val) → S.program.classes ≡ [] → methods_of S v ≡ []
+no_methods S Nil e = refl
+no_methods S False e = refl
+no_methods S True e = refl
+no_methods S (Int n) e = refl
+no_methods S (Sym other) e = refl
+no_methods S (Str bytes) e = refl
+no_methods S (To thing) e = none_of_sort S thing.sort e
 
 -- so a call is answered by the table
 pub by_table : (S : Script) (v : Val) (name : Text) (args : List Val) (block : Option Block) (at : Span) (k : List Cont) (sc : Scope) (d n : ℕ) → S.program.classes ≡ []
     → invoke S v name args block at k sc d n ≡ answered S (deed S.program.names v name args (params_of S block)) block at k sc d n
-by_table S v name args block at k sc d n e = ap (λ m. invoked S m v name args block at k sc d n) (no_method S name v e)
+by_table S v name args block at k sc d n e = ap (λ ms. invoked S (texted S name ms) v name args block at k sc d n) (no_methods S v e)
 
 none_is : {A : Type 0} (o : Option A) → is_none o ≡ true → o ≡ None
 none_is None e = refl

@@ -7,16 +7,14 @@ use Rattle.rb_tree.specs.declared.span.Span.{Span}
 use Rattle.rb_tree.specs.declared.span.NameId.{NameId}
 use Rattle.rb_tree.specs.declared.node.Method.{Method}
 use Rattle.rb_model.specs.declared.fault.Fault.TheVariants.{ArgumentCount}
-use Rattle.rb_model.specs.declared.value.Sort.{Sort}
-use Rattle.rb_model.specs.declared.value.Sort.TheVariants as sort
 use Rattle.rb_model.specs.declared.value.Value.{Value as Held}
 use Rattle.rb_model.specs.declared.value.Value.TheVariants as held
-use Rattle.rb_model.specs.Values.{Value as Val, Nil, False, True, Int, Sym, Str, To, plain}
+use Rattle.rb_model.specs.Values.{Value as Val, Nil, plain}
 use Rattle.rb_model.specs.Log.{Log}
 use Rattle.rb_model.specs.Private.{Private}
 use Rattle.rb_machine.specs.Scopes.{Script, Scope, Locals, fresh}
 use Rattle.rb_machine.specs.Control.{State, On, Cont, Frame, Following, Passing, ByName}
-use Rattle.rb_machine.specs.Call.{named, methods_of, methods_of_sort, own, top_level, enter, perform, raised}
+use Rattle.rb_machine.specs.Call.{named, own, top_level, enter, perform, raised}
 use Rattle.rb_machine.specs.Follows.{At}
 use Rattle.rb_code.specs.declared.scripted.CodeMethod.{CodeMethod}
 use Rattle.rb_code.specs.declared.scripted.CodeScript.{CodeScript}
@@ -25,6 +23,7 @@ use Rattle.rb_code.specs.Erase.{erase, erase_method}
 use Rattle.rb_code.specs.Resolved.{every, fits, method_fits, function_of, has_name}
 use Rattle.rb_code.specs.Stands.{StandsFor}
 use Rattle.rb_interp.specs.Carries.{Lies, scope_of}
+use Rattle.rb_interp.proofs.Calls.{no_methods}
 use Rattle.rb_interp.proofs.Moves.{on, same}
 use Rattle.rb_interp.proofs.Lists.{fst, snd, le_test, eq_test, len_map, len_args, len_drop, get_map}
 use Rattle.rb_interp.proofs.Rooms.{lies, frame_opens}
@@ -57,22 +56,6 @@ found_at p xs i x h e =
 
 -- ---- methods
 
-none_of : (S : Script) (s : Sort) → S.program.classes ≡ [] → methods_of_sort S s ≡ []
-none_of S (sort.Object class) e = rw e refl
-none_of S sort.List e = refl
-none_of S sort.Pairs e = refl
-none_of S sort.Mutex e = refl
-none_of S sort.Thread e = refl
-
--- where there are no classes, no value has a method of the script
-pub no_methods : (S : Script) (v : Val) → S.program.classes ≡ [] → methods_of S v ≡ []
-no_methods S Nil e = refl
-no_methods S False e = refl
-no_methods S True e = refl
-no_methods S (Int n) e = refl
-no_methods S (Sym name) e = refl
-no_methods S (Str bytes) e = refl
-no_methods S (To thing) e = none_of S thing.sort e
 
 -- the method of a number is the one that its name finds
 function_is : (S : Script) (c : CodeScript) (number : ℕ) (name : NameId) (m : CodeMethod) → StandsFor c S → is_at (function_of S name) number ≡ true → slice_get c.functions number ≡ Some m

@@ -7,14 +7,12 @@ use Rattle.std.specs.Str.{bytes_eq}
 use Rattle.std.specs.List.{position_or_len}
 use Rattle.rb_tree.specs.declared.span.Span.{Span}
 use Rattle.rb_tree.specs.declared.span.NameId.{NameId}
-use Rattle.rb_model.specs.declared.value.Sort.{Sort}
-use Rattle.rb_model.specs.declared.value.Sort.TheVariants as sort
-use Rattle.rb_model.specs.Values.{Value as Val, Nil, False, True, Int, Sym, Str, To}
+use Rattle.rb_model.specs.Values.{Value as Val}
 use Rattle.rb_model.specs.Log.{Log}
 use Rattle.rb_model.specs.Private.{Private}
 use Rattle.rb_machine.specs.Scopes.{Script, Scope, text_of}
 use Rattle.rb_machine.specs.Control.{State, On, Cont, Then, Instead, Give}
-use Rattle.rb_machine.specs.Call.{call_by_name, own, top_level, print, show, value_of_p, named, methods_of, methods_of_sort}
+use Rattle.rb_machine.specs.Call.{call_by_name, own, top_level, print, show, value_of_p, named}
 use Rattle.rb_machine.specs.Follows.{At}
 use Rattle.rb_render.specs.declared.show.Form.{Form}
 use Rattle.rb_render.specs.declared.show.Form.TheVariants as form
@@ -24,7 +22,7 @@ use Rattle.rb_interp.specs.Outcome.{Outcome, Gave, Came}
 use Rattle.rb_interp.specs.Carries.{printing}
 use Rattle.rb_interp.specs.Answers.{OrMemory, shown_value, only_value}
 use Rattle.rb_interp.proofs.Moves.{on}
-use Rattle.rb_interp.proofs.Calls.{or_memory}
+use Rattle.rb_interp.proofs.Calls.{no_methods, or_memory}
 
 past : (m len : ℕ) (t : Bool) → nat_lt m len ≡ t → is_none (cond t (Some m) None) ≡ true → len ≤ m
 past m len false e h = grind (arith, nat_tests)
@@ -42,23 +40,6 @@ none_passes p (x ∷ xs) h = none_by p x xs (p x) h (none_passes p xs)
 none_at : {A : Type 0} (p : A → Bool) (xs : List A) → is_none (position p xs) ≡ true → find p xs ≡ None
 none_at p xs h = none_passes p xs (past (position_or_len p xs) (length xs) (nat_lt (position_or_len p xs) (length xs)) refl h)
 
-no_sort : (S : Script) (name : NameId) (s : Sort) → S.program.classes ≡ [] → named S name (methods_of_sort S s) ≡ None
-no_sort S name (sort.Object class) e = rw e refl
-no_sort S name sort.List e = refl
-no_sort S name sort.Pairs e = refl
-no_sort S name sort.Mutex e = refl
-no_sort S name sort.Thread e = refl
-
--- where there are no classes, no value has a method of the script
-no_own : (S : Script) (name : NameId) (v : Val) → S.program.classes ≡ [] → named S name (methods_of S v) ≡ None
-no_own S name Nil e = refl
-no_own S name False e = refl
-no_own S name True e = refl
-no_own S name (Int n) e = refl
-no_own S name (Sym other) e = refl
-no_own S name (Str bytes) e = refl
-no_own S name (To thing) e = no_sort S name thing.sort e
-
 module _ (S : Script) where
   p_gives : (values : List Val) → nat_le (length values) 1 ≡ true → value_of_p S values ≡ Instead (only_value values)
   p_gives [] h = refl
@@ -75,7 +56,7 @@ module _ (S : Script) where
   pub by_form : (form : Form) (name : NameId) (values : List Val) (at : Span) (k : List Cont) (sc : Scope) (d n : ℕ) → S.program.classes ≡ [] → is_none (function_of S name) ≡ true → bytes_eq (text_of S name) (form_text form) ≡ true → form_takes form (length values) ≡ true
       → call_by_name S name values at k sc d n ≡ show S (written S.program.names form values) (Instead (shown_value form values)) at k sc d n
   by_form form name values at k sc d n c f t h =
-      ap (λ m. own S m name values at k sc d n) (no_own S name sc.me c)
+      ap (λ ms. own S (named S name ms) name values at k sc d n) (no_methods S sc.me c)
       ∙ (ap (λ m. top_level S m name values at k sc d n) (none_at (has_name S name) S.program.functions f)
       ∙ (ap (λ text. print S text values at k sc d n) ((bytes_eq-Decides (text_of S name) (form_text form)).0 t) ∙ by_text form values at k sc d n h))
 
