@@ -5,6 +5,9 @@ use Rattle.std.specs.Str.{bytes_eq}
 use Rattle.rb_tree.specs.declared.span.NameId.{NameId}
 use Rattle.rb_tree.specs.declared.span.Span.{Span}
 use Rattle.rb_tree.specs.declared.node.Node.{Node, fold-Node}
+use Rattle.rb_tree.specs.declared.node.Piece.{Piece, fold-Piece}
+use Rattle.rb_tree.specs.declared.node.Target.{Target, fold-Target}
+use Rattle.rb_tree.specs.declared.node.Block.{Block, fold-Block}
 use Rattle.rb_tree.specs.declared.node.Node.TheOpen.{Node-F, Piece-F, Target-F, Block-F}
 use Rattle.rb_tree.specs.declared.node.Node.TheOpen as node
 use Rattle.rb_tree.specs.declared.node.Program.{Program}
@@ -96,10 +99,33 @@ module _ (names : List (List ℕ)) (own_p : Bool) where
   unfoldable pub unbuilt_in : Node → Found
   unbuilt_in = fold-Node Found Found (Span → Found) Found node_step piece_step target_step block_step
 
+  -- what of a piece of a text, of a target by the place of its assignment, and of a block
+  unfoldable pub unbuilt_in_piece : Piece → Found
+  unbuilt_in_piece = fold-Piece Found Found (Span → Found) Found node_step piece_step target_step block_step
+
+  unfoldable pub unbuilt_in_target : Target → Span → Found
+  unbuilt_in_target = fold-Target Found Found (Span → Found) Found node_step piece_step target_step block_step
+
+  unfoldable pub unbuilt_in_block : Block → Found
+  unbuilt_in_block = fold-Block Found Found (Span → Found) Found node_step piece_step target_step block_step
+
+  -- what of statements, and of methods
+  abbrev pub unbuilt_in_all : List Node → Found
+  unbuilt_in_all nodes = first_of (map unbuilt_in nodes)
+
+  abbrev pub unbuilt_in_methods : List Method → Found
+  unbuilt_in_methods methods = first_of (map (λ (m : Method). unbuilt_in_all m.body) methods)
+
+-- whether one of the methods is named `p`
+abbrev pub has_own_p : List (List ℕ) → List Method → Bool
+has_own_p names methods = list_any (λ (m : Method). is_p (text_of names m.name)) methods
+
+-- the first of the classes
+abbrev pub first_class : List Class → Found
+first_class classes = first_of (map (λ (c : Class). Some c.at) classes)
+
 -- what stands first of a program that is not run yet: a class, or what is in a method of the top level or in the top level itself
 abbrev pub first_unbuilt : Program → Found
 first_unbuilt program =
-    let own_p = list_any (λ (m : Method). is_p (text_of program.names m.name)) program.functions in
-    earlier (first_of (map (λ (c : Class). Some c.at) program.classes))
-    (earlier (first_of (map (λ (m : Method). first_of (map (unbuilt_in program.names own_p) m.body)) program.functions))
-    (first_of (map (unbuilt_in program.names own_p) program.main)))
+    let own_p = has_own_p program.names program.functions in
+    earlier (first_class program.classes) (earlier (unbuilt_in_methods program.names own_p program.functions) (unbuilt_in_all program.names own_p program.main))
