@@ -1,0 +1,131 @@
+-- What of a program is not run yet, and what of that stands first in its text.
+use Rattle.std.specs.Prelude.{ℕ, Bool, true, false, not, ◌&&◌, nat_lt, is_some, List, [], ◌∷◌, length, map, Option, Some, None, if◌then◌else◌, slice_get, unwrap_or, codes}
+use Rattle.std.specs.List.{list_any}
+use Rattle.std.specs.Str.{bytes_eq}
+use Rattle.rb_tree.specs.declared.span.NameId.{NameId}
+use Rattle.rb_tree.specs.declared.span.Span.{Span}
+use Rattle.rb_tree.specs.declared.node.Node.{Node, fold-Node}
+use Rattle.rb_tree.specs.declared.node.Piece.{Piece, fold-Piece}
+use Rattle.rb_tree.specs.declared.node.Target.{Target, fold-Target}
+use Rattle.rb_tree.specs.declared.node.Block.{Block, fold-Block}
+use Rattle.rb_tree.specs.declared.node.Node.TheOpen.{Node-F, Piece-F, Target-F, Block-F}
+use Rattle.rb_tree.specs.declared.node.Node.TheOpen as node
+use Rattle.rb_tree.specs.declared.node.Program.{Program}
+use Rattle.rb_tree.specs.declared.node.Class.{Class}
+use Rattle.rb_tree.specs.declared.node.Method.{Method}
+
+-- a place, where there is something that is not run yet
+abbrev pub Found : Type 0
+Found = Option Span
+
+-- of two places the one that stands first
+abbrev pub earlier : Found → Found → Found
+earlier None other = other
+earlier (Some one) None = Some one
+earlier (Some one) (Some other) = if nat_lt other.from one.from then Some other else Some one
+
+-- of several
+abbrev pub first_of : List Found → Found
+first_of [] = None
+first_of (f ∷ fs) = earlier f (first_of fs)
+
+-- in what may be there
+abbrev pub in_any : Option Found → Found
+in_any None = None
+in_any (Some f) = f
+
+-- this place, where something holds
+abbrev pub here : Bool → Span → Found
+here true at = Some at
+here false at = None
+
+-- the text of a name, empty where there is no such name
+abbrev pub text_of : List (List ℕ) → NameId → List ℕ
+text_of names name = unwrap_or (slice_get names name.0) []
+
+-- whether a text is the name `p`
+abbrev pub is_p : List ℕ → Bool
+is_p text = bytes_eq text (codes "p")
+
+-- a target, by the place of its assignment: instance variables and global ones are not run yet
+abbrev pub target_step : Target-F Found Found (Span → Found) Found → Span → Found
+target_step (node.«Target::Local» name) at = None
+target_step (node.«Target::Field» name) at = Some at
+target_step (node.«Target::Global» name) at = Some at
+target_step (node.Index receiver index) at = earlier receiver index
+target_step (node.Attribute receiver name) at = receiver
+
+abbrev pub piece_step : Piece-F Found Found (Span → Found) Found → Found
+piece_step (node.Text text) = None
+piece_step (node.Code code) = code
+
+abbrev pub block_step : Block-F Found Found (Span → Found) Found → Found
+block_step block = first_of block.body
+
+-- In a script with these texts of names; `own_p` tells whether it has a method `p` of its own.
+module _ (names : List (List ℕ)) (own_p : Bool) where
+  -- a call by a name alone that has a block; and one of `p` that shows several values, since these would be an array
+  abbrev pub is_unbuilt_call : (receiver : Bool) → NameId → ℕ → (block : Bool) → Bool
+  is_unbuilt_call true name count block = false
+  is_unbuilt_call false name count true = true
+  is_unbuilt_call false name count false = not own_p && (is_p (text_of names name) && nat_lt 1 count)
+
+  -- one layer of a node, with what is found in its parts
+  abbrev pub node_step : Node-F Found Found (Span → Found) Found → Found
+  node_step (node.SelfRef at) = Some at
+  node_step (node.Str pieces at) = first_of pieces
+  node_step (node.Array items at) = Some at
+  node_step (node.Hash pairs at) = Some at
+  node_step (node.«Node::Field» name at) = Some at
+  node_step (node.«Node::Global» name at) = Some at
+  node_step (node.SetLocal name value at) = value
+  node_step (node.SetField name value at) = earlier (Some at) value
+  node_step (node.SetGlobal name value at) = earlier (Some at) value
+  node_step (node.Store receiver name args at) = earlier receiver (first_of args)
+  node_step (node.OpAssign target op value at) = earlier (target at) value
+  node_step (node.Call receiver name args block at) =
+      earlier (here (is_unbuilt_call (is_some receiver) name (length args) (is_some block)) at) (earlier (in_any receiver) (earlier (first_of args) (in_any block)))
+  node_step (node.New class args at) = Some at
+  node_step (node.ThreadNew args body at) = Some at
+  node_step (node.And first second at) = earlier first second
+  node_step (node.Or first second at) = earlier first second
+  node_step (node.Not value at) = value
+  node_step (node.If condition first second at) = earlier condition (earlier (first_of first) (first_of second))
+  node_step (node.While condition body at) = earlier condition (first_of body)
+  node_step (node.Return value at) = in_any value
+  node_step leaf = None
+
+  -- what of a node is not run yet and stands first
+  unfoldable pub unbuilt_in : Node → Found
+  unbuilt_in = fold-Node Found Found (Span → Found) Found node_step piece_step target_step block_step
+
+  -- what of a piece of a text, of a target by the place of its assignment, and of a block
+  unfoldable pub unbuilt_in_piece : Piece → Found
+  unbuilt_in_piece = fold-Piece Found Found (Span → Found) Found node_step piece_step target_step block_step
+
+  unfoldable pub unbuilt_in_target : Target → Span → Found
+  unbuilt_in_target = fold-Target Found Found (Span → Found) Found node_step piece_step target_step block_step
+
+  unfoldable pub unbuilt_in_block : Block → Found
+  unbuilt_in_block = fold-Block Found Found (Span → Found) Found node_step piece_step target_step block_step
+
+  -- what of statements, and of methods
+  abbrev pub unbuilt_in_all : List Node → Found
+  unbuilt_in_all nodes = first_of (map unbuilt_in nodes)
+
+  abbrev pub unbuilt_in_methods : List Method → Found
+  unbuilt_in_methods methods = first_of (map (λ (m : Method). unbuilt_in_all m.body) methods)
+
+-- whether one of the methods is named `p`
+abbrev pub has_own_p : List (List ℕ) → List Method → Bool
+has_own_p names methods = list_any (λ (m : Method). is_p (text_of names m.name)) methods
+
+-- the first of the classes
+abbrev pub first_class : List Class → Found
+first_class classes = first_of (map (λ (c : Class). Some c.at) classes)
+
+-- what stands first of a program that is not run yet: a class, or what is in a method of the top level or in the top level itself
+abbrev pub first_unbuilt : Program → Found
+first_unbuilt program =
+    let own_p = has_own_p program.names program.functions in
+    earlier (first_class program.classes) (earlier (unbuilt_in_methods program.names own_p program.functions) (unbuilt_in_all program.names own_p program.main))
