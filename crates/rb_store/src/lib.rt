@@ -2,6 +2,7 @@
 #![tactic(auto)]
 
 mod history;
+mod kept;
 mod store;
 
 pub use history::{Entry, RunFront};

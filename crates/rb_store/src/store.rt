@@ -1,15 +1,18 @@
 // The store.
 
-ghost use Rattle.std.specs.Prelude.{◌≡◌, ◌<◌, ◌≤◌, ◌||◌, ◌++◌, true, false, ℕ, List, Option, Some, None, is_none, length, IfOk, IfErr};
+ghost use Rattle.std.specs.Prelude.{◌≡◌, ◌≤◌, ◌||◌, ◌++◌, true, false, ℕ, List, Option, is_none, is_ok, map, IfOk, IfErr};
 ghost use Rattle.std.specs.Option.{option_map};
+ghost use Rattle.rb_model.specs.Ends.{over};
 ghost use Rattle.rb_model.specs.Log as log;
-ghost use Rattle.rb_store.specs.Kept.{log_of, taken_of, has_risen};
+ghost use Rattle.rb_model.specs.Log.{Answers, has_end, is_sure};
+ghost use Rattle.rb_store.specs.Kept.{Caused, Written, entry_of, has_risen, last_of, log_of, taken_of};
 
 use crate::history::{Entry, History, RunFront};
+use crate::kept::{Last, Refused};
 use rb_edge::{Sink, write_all};
 use rb_model::{Answer, Call, End, OneStore, SharedText};
-use std::alloc::Global;
-use std::marker::PhantomData;
+use std::alloc::{AllocError, Global};
+use std::marker::{Brand, PhantomData};
 
 /// What the sink was when the run began.
 pub trait Begun {
@@ -20,15 +23,12 @@ pub trait Begun {
     ghost faults: { ℕ };
 }
 
-/// A print that the sink refused.
-#[derive(Drop)]
-pub(crate) struct Refused {
-    pub text: SharedText,
-    /// How many entries stood before it.
-    pub before: usize,
-    /// How many of its bytes were taken.
-    pub taken: usize,
-    ghost short: { taken < length text },
+impl Begun for Brand {
+    ghost use Rattle.std.specs.Prelude.{None};
+
+    ghost told = { None };
+
+    ghost faults = { 0 };
 }
 
 /// The store of the main thread.
@@ -36,10 +36,147 @@ pub(crate) struct Refused {
 pub struct MainStore<K: Sink, B: Begun> {
     out: K,
     history: History,
-    closing: Option<Entry>,
+    closing: Option<Last>,
     refused: Option<Refused>,
     begun: PhantomData<B>,
-    ghost written: { K.told out ≡ option_map (λ first. first ++ taken_of history refused) B.told },
+    ghost written: { K.told out ≡ option_map (λ first. first ++ taken_of history.entries.items refused) B.told },
     ghost rises: { B.faults ≤ K.faults out },
     ghost cause: { (is_none refused || has_risen B.faults (K.faults out)) ≡ true },
+}
+
+impl<K: Sink, B: Begun> MainStore<K, B> {
+    /// A store of which nothing was asked. Where there is no memory for it, the sink is given back.
+    pub fn new(alloc: Global, out: K) -> Result<MainStore<K, B>, K>
+        requires told { K.told out ≡ B.told }
+        requires faults { K.faults out ≡ B.faults }
+        ensures begun { IfOk result (λ s. log_of s.history.entries.items s.closing s.refused ≡ log.fresh) }
+        ensures back { IfErr result (λ sink. sink ≡ out) }
+    {
+        match History::new(alloc) {
+            Ok(history) => Ok(MainStore {
+                out,
+                history,
+                closing: None,
+                refused: None,
+                begun: PhantomData,
+            }),
+            Err(_) => Err(out),
+        }
+    }
+
+    /// The sink, and what the run shows of its history.
+    pub fn into_parts(self) -> (K, RunFront)
+        ensures entries { map entry_of result.1 ≡ (log_of self.history.entries.items self.closing self.refused).entries }
+        ensures written { Written B.told (K.told result.0) (log_of self.history.entries.items self.closing self.refused) }
+        ensures cause { Caused B.faults (K.faults result.0) (log_of self.history.entries.items self.closing self.refused).refusals }
+        ensures rises { B.faults ≤ K.faults result.0 }
+    {
+        let MainStore {
+            out,
+            history,
+            closing,
+            ..
+        } = self;
+        (out, front_with(history, closing))
+    }
+
+    /// Writes a text to the sink, for which room in the history was taken before.
+    fn print(&mut self, step: u64, text: &SharedText) -> Answer
+        requires open { has_end (log_of self.old.history.entries.items self.old.closing self.old.refused).entries ≡ false }
+        ensures answers { Answers result step (log.Print text.now)
+            (log_of self.old.history.entries.items self.old.closing self.old.refused)
+            (log_of self.new.history.entries.items self.new.closing self.new.refused) }
+        ensures rises { K.faults self.old.out ≤ K.faults self.new.out }
+    {
+        if let Some(_) = &self.refused {
+            return Answer::Memory;
+        }
+        let Ok(own) = text.share() else {
+            return Answer::Memory;
+        };
+        let Ok(()) = self.history.reserve() else {
+            return Answer::Memory;
+        };
+        match write_all(&mut self.out, own.as_slice()) {
+            Ok(()) => {
+                self.history.record(Entry {
+                    thread: 0,
+                    step,
+                    call: Call::Print(own),
+                });
+                Answer::Done
+            }
+            Err(failed) => {
+                self.refused = Some(Refused {
+                    text: own,
+                    before: self.history.len(),
+                    taken: failed.taken,
+                });
+                Answer::SinkFailed
+            }
+        }
+    }
+
+    /// Keeps how the thread ended.
+    fn close(&mut self, step: u64, end: &End) -> Answer
+        requires open { has_end (log_of self.old.history.entries.items self.old.closing self.old.refused).entries ≡ false }
+        ensures answers { Answers result step (log.End (over end.now))
+            (log_of self.old.history.entries.items self.old.closing self.old.refused)
+            (log_of self.new.history.entries.items self.new.closing self.new.refused) }
+        ensures sure { is_sure (log.End (over end.now)) ≡ true → result ≡ Answer.Done }
+        ensures rises { K.faults self.old.out ≤ K.faults self.new.out }
+    {
+        match copy_of(end) {
+            Ok(end) => {
+                self.closing = Some(Last { step, end });
+                Answer::Done
+            }
+            Err(_) => Answer::Memory,
+        }
+    }
+}
+
+impl<K: Sink, B: Begun> OneStore for MainStore<K, B> {
+    ghost log = { λ s. log_of s.history.entries.items s.closing s.refused };
+
+    ghost faults = { λ s. K.faults s.out };
+
+    fn call(&mut self, step: u64, call: &Call) -> Answer {
+        match call {
+            Call::Print(text) => self.print(step, text),
+            Call::End(end) => self.close(step, end),
+        }
+    }
+}
+
+/// What a run shows of its history, with how it ended behind it.
+fn front_with(history: History, closing: Option<Last>) -> RunFront
+    ensures { map entry_of result ≡ map entry_of history.entries.items ++ last_of closing }
+{
+    match closing {
+        Some(last) => history.into_front_with(Entry {
+            thread: 0,
+            step: last.step,
+            call: Call::End(last.end),
+        }),
+        None => history.into_front(),
+    }
+}
+
+/// The same end. Only a value may want memory.
+fn copy_of(end: &End) -> Result<End, AllocError>
+    ensures same { IfOk result (λ copy. over copy ≡ over end.now) }
+    ensures sure { is_sure (log.End (over end.now)) ≡ true → is_ok result ≡ true }
+{
+    match end {
+        End::Value(value) => Ok(End::Value(value.share()?)),
+        End::Raised(fault, at) => Ok(End::Raised(*fault, *at)),
+        End::Steps => Ok(End::Steps),
+        End::Full { used, asked } => Ok(End::Full {
+            used: *used,
+            asked: *asked,
+        }),
+        End::Sink => Ok(End::Sink),
+        End::Memory => Ok(End::Memory),
+    }
 }
