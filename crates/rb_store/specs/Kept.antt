@@ -3,12 +3,13 @@ use Rattle.std.specs.Prelude.{ℕ, ◌<◌, Bool, ◌||◌, ◌==◌, nat_lt, �
 use Rattle.rb_model.specs.Ends.{over}
 use Rattle.rb_model.specs.Log.{Log, Entry, Refusal, Print, End, asked, plain_entry, printed, prints}
 use Rattle.rb_edge.specs.Edge.{Adds, Rose}
-use Rattle.rb_store.specs.declared.history.Entry.{Entry as Kept}
+use Rattle.rb_store.specs.declared.history.Entry.{Entry as Held}
+use Rattle.rb_store.specs.declared.kept.Kept.{Kept}
 use Rattle.rb_store.specs.declared.kept.Last.{Last}
 use Rattle.rb_store.specs.declared.kept.Refused.{Refused}
 
 -- an entry of the code, as one of the log of the main thread
-abbrev pub entry_of : Kept → Entry
+abbrev pub entry_of : Held → Entry
 entry_of e = plain_entry e.step (asked e.call)
 
 -- the last entry, where the thread has ended
@@ -21,8 +22,9 @@ abbrev pub refusals_of : Option Refused → List Refusal
 refusals_of None = []
 refusals_of (Some r) = record { call = Print r.text; moved = []; before = r.before } ∷ []
 
-abbrev pub log_of : List Kept → Option Last → Option Refused → Log
-log_of entries closing refused = record { entries = map entry_of entries ++ last_of closing; refusals = refusals_of refused }
+-- what was asked, as a log
+abbrev pub log_of : Kept → Log
+log_of k = record { entries = map entry_of k.history.entries.items ++ last_of k.closing; refusals = refusals_of k.refused }
 
 -- the bytes of a refused print that the sink took all the same
 abbrev pub front_of : Option Refused → List ℕ
@@ -30,8 +32,8 @@ front_of None = []
 front_of (Some r) = take r.taken r.text
 
 -- the bytes that the sink took: those of the prints, and behind them a front of the one that it refused
-abbrev pub taken_of : List Kept → Option Refused → List ℕ
-taken_of entries refused = prints (map entry_of entries) ++ front_of refused
+abbrev pub taken_of : Kept → List ℕ
+taken_of k = prints (map entry_of k.history.entries.items) ++ front_of k.refused
 
 -- whether a count of faults rose, or stands at the last value of a `u64`
 abbrev pub has_risen : ℕ → ℕ → Bool

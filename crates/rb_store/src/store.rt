@@ -5,10 +5,10 @@ ghost use Rattle.std.specs.Option.{option_map};
 ghost use Rattle.rb_model.specs.Ends.{over};
 ghost use Rattle.rb_model.specs.Log as log;
 ghost use Rattle.rb_model.specs.Log.{Answers, has_end, is_sure};
-ghost use Rattle.rb_store.specs.Kept.{Caused, Written, entry_of, has_risen, last_of, log_of, taken_of};
+ghost use Rattle.rb_store.specs.Kept.{Caused, Written, entry_of, has_risen, log_of, taken_of};
 
 use crate::history::{Entry, History, RunFront};
-use crate::kept::{Last, Refused};
+use crate::kept::{Kept, Last, Refused};
 use rb_edge::{Sink, write_all};
 use rb_model::{Answer, Call, End, OneStore, SharedText};
 use std::alloc::{AllocError, Global};
@@ -35,13 +35,11 @@ impl Begun for Brand {
 #[derive(Drop)]
 pub struct MainStore<K: Sink, B: Begun> {
     out: K,
-    history: History,
-    closing: Option<Last>,
-    refused: Option<Refused>,
+    kept: Kept,
     begun: PhantomData<B>,
-    ghost written: { K.told out ≡ option_map (λ first. first ++ taken_of history.entries.items refused) B.told },
+    ghost written: { K.told out ≡ option_map (λ first. first ++ taken_of kept) B.told },
     ghost rises: { B.faults ≤ K.faults out },
-    ghost cause: { (is_none refused || has_risen B.faults (K.faults out)) ≡ true },
+    ghost cause: { (is_none kept.refused || has_risen B.faults (K.faults out)) ≡ true },
 }
 
 impl<K: Sink, B: Begun> MainStore<K, B> {
@@ -49,15 +47,17 @@ impl<K: Sink, B: Begun> MainStore<K, B> {
     pub fn new(alloc: Global, out: K) -> Result<MainStore<K, B>, K>
         requires told { K.told out ≡ B.told }
         requires faults { K.faults out ≡ B.faults }
-        ensures begun { IfOk result (λ s. log_of s.history.entries.items s.closing s.refused ≡ log.fresh) }
+        ensures begun { IfOk result (λ s. log_of s.kept ≡ log.fresh) }
         ensures back { IfErr result (λ sink. sink ≡ out) }
     {
         match History::new(alloc) {
             Ok(history) => Ok(MainStore {
                 out,
-                history,
-                closing: None,
-                refused: None,
+                kept: Kept {
+                    history,
+                    closing: None,
+                    refused: None,
+                },
                 begun: PhantomData,
             }),
             Err(_) => Err(out),
@@ -66,40 +66,35 @@ impl<K: Sink, B: Begun> MainStore<K, B> {
 
     /// The sink, and what the run shows of its history.
     pub fn into_parts(self) -> (K, RunFront)
-        ensures entries { map entry_of result.1 ≡ (log_of self.history.entries.items self.closing self.refused).entries }
-        ensures written { Written B.told (K.told result.0) (log_of self.history.entries.items self.closing self.refused) }
-        ensures cause { Caused B.faults (K.faults result.0) (log_of self.history.entries.items self.closing self.refused).refusals }
+        ensures sink { result.0 ≡ self.out }
+        ensures entries { map entry_of result.1 ≡ (log_of self.kept).entries }
+        ensures written { Written B.told (K.told result.0) (log_of self.kept) }
+        ensures cause { Caused B.faults (K.faults result.0) (log_of self.kept).refusals }
         ensures rises { B.faults ≤ K.faults result.0 }
     {
-        let MainStore {
-            out,
-            history,
-            closing,
-            ..
-        } = self;
-        (out, front_with(history, closing))
+        let MainStore { out, kept, .. } = self;
+        (out, kept.into_front())
     }
 
-    /// Writes a text to the sink, for which room in the history was taken before.
+    /// Writes a text to the sink, once there is room for its entry and for the last one behind it. Behind a print that was refused
+    /// nothing is written.
     fn print(&mut self, step: u64, text: &SharedText) -> Answer
-        requires open { has_end (log_of self.old.history.entries.items self.old.closing self.old.refused).entries ≡ false }
-        ensures answers { Answers result step (log.Print text.now)
-            (log_of self.old.history.entries.items self.old.closing self.old.refused)
-            (log_of self.new.history.entries.items self.new.closing self.new.refused) }
+        requires open { has_end (log_of self.old.kept).entries ≡ false }
+        ensures answers { Answers result step (log.Print text.now) (log_of self.old.kept) (log_of self.new.kept) }
         ensures rises { K.faults self.old.out ≤ K.faults self.new.out }
     {
-        if let Some(_) = &self.refused {
+        if let Some(_) = &self.kept.refused {
             return Answer::Memory;
         }
         let Ok(own) = text.share() else {
             return Answer::Memory;
         };
-        let Ok(()) = self.history.reserve() else {
+        let Ok(()) = self.kept.history.reserve() else {
             return Answer::Memory;
         };
         match write_all(&mut self.out, own.as_slice()) {
             Ok(()) => {
-                self.history.record(Entry {
+                self.kept.history.record(Entry {
                     thread: 0,
                     step,
                     call: Call::Print(own),
@@ -107,9 +102,9 @@ impl<K: Sink, B: Begun> MainStore<K, B> {
                 Answer::Done
             }
             Err(failed) => {
-                self.refused = Some(Refused {
+                self.kept.refused = Some(Refused {
                     text: own,
-                    before: self.history.len(),
+                    before: self.kept.history.len(),
                     taken: failed.taken,
                 });
                 Answer::SinkFailed
@@ -119,16 +114,14 @@ impl<K: Sink, B: Begun> MainStore<K, B> {
 
     /// Keeps how the thread ended.
     fn close(&mut self, step: u64, end: &End) -> Answer
-        requires open { has_end (log_of self.old.history.entries.items self.old.closing self.old.refused).entries ≡ false }
-        ensures answers { Answers result step (log.End (over end.now))
-            (log_of self.old.history.entries.items self.old.closing self.old.refused)
-            (log_of self.new.history.entries.items self.new.closing self.new.refused) }
+        requires open { has_end (log_of self.old.kept).entries ≡ false }
+        ensures answers { Answers result step (log.End (over end.now)) (log_of self.old.kept) (log_of self.new.kept) }
         ensures sure { is_sure (log.End (over end.now)) ≡ true → result ≡ Answer.Done }
         ensures rises { K.faults self.old.out ≤ K.faults self.new.out }
     {
         match copy_of(end) {
             Ok(end) => {
-                self.closing = Some(Last { step, end });
+                self.kept.closing = Some(Last { step, end });
                 Answer::Done
             }
             Err(_) => Answer::Memory,
@@ -137,7 +130,7 @@ impl<K: Sink, B: Begun> MainStore<K, B> {
 }
 
 impl<K: Sink, B: Begun> OneStore for MainStore<K, B> {
-    ghost log = { λ s. log_of s.history.entries.items s.closing s.refused };
+    ghost log = { λ s. log_of s.kept };
 
     ghost faults = { λ s. K.faults s.out };
 
@@ -146,20 +139,6 @@ impl<K: Sink, B: Begun> OneStore for MainStore<K, B> {
             Call::Print(text) => self.print(step, text),
             Call::End(end) => self.close(step, end),
         }
-    }
-}
-
-/// What a run shows of its history, with how it ended behind it.
-fn front_with(history: History, closing: Option<Last>) -> RunFront
-    ensures { map entry_of result ≡ map entry_of history.entries.items ++ last_of closing }
-{
-    match closing {
-        Some(last) => history.into_front_with(Entry {
-            thread: 0,
-            step: last.step,
-            call: Call::End(last.end),
-        }),
-        None => history.into_front(),
     }
 }
 
