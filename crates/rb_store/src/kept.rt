@@ -40,7 +40,9 @@ impl Kept {
         ensures { map entry_of result ≡ (log_of self).entries }
     {
         let Kept {
-            history, closing, ..
+            history,
+            closing,
+            ..
         } = self;
         match closing {
             Some(last) => history.into_front_with(Entry {

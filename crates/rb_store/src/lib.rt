@@ -4,6 +4,8 @@
 mod history;
 mod kept;
 mod store;
+#[cfg(test)]
+mod tests;
 
 pub use history::{Entry, RunFront};
 pub use store::{Begun, MainStore};
