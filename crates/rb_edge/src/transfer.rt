@@ -1,6 +1,6 @@
 //! Reading a whole source and writing a whole text, in turns.
 
-ghost use Rattle.std.specs.Prelude.{◌≡◌, ◌≤◌, ◌<◌, ℕ, List, IsErrOf, IfOk, OnOk, OnErr, length, take};
+ghost use Rattle.std.specs.Prelude.{◌≡◌, ◌≤◌, ◌<◌, ℕ, List, IsErrOf, IfOk, IfErr, OnOk, OnErr, length, take};
 ghost use Rattle.rb_edge.specs.Edge.{Adds, Rose};
 ghost use Rattle.rb_edge.specs.Transfer.{NotHeld, ReadOf};
 
@@ -26,7 +26,10 @@ pub enum ReadFault {
 
 /// The sink failed before it had taken all of a text.
 #[derive(Clone, Copy, Debug, PartialEq, Eq, Drop)]
-pub struct SinkFailed;
+pub struct SinkFailed {
+    /// How many bytes it had taken, from the front.
+    pub taken: usize,
+}
 
 /// Reads a file to its end, or 1,048,577 bytes of it.
 pub fn read_source<F: Files>(alloc: Global, files: &mut F, path: &str) -> Result<Vec<u8>, ReadFault>
@@ -60,6 +63,7 @@ pub fn read_source<F: Files>(alloc: Global, files: &mut F, path: &str) -> Result
 pub fn write_all<K: Sink>(sink: &mut K, text: &[u8]) -> Result<(), SinkFailed>
     ensures all { OnOk result (Adds (K.told sink.old) (K.told sink.new) text.now) }
     ensures front { OnErr result ((n : ℕ) × (n < length text.now) × Adds (K.told sink.old) (K.told sink.new) (take n text.now)) }
+    ensures taken { IfErr result (λ failed. (failed.taken < length text.now) × Adds (K.told sink.old) (K.told sink.new) (take failed.taken text.now)) }
     ensures cause { OnErr result (Rose (K.faults sink.old) (K.faults sink.new)) }
     ensures rises { K.faults sink.old ≤ K.faults sink.new }
 {
@@ -67,7 +71,7 @@ pub fn write_all<K: Sink>(sink: &mut K, text: &[u8]) -> Result<(), SinkFailed>
     'turns: while taken < text.len() {
         match sink.write(&text[taken..]) {
             Write::Took(count) => taken += count,
-            Write::Failed => return Err(SinkFailed),
+            Write::Failed => return Err(SinkFailed { taken }),
         }
     }
     Ok(())

@@ -94,13 +94,13 @@ fn a_text_is_written_piece_by_piece(rt: HostRuntime) -> Result<(), Fail> {
     let alloc = rt.alloc();
     let cases = [
         (0, 100, Ok(()), "abcdefgh"),
-        (1, 100, Err(SinkFailed), ""),
-        (2, 100, Err(SinkFailed), "abc"),
-        (3, 100, Err(SinkFailed), "abcdef"),
+        (1, 100, Err(SinkFailed { taken: 0 }), ""),
+        (2, 100, Err(SinkFailed { taken: 3 }), "abc"),
+        (3, 100, Err(SinkFailed { taken: 6 }), "abcdef"),
         (4, 100, Ok(()), "abcdefgh"),
         (0, 8, Ok(()), "abcdefgh"),
-        (0, 7, Err(SinkFailed), "abcdef"),
-        (0, 0, Err(SinkFailed), ""),
+        (0, 7, Err(SinkFailed { taken: 6 }), "abcdef"),
+        (0, 0, Err(SinkFailed { taken: 0 }), ""),
     ];
     for (number, room, answer, told) in cases {
         let inner = MemorySink::new(alloc, vec![in alloc; number]?, room)?;
@@ -120,7 +120,7 @@ fn an_empty_text_needs_no_write(rt: HostRuntime) -> Result<(), Fail> {
     let alloc = rt.alloc();
     let mut sink = MemorySink::new(alloc, vec![in alloc; 1]?, 0)?;
     assert_eq!(rt; write_all(&mut sink, b""), Ok(()));
-    assert_eq!(rt; write_all(&mut sink, b"a"), Err(SinkFailed));
+    assert_eq!(rt; write_all(&mut sink, b"a"), Err(SinkFailed { taken: 0 }));
     assert_eq!(rt; write_all(&mut NeverFailsSink {}, b"abc"), Ok(()));
     Ok(())
 }
