@@ -1,11 +1,11 @@
 -- From how the top level comes out to what the main thread did.
-use Rattle.std.proofs.Common.{◌≡◌, ℕ, ◌-◌, ◌≤◌, ◌<◌, Bool, true, false, List, [], ◌∷◌, length, map, Some, refl, sym, ap, ◌∙◌, subst, arith}
+use Rattle.std.proofs.Common.{◌≡◌, ℕ, ◌-◌, ◌≤◌, ◌<◌, Bool, true, false, List, [], ◌∷◌, ◌++◌, length, map, Some, refl, sym, ap, ◌∙◌, subst, arith}
 use Rattle.std.specs.Prelude.{◌&&◌, nat_le, slice_get}
 use Rattle.std.specs.List.{list_all}
 use Rattle.rb_model.specs.Values.{Value as Val, Nil, To, Reference}
 use Rattle.rb_model.specs.Ends.{End, told}
 use Rattle.rb_model.specs.Ends as ending
-use Rattle.rb_model.specs.Log.{Log, Print, refused, logged, plain_entry, Answers, is_sure, is_print}
+use Rattle.rb_model.specs.Log.{Log, Refusal, Print, refused, logged, plain_entry, Answers, is_sure, is_print}
 use Rattle.rb_model.specs.Log as log
 use Rattle.rb_model.specs.declared.call.Answer.{Answer}
 use Rattle.rb_model.specs.declared.call.Answer.TheVariants as answer
@@ -77,6 +77,28 @@ module _ (S : Script) (N : ℕ) (start : State) (h : Private) where
   -- what the main thread did, behind its last call
   pub follows : (l new : Log) (o : Outcome) (how : End) (sc : Scope) (d n : ℕ) → Came S N start l h o (Then (Instead Nil) ∷ []) sc d n → Closes (N - n) l (ends_with o) new how → Follows S 0 N start new how
   follows l new o how sc d n a c = closed_by l new (ends_with o) how (N - n) (tells_nothing o l sc d n a) c (comes_out l o sc d n a)
+
+-- where the thread ends with the sink's failure, the last that was refused is a print
+own_sink : (o : Outcome) (l : Log) (S : Script) (N : ℕ) (start : State) (h : Private) (k : List Cont) (sc : Scope) (d n : ℕ) → Came S N start l h o k sc d n → ends_with o ≡ ending.Sink → (before : List Refusal) × (r : Refusal) × (l.refusals ≡ before ++ r ∷ [])
+own_sink (Gave v) l S N start h k sc d n a e = absurd (cc)
+own_sink (Left exit) l S N start h k sc d n a e = absurd (cc)
+own_sink (Over (ending.Value v)) l S N start h k sc d n a e = absurd a
+own_sink (Over (ending.Raised f at)) l S N start h k sc d n a e = absurd (cc)
+own_sink (Over ending.Steps) l S N start h k sc d n a e = absurd (cc)
+own_sink (Over (ending.Full p q)) l S N start h k sc d n a e = absurd a
+own_sink (Over ending.Memory) l S N start h k sc d n a e = absurd (cc)
+own_sink (Over ending.Sink) l S N start h k sc d n a e = (a.0.refusals, record { call = Print a.2; moved = []; before = length a.0.entries }, ap (λ (x : Log). x.refusals) a.6)
+
+told_refusals : (step : ℕ) (l new : Log) (e how : End) → Closes step l e new how → how ≡ ending.Sink → (e ≡ ending.Sink) × (new.refusals ≡ l.refusals)
+told_refusals step l new e how (tells x) q = (q, refl)
+told_refusals step l new e how (lacks v) q = absurd (cc)
+
+pub refused_last : (S : Script) (N : ℕ) (start : State) (h : Private) (l new : Log) (o : Outcome) (how : End) (k : List Cont) (sc : Scope) (d n step : ℕ) → Came S N start l h o k sc d n → Closes step l (ends_with o) new how → how ≡ ending.Sink
+    → (before : List Refusal) × (r : Refusal) × (new.refusals ≡ before ++ r ∷ [])
+refused_last S N start h l new o how k sc d n step a c q =
+    let t = told_refusals step l new (ends_with o) how c q in
+    let m = own_sink o l S N start h k sc d n a t.0 in
+    (m.0, m.1, t.1 ∙ m.2)
 
 -- what the last call leaves, by what the store answers
 pub lacking : (step : ℕ) (e : End) (l m n : Log) (a b : Answer) → a ≡ answer.Memory → Answers a step (log.End e) l m → (is_sure (log.End e) ≡ true → a ≡ answer.Done) → Answers b step (log.End ending.Memory) m n → b ≡ answer.Done

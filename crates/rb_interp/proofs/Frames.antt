@@ -56,7 +56,6 @@ found_at p xs i x h e =
 
 -- ---- methods
 
-
 -- the method of a number is the one that its name finds
 function_is : (S : Script) (c : CodeScript) (number : ℕ) (name : NameId) (m : CodeMethod) → StandsFor c S → is_at (function_of S name) number ≡ true → slice_get c.functions number ≡ Some m
     → named S name S.program.functions ≡ Some (erase_method m)

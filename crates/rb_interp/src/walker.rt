@@ -8,7 +8,7 @@ ghost use Rattle.rb_tree.specs.declared.span.NameId.{NameId};
 ghost use Rattle.rb_model.specs.Values.{Value as Val, Nil, Int, plain, truthy};
 ghost use Rattle.rb_model.specs.declared.value.Value.{Value as Held};
 ghost use Rattle.rb_model.specs.declared.value.Value.TheVariants as held;
-ghost use Rattle.rb_model.specs.Ends.{Raised, over};
+ghost use Rattle.rb_model.specs.Ends.{Raised, Sink, over};
 ghost use Rattle.rb_model.specs.Log.{has_end};
 ghost use Rattle.rb_model.specs.Log as log;
 ghost use Rattle.rb_model.specs.Private.{Private};
@@ -1330,6 +1330,7 @@ pub fn run_main<'p, O: OneStore + Drop>(
 ) -> (O, End)
     requires begun { O.log store ≡ log.fresh }
     ensures follows { (S : Script) → StandsFor context.entry.script.now S → S.program.names ≡ context.entry.names.now → Follows S 0 context.entry.steps (opening S context.entry.steps) (O.log result.0) (over result.1) }
+    ensures refused { (S : Script) → StandsFor context.entry.script.now S → S.program.names ≡ context.entry.names.now → over result.1 ≡ Sink → (before : List log.Refusal) × (r : log.Refusal) × ((O.log result.0).refusals ≡ before ++ r ∷ []) }
 {
     let mut walker = Walker {
         context,

@@ -1,0 +1,101 @@
+// The run of a program.
+
+ghost use Rattle.std.specs.Prelude.{◌≡◌, ◌≤◌, ◌++◌, [], ◌∷◌, ℕ, List, map, IfOk, IfErr};
+ghost use Rattle.rb_model.specs.Ends.{over};
+ghost use Rattle.rb_model.specs.Ends as ending;
+ghost use Rattle.rb_model.specs.Log.{Log, Refusal};
+ghost use Rattle.rb_machine.specs.Scopes.{Script};
+ghost use Rattle.rb_machine.specs.Follows.{Follows};
+ghost use Rattle.rb_machine.specs.Alone.{opening};
+ghost use Rattle.rb_code.specs.Stands.{StandsFor};
+ghost use Rattle.rb_edge.specs.Edge.{Rose};
+ghost use Rattle.rb_store.specs.Kept.{entry_of, Written, Caused};
+ghost use Rattle.rb_run.specs.Run.{IsRunOf};
+
+use crate::row::row_of;
+use rb_code::CodeScript;
+use rb_edge::Sink;
+use rb_interp::{Context, run_main};
+use rb_model::End;
+use rb_resolver::{ResolveFault, resolve};
+use rb_store::{Begun, MainStore, RunFront};
+use rb_tree::{Names, Program};
+use std::alloc::Global;
+use std::marker::Brand;
+
+/// What a run gives back: the sink, the history, and how it ended.
+#[derive(Drop)]
+pub struct Ran<K> {
+    pub out: K,
+    pub front: RunFront,
+    pub end: End,
+}
+
+/// A run that did not begin: the sink, and why.
+#[derive(Drop)]
+pub struct Stopped<K> {
+    pub out: K,
+    pub why: ResolveFault,
+}
+
+/// Runs a resolved script over a sink of which is known what it told and how often it had failed.
+fn run_with<K: Sink + Drop, B: Begun>(
+    alloc: Global,
+    code: &CodeScript,
+    names: &Names,
+    steps: u64,
+    out: K,
+) -> Result<Ran<K>, K>
+    requires told { K.told out ≡ B.told }
+    requires faults { K.faults out ≡ B.faults }
+    ensures does { IfOk result (λ ran. (log : Log) × (map entry_of ran.front ≡ log.entries) × Written B.told (K.told ran.out) log × Caused B.faults (K.faults ran.out) log.refusals
+        × ((S : Script) → StandsFor code.now S → S.program.names ≡ names.now → Follows S 0 steps (opening S steps) log (over ran.end))
+        × ((S : Script) → StandsFor code.now S → S.program.names ≡ names.now → over ran.end ≡ ending.Sink → (before : List Refusal) × (r : Refusal) × (log.refusals ≡ before ++ r ∷ []))) }
+    ensures rises { IfOk result (λ ran. B.faults ≤ K.faults ran.out) }
+    ensures back { IfErr result (λ sink. sink ≡ out) }
+{
+    let Ok(mut row) = row_of(alloc, code) else {
+        return Err(out);
+    };
+    let store = match MainStore::<K, B>::new(alloc, out) {
+        Ok(store) => store,
+        Err(out) => return Err(out),
+    };
+    let context = Context {
+        alloc,
+        names,
+        script: code,
+        steps,
+    };
+    let (store, end) = run_main(context, store, row.as_mut_slice());
+    let (out, front) = store.into_parts();
+    Ok(Ran { out, front, end })
+}
+
+/// Runs a program with so many steps at most. It is run as the reference machine says, unless there is something in it that is not run yet.
+///
+/// # Errors
+/// What keeps it from being run, with the sink as it was.
+pub fn run_program<K: Sink + Drop>(
+    alloc: Global,
+    program: &Program,
+    steps: u64,
+    out: K,
+) -> Result<Ran<K>, Stopped<K>>
+    ensures runs { IfOk result (λ ran. IsRunOf program.now steps (K.told out) (K.told ran.out) ran.front (over ran.end)) }
+    ensures cause { IfOk result (λ ran. over ran.end ≡ ending.Sink → Rose (K.faults out) (K.faults ran.out)) }
+    ensures rises { IfOk result (λ ran. K.faults out ≤ K.faults ran.out) }
+    ensures back { IfErr result (λ stopped. stopped.out ≡ out) }
+{
+    let code = match resolve(alloc, program) {
+        Ok(code) => code,
+        Err(why) => return Err(Stopped { out, why }),
+    };
+    match run_with::<K, Brand>(alloc, &code, &program.names, steps, out) {
+        Ok(ran) => Ok(ran),
+        Err(out) => Err(Stopped {
+            out,
+            why: ResolveFault::Memory,
+        }),
+    }
+}
