@@ -7,11 +7,10 @@ ghost use Rattle.rb_tree.specs.Place.{line_of, column_of};
 ghost use Rattle.rb_edge.specs.Edge.{Rose, Told};
 ghost use Rattle.rb_prog.specs.Remarks.{fault_name, fault_line, refused_as, refusal_line, end_line};
 
-use rb_edge::Sink;
 use crate::model::{End, Fault};
 use crate::refusal::{Refusal, Row, row_of};
-use rb_edge::write_all;
 use itoa::Buffer;
+use rb_edge::{Sink, write_all};
 use rb_tree::line_column;
 
 /// The words are none of the program's.

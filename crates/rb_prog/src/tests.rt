@@ -4,9 +4,9 @@ mod names;
 mod refusals;
 mod sources;
 
-use rb_edge::{Gate, MemoryFiles, MemorySink, OpenGate};
 use crate::model::{Call, End, Fault, Reply, Value};
 use crate::{Report, run};
+use rb_edge::{Gate, MemoryFiles, MemorySink, OpenGate};
 use rb_tree::{Items, Span, Text};
 use std::alloc::{AllocError, Global};
 use std::process::ExitCode;

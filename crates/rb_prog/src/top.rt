@@ -12,14 +12,13 @@ ghost use Rattle.rb_prog.specs.Remarks.{usage_line, memory_line};
 ghost use Rattle.rb_prog.specs.Run as spec;
 ghost use Rattle.rb_prog.specs.Run.{Accepts, RunsSource, Runs};
 
-use rb_edge::{Files, Gate, Sink};
 use crate::history::RunFront;
 use crate::model::End;
 use crate::remarks::{MEMORY, SOURCE_FAILED, SOURCE_MISSING, USAGE, tell, tell_end, tell_refusal};
 use crate::source::{Unaccepted, accept};
-use rb_edge::{ReadFault, read_source};
 use crate::walk::{Ran, run_main};
 use rb_command::{Command, command_of};
+use rb_edge::{Files, Gate, ReadFault, Sink, read_source};
 use std::alloc::{AllocError, Global};
 use std::process::ExitCode;
 use std::sync::Arc;

@@ -8,12 +8,11 @@ ghost use Rattle.rb_prog.specs.History.{line_of, ended, end_of};
 ghost use Rattle.rb_prog.specs.Walk.{Prints};
 ghost use Rattle.rb_prog.specs.Run.{IsRunOf};
 
-use rb_edge::Sink;
 use crate::history::{History, RunFront};
 use crate::lines::{Deed, deed_of, nodes_of};
 use crate::locals::Locals;
 use crate::model::{Call, End, Entry, Fault, Reply, Value};
-use rb_edge::write_all;
+use rb_edge::{Sink, write_all};
 use rb_tree::{Items, Program, Text};
 use std::alloc::{AllocError, Global};
 
