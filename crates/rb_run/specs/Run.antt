@@ -1,13 +1,12 @@
 -- What a run of a program is.
-use Rattle.std.specs.Prelude.{◌≡◌, ◌≤◌, ℕ, false, List, ◌++◌, Option, map}
+use Rattle.std.specs.Prelude.{◌≡◌, ℕ, false, List, ◌++◌, Option, map}
 use Rattle.rb_tree.specs.declared.node.Program.{Program}
-use Rattle.rb_model.specs.Ends.{End, Sink}
+use Rattle.rb_model.specs.Ends.{End}
 use Rattle.rb_model.specs.Log.{Log, prints}
 use Rattle.rb_machine.specs.Follows.{Follows}
 use Rattle.rb_machine.specs.Alone.{opening, Alone}
 use Rattle.rb_machine.specs.Laws.{is_cut, last_step}
 use Rattle.rb_resolver.specs.Names.{script_of}
-use Rattle.rb_edge.specs.Edge.{Rose}
 use Rattle.rb_store.specs.declared.history.Entry.{Entry}
 use Rattle.rb_store.specs.Kept.{entry_of, Written}
 

@@ -72,10 +72,10 @@ fn run_with<K: Sink + Drop, B: Begun>(
     Ok(Ran { out, front, end })
 }
 
-/// Runs a program with so many steps at most. It is run as the reference machine says, unless there is something in it that is not run yet.
+/// Runs a program with so many steps at most. Where it is run, it does what the reference machine says, or a part of that.
 ///
 /// # Errors
-/// What keeps it from being run, with the sink as it was.
+/// `NotBuilt` with a place, or `Memory`, with the sink as it was. Of neither a clause says when.
 pub fn run_program<K: Sink + Drop>(
     alloc: Global,
     program: &Program,

@@ -1,5 +1,6 @@
 -- What the store keeps, as a log; and what its sink has taken.
 use Rattle.std.specs.Prelude.{ℕ, ◌<◌, Bool, ◌||◌, ◌==◌, nat_lt, ◌^◌, ◌-◌, List, [], ◌∷◌, ◌++◌, map, take, length, Option, Some, None}
+use Rattle.rb_model.specs.Acts.{Done}
 use Rattle.rb_model.specs.Ends.{over}
 use Rattle.rb_model.specs.Log.{Log, Entry, Refusal, Print, End, asked, plain_entry, printed, prints}
 use Rattle.rb_edge.specs.Edge.{Adds, Rose}
@@ -8,9 +9,9 @@ use Rattle.rb_store.specs.declared.kept.Kept.{Kept}
 use Rattle.rb_store.specs.declared.kept.Last.{Last}
 use Rattle.rb_store.specs.declared.kept.Refused.{Refused}
 
--- an entry of the code, as one of the log of the main thread
+-- an entry of the code, as one of a log: it moves nothing and is done
 abbrev pub entry_of : Held → Entry
-entry_of e = plain_entry e.step (asked e.call)
+entry_of e = record { thread = e.thread; step = e.step; call = asked e.call; moved = []; reply = Done }
 
 -- the last entry, where the thread has ended
 abbrev pub last_of : Option Last → List Entry
