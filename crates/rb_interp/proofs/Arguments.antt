@@ -1,7 +1,6 @@
 -- Arguments, which come to stand behind a frame one by one.
-use Rattle.std.proofs.Common.{◌≡◌, ℕ, ◌+◌, ◌≤◌, ◌<◌, Bool, true, false, List, [], ◌∷◌, ◌++◌, length, map, drop, take, Option, Some, None, refl, sym, ap, ◌∙◌, arith}
+use Rattle.std.proofs.Common.{◌≡◌, ℕ, ◌+◌, ◌≤◌, ◌<◌, Bool, true, false, List, [], ◌∷◌, ◌++◌, length, map, drop, take, refl, sym, ap, ◌∙◌, arith}
 use Rattle.std.specs.Prelude.{slice_get, slice_set}
-use Rattle.std.proofs.lemmas.Slice.Eq.{bytes_eq-Decides}
 use Rattle.rb_tree.specs.declared.span.Span.{Span}
 use Rattle.rb_tree.specs.declared.span.NameId.{NameId}
 use Rattle.rb_tree.specs.declared.node.Node.{Node}
@@ -13,9 +12,6 @@ use Rattle.rb_model.specs.Private.{Private}
 use Rattle.rb_machine.specs.Scopes.{Script, Scope}
 use Rattle.rb_machine.specs.Control.{State, On, Cont, Then, Give, Passing, Argument, Aim}
 use Rattle.rb_machine.specs.Follows.{At}
-use Rattle.rb_builtin.specs.declared.builtin.Builtin.{Builtin}
-use Rattle.rb_builtin.specs.declared.builtin.Builtin.TheVariants as builtin
-use Rattle.rb_builtin.specs.Names.{name_of, builtin_of, same_number}
 use Rattle.rb_code.specs.Layout.{bound}
 use Rattle.rb_interp.specs.declared.came.Came.{Came as Registers}
 use Rattle.rb_interp.specs.declared.came.Came.TheVariants as came

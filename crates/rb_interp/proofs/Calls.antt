@@ -1,5 +1,5 @@
 -- Calls of methods of values: no value that there is yet has a method of the script.
-use Rattle.std.proofs.Common.{◌≡◌, ℕ, Bool, true, false, List, [], ◌∷◌, Option, Some, None, refl, sym, ap, ◌∙◌, subst}
+use Rattle.std.proofs.Common.{◌≡◌, ℕ, true, List, [], Option, Some, None, refl, sym, ap, ◌∙◌, subst}
 use Rattle.std.specs.Prelude.{is_none}
 use mathlib.Core.Logic.{inl, inr}
 use Rattle.rb_tree.specs.declared.span.Span.{Span}
@@ -8,18 +8,17 @@ use Rattle.rb_model.specs.declared.value.Sort.{Sort}
 use Rattle.rb_model.specs.declared.value.Sort.TheVariants as sort
 use Rattle.rb_model.specs.declared.fault.Fault.TheVariants.{NoMethod}
 use Rattle.rb_model.specs.Values.{Value as Val, Nil, False, True, Int, Sym, Str, To}
-use Rattle.rb_model.specs.Ends.{Raised, Memory}
 use Rattle.rb_model.specs.Log.{Log}
 use Rattle.rb_model.specs.Private.{Private}
 use Rattle.rb_machine.specs.Scopes.{Script, Scope, Text}
-use Rattle.rb_machine.specs.Control.{State, On, Cont, Then, Instead, Turning, Turns}
+use Rattle.rb_machine.specs.Control.{State, Cont}
 use Rattle.rb_machine.specs.Call.{invoke, invoked, answered, methods_of, methods_of_sort, texted, raised, params_of}
 use Rattle.rb_machine.specs.Methods.{Answer, Gives, Raises, Loops, deed}
 use Rattle.rb_machine.specs.Move.{left_in}
 use Rattle.rb_machine.specs.Follows.{At}
 use Rattle.rb_builtin.specs.Names.{builtin_of}
 use Rattle.rb_builtin.proofs.Table.{no_number}
-use Rattle.rb_interp.specs.Outcome.{Outcome, Gave, Over, Came}
+use Rattle.rb_interp.specs.Outcome.{Outcome, Came}
 use Rattle.rb_interp.specs.Answers.{OrMemory, outcome_of}
 use Rattle.rb_interp.proofs.Moves.{same}
 

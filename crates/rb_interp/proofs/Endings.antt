@@ -1,8 +1,8 @@
 -- From how the top level comes out to what the main thread did.
-use Rattle.std.proofs.Common.{◌≡◌, ℕ, ◌-◌, ◌≤◌, ◌<◌, Bool, true, false, List, [], ◌∷◌, ◌++◌, length, map, Some, refl, sym, ap, ◌∙◌, subst, arith}
+use Rattle.std.proofs.Common.{◌≡◌, ℕ, ◌-◌, ◌≤◌, ◌<◌, true, false, List, [], ◌∷◌, ◌++◌, length, map, Some, refl, sym, ap, ◌∙◌, subst, arith}
 use Rattle.std.specs.Prelude.{◌&&◌, nat_le, slice_get}
 use Rattle.std.specs.List.{list_all}
-use Rattle.rb_model.specs.Values.{Value as Val, Nil, To, Reference}
+use Rattle.rb_model.specs.Values.{Nil}
 use Rattle.rb_model.specs.Ends.{End, told}
 use Rattle.rb_model.specs.Ends as ending
 use Rattle.rb_model.specs.Log.{Log, Refusal, Print, refused, logged, plain_entry, Answers, is_sure, is_print}
@@ -15,10 +15,10 @@ use Rattle.rb_model.specs.declared.value.Value.{Value as Held}
 use Rattle.rb_model.specs.declared.value.Value.TheVariants as held
 use Rattle.rb_model.specs.Private.{Private, Leaves, nothing_waits, no_thing}
 use Rattle.rb_machine.specs.Scopes.{Script, Scope, fresh}
-use Rattle.rb_machine.specs.Control.{State, On, Cont, Then, Instead, Give, Leave as Leaving, Exit}
+use Rattle.rb_machine.specs.Control.{State, Cont, Then, Instead}
 use Rattle.rb_machine.specs.Call.{ended}
-use Rattle.rb_machine.specs.Move.{move, left_in, IsWant}
-use Rattle.rb_machine.specs.Follows.{At, goes, Comes, ends, cut, refuses, step_of, Follows, closes, late}
+use Rattle.rb_machine.specs.Move.{left_in}
+use Rattle.rb_machine.specs.Follows.{At, Comes, ends, cut, refuses, step_of, Follows, closes, late}
 use Rattle.rb_machine.specs.Laws.{Quiet, stays, moves}
 use Rattle.rb_machine.proofs.Down.{is_never_stuck}
 use Rattle.rb_interp.specs.Outcome.{Outcome, Gave, Left, Over, Came}

@@ -1,26 +1,21 @@
 -- Moves of the machine, one after another.
-use Rattle.std.proofs.Common.{◌≡◌, ℕ, suc, ◌+◌, ◌-◌, ◌<◌, ◌≤◌, Bool, true, false, cond, List, [], ◌∷◌, ◌++◌, length, Option, Some, None, refl, sym, ap, ◌∙◌, subst, arith}
+use Rattle.std.proofs.Common.{◌≡◌, ℕ, suc, ◌+◌, ◌-◌, ◌<◌, ◌≤◌, true, false, cond, List, ◌∷◌, refl, sym, ap, ◌∙◌, subst, arith}
 use Rattle.std.proofs.lemmas.Bool.Decides.{nat_tests}
-use Rattle.std.specs.Prelude.{nat_lt, ℤ, pos, ◌+ℤ◌, int_lt, take}
-use Rattle.rb_tree.specs.declared.span.Span.{Span}
+use Rattle.std.specs.Prelude.{nat_lt}
 use Rattle.rb_tree.specs.declared.node.Node.{Node, out-Node}
-use Rattle.rb_tree.specs.declared.node.Block.{Block}
-use Rattle.rb_tree.specs.declared.node.Piece.{Piece}
 use Rattle.rb_tree.specs.Layer.{NodeLayer}
 use Rattle.rb_tree.specs.Place.{place}
-use Rattle.rb_model.specs.declared.fault.Fault.{Fault}
 use Rattle.rb_model.specs.declared.fault.Fault.TheVariants.{TooDeep}
-use Rattle.rb_model.specs.Values.{Value as Val, Nil, Int, truthy}
+use Rattle.rb_model.specs.Values.{Value as Val, Nil, truthy}
 use Rattle.rb_model.specs.Ends.{End}
 use Rattle.rb_model.specs.Ends as ending
-use Rattle.rb_model.specs.Log.{Log, Print, refused}
+use Rattle.rb_model.specs.Log.{Log}
 use Rattle.rb_model.specs.Private.{Private}
-use Rattle.rb_machine.specs.Scopes.{Script, Scope, Text, fresh, with_locals}
-use Rattle.rb_machine.specs.Control.{State, On, Cont, Then, Under, Test, Again, Turn, Frame, Eval, Give, Leave, Following, Looping, Turning, Passing, Joining, Exit, Break, Next, Return, Aim, Turns, Counting, Step}
+use Rattle.rb_machine.specs.Scopes.{Script, Scope}
+use Rattle.rb_machine.specs.Control.{State, On, Cont, Under, Test, Again, Eval, Give, Following}
 use Rattle.rb_machine.specs.Call.{ended, raised}
 use Rattle.rb_machine.specs.Begin.{begin}
-use Rattle.rb_machine.specs.Give.{leave, back}
-use Rattle.rb_machine.specs.Move.{Next as Coming, Go, move, start_node, start_turn, turn, later_turns, first_of_turn, max_depth, left_in}
+use Rattle.rb_machine.specs.Move.{Go, move, start_node}
 use Rattle.rb_machine.specs.Follows.{At, goes}
 use Rattle.rb_interp.specs.Outcome.{Outcome, Gave, Left, Over, Came}
 
@@ -36,9 +31,6 @@ module _ {S : Script} {N : ℕ} {start : State} {h : Private} where
   -- a node whose layer is known begins
   pub begins : {l : Log} (n : Node) (f : NodeLayer) (k : List Cont) (sc : Scope) (d left : ℕ) → out-Node n ≡ f → At S 0 N start l h (begin S (out-Node n) k sc d left) → At S 0 N start l h (begin S f k sc d left)
   begins n f k sc d left e a = same a (ap (λ f. begin S f k sc d left) e)
-
-  pub evals : {l : Log} {n : Node} {k : List Cont} {sc : Scope} {d left : ℕ} (m : Node) → m ≡ n → At S 0 N start l h (On (Eval n) k sc d left) → At S 0 N start l h (On (Eval m) k sc d left)
-  evals {k = k} {sc = sc} {d = d} {left = left} m e a = same a (ap (λ n. On (Eval n) k sc d left) (sym e))
 
   pub follows : {l : Log} {v : Val} {ns : List Node} {k : List Cont} {sc : Scope} {d left : ℕ} (ms : List Node) → ms ≡ ns → At S 0 N start l h (On (Following v ns) k sc d left) → At S 0 N start l h (On (Following v ms) k sc d left)
   follows {v = v} {k = k} {sc = sc} {d = d} {left = left} ms e a = same a (ap (λ ns. On (Following v ns) k sc d left) (sym e))
@@ -69,10 +61,6 @@ module _ {S : Script} {N : ℕ} {start : State} {h : Private} where
       let e : left ≡ suc (left - 1) = omega arith in
       let t : nat_lt d 1000 ≡ false = grind (arith, nat_tests) in
       on _ a (ap (λ m. Go (start_node S n k sc d m)) e ∙ (ap (λ b. Go (cond b (begin S (out-Node n) (Under d ∷ k) sc (d + 1) (left - 1)) (raised TooDeep (place (out-Node n)) (suc (left - 1))))) t ∙ ap (λ m. Go (raised TooDeep (place (out-Node n)) m)) (sym e)))
-
-  -- a choice
-  pub chooses : {l : Log} (b : Bool) (s t : State) → At S 0 N start l h (cond b s t) → (c : Bool) → b ≡ c → At S 0 N start l h (cond c s t)
-  chooses b s t a c e = same a (ap (λ b. cond b s t) e)
 
 module _ (S : Script) (N : ℕ) (start : State) (h : Private) where
   -- what leaves the innermost node leaves it with the depth from before

@@ -1,21 +1,18 @@
 -- How outcomes go on behind what waits.
-use Rattle.std.proofs.Common.{◌≡◌, ℕ, suc, ◌+◌, ◌-◌, ◌<◌, ◌≤◌, Bool, true, false, cond, List, [], ◌∷◌, ◌++◌, length, map, Option, Some, None, refl, sym, ap, ◌∙◌, subst, arith}
+use Rattle.std.proofs.Common.{◌≡◌, ℕ, suc, ◌-◌, ◌<◌, Bool, true, false, cond, List, [], ◌∷◌, ◌++◌, length, refl, sym, ap, ◌∙◌, subst, arith}
 use Rattle.std.specs.Prelude.{ℤ, pos, ◌+ℤ◌, int_lt, take}
-use Rattle.rb_tree.specs.declared.span.Span.{Span}
 use Rattle.rb_tree.specs.declared.node.Node.{Node}
 use Rattle.rb_tree.specs.declared.node.Block.{Block}
-use Rattle.rb_model.specs.Values.{Value as Val, Nil, False, True, Int, plain}
+use Rattle.rb_model.specs.Values.{Value as Val, Nil, Int}
 use Rattle.rb_model.specs.declared.value.Value.{Value as Held}
 use Rattle.rb_model.specs.Ends as ending
-use Rattle.rb_model.specs.declared.call.End.TheVariants as held
 use Rattle.rb_model.specs.Log.{Log}
 use Rattle.rb_model.specs.Private.{Private}
 use Rattle.rb_machine.specs.Scopes.{Script, Scope, fresh, with_locals}
-use Rattle.rb_machine.specs.Control.{State, On, Cont, Then, Under, Test, Again, Turn, Frame, Eval, Give, Leave as Leaving, Following, Looping, Turning, Exit, Break, Next, Return, Turns, Counting, Step}
-use Rattle.rb_machine.specs.Call.{ended, raised}
+use Rattle.rb_machine.specs.Control.{State, On, Cont, Then, Test, Again, Turn, Frame, Give, Following, Looping, Turning, Break, Next, Return, Turns, Counting, Step}
+use Rattle.rb_machine.specs.Call.{ended}
 use Rattle.rb_machine.specs.Give.{back}
-use Rattle.rb_machine.specs.Methods.{Answer, Gives, Raises, Loops}
-use Rattle.rb_machine.specs.Move.{Go, move, start_turn, turn}
+use Rattle.rb_machine.specs.Move.{Go, start_turn}
 use Rattle.rb_machine.specs.Follows.{At}
 use Rattle.rb_interp.specs.declared.came.Came.{Came as Registers}
 use Rattle.rb_interp.specs.declared.came.Came.TheVariants as came
@@ -23,7 +20,7 @@ use Rattle.rb_interp.specs.declared.came.Leave.{Leave}
 use Rattle.rb_interp.specs.declared.came.Leave.TheVariants as leave
 use Rattle.rb_interp.specs.Outcome.{Outcome, Gave, Left, Over, Came, is_left, value_of, left_by, outcome}
 use Rattle.rb_interp.specs.Carries.{goes_on, loop_exit, call_exit}
-use Rattle.rb_interp.proofs.Moves.{on, same}
+use Rattle.rb_interp.proofs.Moves.{on}
 
 -- a value that came
 pub gave : (c : Registers) (v : Held) (l : Leave) → is_left c ≡ false → outcome c v l ≡ Gave (value_of c v)

@@ -1,5 +1,5 @@
 -- Assignments with an operator, beside the machine.
-use Rattle.std.proofs.Common.{◌≡◌, ℕ, ◌-◌, ◌<◌, ◌≤◌, Bool, true, false, cond, List, [], ◌∷◌, ◌++◌, length, map, Option, Some, None, refl, sym, ap, ◌∙◌, subst, arith, rules}
+use Rattle.std.proofs.Common.{◌≡◌, ℕ, ◌≤◌, true, false, cond, List, ◌∷◌, ◌++◌, length, map, Option, Some, refl, ap, ◌∙◌, arith, rules}
 use Rattle.std.specs.Prelude.{◌&&◌, slice_get, codes}
 use Rattle.rb_tree.specs.declared.span.Span.{Span}
 use Rattle.rb_tree.specs.declared.span.NameId.{NameId}
@@ -11,11 +11,10 @@ use Rattle.rb_tree.specs.declared.node.Target.{out-Target}
 use Rattle.rb_tree.specs.declared.node.Target.TheVariants as target
 use Rattle.rb_model.specs.Values.{Value as Val, plain, truthy}
 use Rattle.rb_model.specs.declared.value.Value.{Value as Held}
-use Rattle.rb_model.specs.Ends.{Memory}
 use Rattle.rb_model.specs.Log.{Log}
 use Rattle.rb_model.specs.Private.{Private}
 use Rattle.rb_machine.specs.Scopes.{Script, Scope, look, text_of}
-use Rattle.rb_machine.specs.Control.{State, On, Cont, Then, Eval, Give, Place, OfLocal, ReadOf, RightOf, WriteTo}
+use Rattle.rb_machine.specs.Control.{State, On, Cont, Then, Eval, Give, Place, ReadOf, RightOf, WriteTo}
 use Rattle.rb_machine.specs.Begin.{begin_target}
 use Rattle.rb_machine.specs.Call.{decide, operator}
 use Rattle.rb_machine.specs.Move.{Go}
@@ -26,12 +25,12 @@ use Rattle.rb_code.specs.declared.code.Code.{Code}
 use Rattle.rb_code.specs.Resolved.{fits, has_number, is_free}
 use Rattle.rb_code.specs.Layout.{bound, has_slot}
 use Rattle.rb_code.proofs.Slots.{slot_within}
-use Rattle.rb_interp.specs.Outcome.{Outcome, Gave, Over, Came}
+use Rattle.rb_interp.specs.Outcome.{Outcome, Gave, Came}
 use Rattle.rb_interp.specs.Carries.{scope_of, both, numbered, unwritten}
 use Rattle.rb_interp.specs.Answers.{OrMemory, method_of}
 use Rattle.rb_interp.proofs.Lists.{fst, snd, two, there}
 use Rattle.rb_interp.proofs.Rooms.{read_room}
-use Rattle.rb_interp.proofs.Moves.{on, same, gives}
+use Rattle.rb_interp.proofs.Moves.{on, gives}
 use Rattle.rb_interp.proofs.Calls.{or_memory}
 
 -- the operator's method has this number

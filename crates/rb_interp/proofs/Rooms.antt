@@ -1,20 +1,19 @@
 -- Scopes and the slots that hold them.
-use Rattle.std.proofs.Common.{◌≡◌, ℕ, zero, suc, ◌+◌, ◌-◌, ◌<◌, ◌≤◌, Bool, true, false, List, [], ◌∷◌, ◌++◌, length, map, drop, take, get_or, Option, Some, None, refl, sym, ap, ◌∙◌, subst, arith}
+use Rattle.std.proofs.Common.{◌≡◌, ℕ, zero, suc, ◌+◌, ◌<◌, ◌≤◌, Bool, true, false, List, [], ◌∷◌, ◌++◌, length, map, drop, take, get_or, Some, refl, sym, ap, ◌∙◌, subst, arith}
 use Rattle.std.proofs.lemmas.Bool.Decides.{nat_tests}
-use Rattle.std.specs.Prelude.{ℤ, ◌&&◌, slice_get, slice_set, nat_lt, nat_le, ◌==◌}
-use Rattle.std.specs.Option.{option_map}
+use Rattle.std.specs.Prelude.{ℤ, slice_get, slice_set, nat_lt}
 use Rattle.rb_tree.specs.declared.span.NameId.{NameId}
-use Rattle.rb_model.specs.Values.{Value as Val, Nil, Int, plain, or_nil}
+use Rattle.rb_model.specs.Values.{Value as Val, Nil, Int, plain}
 use Rattle.rb_model.specs.declared.value.Value.{Value as Held}
 use Rattle.rb_model.specs.declared.value.Value.TheVariants as held
-use Rattle.rb_machine.specs.Scopes.{Script, Locals, fresh, look, assign}
+use Rattle.rb_machine.specs.Scopes.{Script, fresh, look, assign}
 use Rattle.rb_code.specs.declared.code.Code.{Code}
 use Rattle.rb_code.specs.Layout.{bound, has_slot}
 use Rattle.rb_code.specs.Resolved.{Fits, every, fits}
-use Rattle.rb_code.proofs.Slots.{bound_agrees, bound_append, bound_fresh, bound_length, bound_take, read_slot, write_slot, slot_within, given as given_at}
+use Rattle.rb_code.proofs.Slots.{bound_agrees, bound_append, bound_fresh, bound_length, bound_take, read_slot, write_slot, given as given_at}
 use Rattle.rb_interp.specs.Carries.{Lies}
 use Rattle.rb_interp.specs.Slots.{first_of_block}
-use Rattle.rb_interp.proofs.Lists.{fst, snd, next_item, len_append, len_map, get_map, set_map, take_map, drop_map, get_set, get_drop, front, len_take}
+use Rattle.rb_interp.proofs.Lists.{fst, snd, next_item, len_map, get_map, set_map, take_map, get_set, get_drop, front}
 
 module _ (S : Script) where
   -- what is right for all is right for the rest, and for each

@@ -5,7 +5,7 @@ use Rattle.std.specs.Prelude.{◌||◌, ◌==◌, nat_lt}
 use Rattle.rb_tree.specs.declared.span.Span.{Span}
 use Rattle.rb_model.specs.Values.{Nil}
 use Rattle.rb_model.specs.declared.fault.Fault.TheVariants.{TextTooLong}
-use Rattle.rb_model.specs.Log.{Log, Call, Entry, Print, is_end, has_end, logged, plain_entry}
+use Rattle.rb_model.specs.Log.{Log, Entry, Print, is_end, has_end, logged, plain_entry}
 use Rattle.rb_model.specs.Private.{Private}
 use Rattle.rb_machine.specs.Scopes.{Script, Scope, Text}
 use Rattle.rb_machine.specs.Texts.{max_bytes}

@@ -1,8 +1,8 @@
 -- What steps inside a node do with a value.
 use Rattle.std.proofs.Common.{◌≡◌, ℕ, ◌≤◌, Bool, true, false, cond, List, ◌∷◌, length, map, refl, sym, ap, ◌∙◌}
-use Rattle.std.specs.Prelude.{not, if◌then◌else◌, slice_get}
+use Rattle.std.specs.Prelude.{not, slice_get}
 use Rattle.rb_tree.specs.declared.node.Node.{Node}
-use Rattle.rb_model.specs.Values.{Value as Val, Nil, False, True, truthy, truth}
+use Rattle.rb_model.specs.Values.{Value as Val, Nil, truthy, truth}
 use Rattle.rb_model.specs.Log.{Log}
 use Rattle.rb_model.specs.Private.{Private}
 use Rattle.rb_machine.specs.Scopes.{Script, Scope}
@@ -15,7 +15,7 @@ use Rattle.rb_model.specs.declared.value.Value.{Value as Held}
 use Rattle.rb_machine.specs.Scopes.{assign, with_locals}
 use Rattle.rb_machine.specs.Control.{Step}
 use Rattle.rb_code.specs.Layout.{bound, has_slot}
-use Rattle.rb_interp.specs.Outcome.{Outcome, Gave, Came}
+use Rattle.rb_interp.specs.Outcome.{Outcome, Came}
 use Rattle.rb_interp.specs.Carries.{scope_of, Assigns, plainly, updating}
 use Rattle.rb_interp.specs.Answers.{Writes, wrote, wanted}
 use Rattle.rb_interp.proofs.Lists.{get_set}

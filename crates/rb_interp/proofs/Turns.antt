@@ -1,9 +1,8 @@
 -- Blocks: where their slots lie, how an iteration begins and ends, and calls of methods with one.
-use Rattle.std.proofs.Common.{◌≡◌, ℕ, zero, suc, ◌+◌, ◌-◌, ◌<◌, ◌≤◌, Bool, true, false, cond, List, [], ◌∷◌, ◌++◌, length, map, drop, take, Option, Some, None, refl, sym, ap, ◌∙◌, subst, arith}
+use Rattle.std.proofs.Common.{◌≡◌, ℕ, zero, suc, ◌+◌, ◌-◌, ◌<◌, ◌≤◌, Bool, true, false, List, [], ◌∷◌, ◌++◌, length, map, take, Some, refl, sym, ap, ◌∙◌, subst, arith}
 use Rattle.std.proofs.lemmas.Bool.Decides.{nat_tests}
 use Rattle.std.proofs.lemmas.Int.{ints}
-use Rattle.std.proofs.lemmas.Slice.Eq.{bytes_eq-Decides}
-use Rattle.std.specs.Prelude.{ℤ, pos, ◌+ℤ◌, ◌-ℤ◌, ◌≤ℤ◌, ◌<ℤ◌, int_lt, not, ◌&&◌, ◌==◌, nat_le, slice_get, IsTrue}
+use Rattle.std.specs.Prelude.{ℤ, pos, ◌+ℤ◌, ◌≤ℤ◌, int_lt, not, ◌&&◌, ◌==◌, nat_le, slice_get, IsTrue}
 use Rattle.rb_tree.specs.declared.span.Span.{Span}
 use Rattle.rb_tree.specs.declared.span.NameId.{NameId}
 use Rattle.rb_tree.specs.declared.node.Node.{Node}
@@ -12,15 +11,12 @@ use Rattle.rb_model.specs.Values.{Value as Val, Nil, Int, plain}
 use Rattle.rb_model.specs.declared.value.Value.{Value as Held}
 use Rattle.rb_model.specs.Log.{Log}
 use Rattle.rb_model.specs.Private.{Private}
-use Rattle.rb_machine.specs.Scopes.{Script, Scope, Locals, Text, fresh, with_locals}
+use Rattle.rb_machine.specs.Scopes.{Script, Scope, Locals, Text, fresh}
 use Rattle.rb_machine.specs.Control.{State, On, Cont, Turn, Give, Following, Turning, Passing, Turns, Counting, OnReceiver}
-use Rattle.rb_machine.specs.Call.{answered, perform, params_of}
+use Rattle.rb_machine.specs.Call.{answered, params_of}
 use Rattle.rb_machine.specs.Give.{back}
 use Rattle.rb_machine.specs.Methods.{Answer, Gives, Raises, Loops, deed}
 use Rattle.rb_machine.specs.Follows.{At}
-use Rattle.rb_builtin.specs.declared.builtin.Builtin.{Builtin}
-use Rattle.rb_builtin.specs.declared.builtin.Builtin.TheVariants as builtin
-use Rattle.rb_builtin.specs.Names.{name_of, builtin_of, same_number}
 use Rattle.rb_code.specs.declared.code.CodeBlock.{CodeBlock}
 use Rattle.rb_code.specs.Layout.{bound}
 use Rattle.rb_code.specs.Erase.{erase, erase_block}

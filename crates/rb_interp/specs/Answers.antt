@@ -1,5 +1,5 @@
 -- What the parts of the walk that call nothing of it answer.
-use Rattle.std.specs.Prelude.{◌≡◌, ◌⊎◌, ◌≤◌, ◌<◌, ◌-◌, ℕ, ℤ, int_lt, Bool, true, false, List, [], ◌∷◌, length, map, slice_set, Option, Some, None}
+use Rattle.std.specs.Prelude.{◌≡◌, ◌⊎◌, ◌≤◌, ◌<◌, ◌-◌, ℕ, ℤ, int_lt, true, false, List, [], ◌∷◌, length, slice_set, Option, Some, None}
 use Rattle.rb_tree.specs.declared.span.Span.{Span}
 use Rattle.rb_tree.specs.declared.span.NameId.{NameId}
 use Rattle.rb_tree.specs.declared.node.AssignOp.{AssignOp}
@@ -26,7 +26,7 @@ use Rattle.rb_code.specs.Erase.{erase}
 use Rattle.rb_code.specs.Resolved.{fits}
 use Rattle.rb_interp.specs.declared.came.Came.{Came as Registers}
 use Rattle.rb_interp.specs.declared.came.Came.TheVariants as came
-use Rattle.rb_interp.specs.Outcome.{Outcome, Gave, Left, Over, Came}
+use Rattle.rb_interp.specs.Outcome.{Outcome, Gave, Over, Came}
 use Rattle.rb_interp.specs.Carries.{scope_of}
 
 -- an outcome, or want of memory

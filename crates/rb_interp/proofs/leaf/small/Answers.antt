@@ -1,10 +1,7 @@
-use Rattle.std.proofs.Common.{◌≡◌, sym, ◌∙◌, refl, ap, Some, true, ◌∷◌, to_z, of_z, w64, rules}
+use Rattle.std.proofs.Common.{◌≡◌, refl, ◌∷◌, to_z, of_z, w64, rules}
 use Rattle.rb_machine.specs.Control.{Under}
-use Rattle.rb_model.specs.Values.{Int, plain}
-use Rattle.rb_code.proofs.Showing.{shows-int, shows-local}
-use Rattle.rb_code.proofs.Fitting.{fits-local}
-use Rattle.rb_code.specs.Resolved.{fits}
-use Rattle.rb_interp.proofs.Moves.{on, begins, counts, gives}
+use Rattle.rb_code.proofs.Showing.{shows-int}
+use Rattle.rb_interp.proofs.Moves.{on, begins, counts}
 use Rattle.rb_interp.proofs.Leaves.{small_if}
 use Rattle.rb_interp.proofs.leaf.small.Goals as goal
 

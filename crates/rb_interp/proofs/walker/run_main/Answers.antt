@@ -1,4 +1,4 @@
-use Rattle.std.proofs.Common.{◌≡◌, ℕ, sym, subst, List, [], ◌∷◌}
+use Rattle.std.proofs.Common.{sym, subst, [], ◌∷◌}
 use Rattle.rb_model.specs.Values.{Nil}
 use Rattle.rb_model.specs.Private.{bare}
 use Rattle.rb_machine.specs.Control.{Then, Instead}

@@ -1,26 +1,26 @@
 use Rattle.rb_interp.specs.Carries.{goes_on, plainly, updating, scope_of, unwritten, printing}
 use Rattle.rb_code.proofs.Slots.{slot_within}
-use Rattle.std.proofs.Common.{rules, to_z, of_z, w64, ◌≡◌, ap, sym, ◌∙◌, refl, subst, ℕ, suc, List, [], ◌∷◌, ◌++◌, take, drop, map, length, ◌+◌, ◌-◌, ◌<◌, ◌≤◌, Some, None, true, false, arith}
+use Rattle.std.proofs.Common.{rules, to_z, of_z, w64, ◌≡◌, ap, sym, ◌∙◌, refl, ℕ, List, [], ◌∷◌, ◌++◌, take, drop, map, length, ◌+◌, ◌-◌, ◌<◌, ◌≤◌, Some, None, true, false, arith}
 use Rattle.std.proofs.lemmas.List.{drop_all}
-use Rattle.std.specs.Prelude.{◌&&◌, codes, pos, ◌+ℤ◌, ◌≤ℤ◌, slice_get}
-use Rattle.rb_model.specs.Values.{Nil, truthy, Int, plain}
-use Rattle.rb_machine.specs.Control.{Then, Under, Rest, AssignTo, ReturnOf, Test, Again, RightOfAnd, RightOfOr, Negate, Choose, Argument, OnReceiver, IndexedBy, IndexOf, MemberOf, ReadOf, RightOf, WriteTo, ReceiverOf, Instead, OfLocal, OfElement, OfAttribute, On, Eval, Give, Passing, Storing, ByName, ReceiverToStore, Joining, PieceOf, Counting, Turn, Frame}
+use Rattle.std.specs.Prelude.{codes, pos, ◌+ℤ◌, ◌≤ℤ◌, slice_get}
+use Rattle.rb_model.specs.Values.{Nil, Int, plain}
+use Rattle.rb_machine.specs.Control.{Then, Under, Rest, AssignTo, ReturnOf, Test, Again, RightOfAnd, RightOfOr, Negate, Choose, Argument, OnReceiver, IndexedBy, IndexOf, MemberOf, ReadOf, RightOf, WriteTo, ReceiverOf, Instead, OfLocal, OfElement, OfAttribute, On, Eval, Storing, ByName, ReceiverToStore, PieceOf, Counting, Turn, Frame}
 use Rattle.rb_code.specs.Erase.{erase, erase_piece, erase_block, erase_method}
 use Rattle.rb_code.specs.Resolved.{fits, every, if_some, block_fits}
 use Rattle.rb_code.proofs.Showing.{shows-nil, shows-false, shows-true, shows-int, shows-sym, shows-local, shows-and, shows-or, shows-not, shows-if, shows-break, shows-next, shows-set_local, shows-while, shows-return, shows-str, shows-update_local, shows-update_element, shows-update_attribute, shows-store, shows-operate, shows-send, shows-walk, shows-function, shows-print}
 use Rattle.rb_code.proofs.Fitting.{fits-local, fits-and, fits-or, fits-not, fits-if, fits-set_local, fits-while, fits-return, fits-str, fits-update_local, fits-update_element, fits-update_attribute, fits-store, fits-operate, fits-send, fits-walk, fits-function, fits-print}
 use Rattle.rb_interp.specs.Outcome.{value_of, outcome}
-use Rattle.rb_interp.proofs.Moves.{test_true, test_false, on, same, begins, evals, follows, gives, counts, too_many, too_deep, left}
-use Rattle.rb_interp.proofs.Lists.{never, fst, snd, next_item, two, len_set, len_map, len_args, get_set, fst_two, nothing, front}
-use Rattle.rb_interp.proofs.Rooms.{sub, moved, every_item, read_room, write_room, lies, frame_back}
+use Rattle.rb_interp.proofs.Moves.{test_true, test_false, on, same, begins, follows, counts, too_many, too_deep, left}
+use Rattle.rb_interp.proofs.Lists.{fst, snd, next_item, len_set, len_map, len_args, get_set, fst_two, nothing, front}
+use Rattle.rb_interp.proofs.Rooms.{sub, moved, every_item, lies, frame_back}
 use Rattle.rb_interp.proofs.Outcomes.{gave, given, comes, passes, gone, again, again_out, tested_again, tested_out, called, turn_too_many, turns_end}
 use Rattle.rb_interp.proofs.Steps.{and_goes, and_stops, or_goes, or_stops, negated, chosen_first, chosen_second, assigned, kept_write}
 use Rattle.rb_machine.specs.Scopes.{text_of}
 use Rattle.rb_builtin.specs.Names.{builtin_of}
 use Rattle.rb_builtin.proofs.Table.{same_is}
-use Rattle.rb_interp.proofs.Calls.{calls, no_such, or_memory}
+use Rattle.rb_interp.proofs.Calls.{calls, no_such}
 use Rattle.rb_interp.proofs.Places.{operator_number, or_else_stays, or_else_goes, and_then_stays, and_then_goes, operates, reads, left_unwritten, target_local, target_element, target_attribute}
-use mathlib.Core.Logic.{inl, inr}
+use mathlib.Core.Logic.{inl}
 use Rattle.rb_machine.specs.Call.{operator, last_value}
 use Rattle.rb_interp.specs.Answers.{shown_value}
 use Rattle.rb_interp.proofs.Arguments.{passing, passed, joined, only_left, only_came, over_left}

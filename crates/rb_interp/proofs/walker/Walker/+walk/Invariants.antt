@@ -1,11 +1,9 @@
-use Rattle.std.proofs.Common.{take, ◌≡◌, ◌≤◌, ◌+◌, ◌-◌, ◌*◌, ℕ, List, [], ◌∷◌, drop, map, length, false}
-use Rattle.std.specs.Prelude.{ℤ, pos, ◌+ℤ◌, OnOk, ◌≤ℤ◌}
+use Rattle.std.proofs.Common.{take, ◌≡◌, ◌≤◌, ◌+◌, ◌-◌, ◌*◌, [], drop, map, length, false}
+use Rattle.std.specs.Prelude.{pos, ◌+ℤ◌, ◌≤ℤ◌}
 use Rattle.rb_tree.specs.declared.span.Span.{Span}
-use Rattle.rb_model.specs.Values.{Value as Val, Nil, Int, plain}
+use Rattle.rb_model.specs.Values.{Nil, Int, plain}
 use Rattle.rb_model.specs.Log.{has_end}
-use Rattle.rb_machine.specs.Scopes.{Script, Scope}
-use Rattle.rb_machine.specs.Control.{State, On, Cont, Following, Looping, Turning, Counting, Passing, Joining, Aim}
-use Rattle.rb_machine.specs.Follows.{At}
+use Rattle.rb_machine.specs.Control.{On, Following, Looping, Turning, Counting, Passing, Joining, Aim}
 use Rattle.rb_code.specs.Erase.{erase, erase_block, erase_piece}
 use Rattle.rb_code.specs.Resolved.{fits, piece_fits, block_fits, every}
 use Rattle.rb_interp.specs.Outcome.{is_left, value_of}

@@ -1,6 +1,6 @@
-use Rattle.std.proofs.Common.{◌≡◌, ◌∙◌, ap, sym, refl, true, false, arith, ◌-◌, ◌<◌, length}
+use Rattle.std.proofs.Common.{◌≡◌, ◌∙◌, ap, sym, refl, false, arith, ◌-◌, ◌<◌, length}
 use Rattle.std.specs.Prelude.{◌==◌}
-use Rattle.rb_model.specs.Log.{Log, has_end, logged, plain_entry, Print}
+use Rattle.rb_model.specs.Log.{Log, has_end, plain_entry, Print}
 use Rattle.rb_interp.proofs.Showing.{no_end, printed, not_zero}
 use Rattle.rb_interp.proofs.walker.Walker.show.Goals as goal
 

@@ -1,5 +1,5 @@
-use Rattle.std.proofs.Common.{◌≡◌, ◌∙◌, sym, ap, List, [], map, length, ◌≤◌, true, arith}
-use Rattle.rb_model.specs.Values.{Nil, plain}
+use Rattle.std.proofs.Common.{◌∙◌, sym, ap, [], map, length, arith}
+use Rattle.rb_model.specs.Values.{Nil}
 use Rattle.rb_machine.specs.Scopes.{fresh}
 use Rattle.rb_machine.specs.Control.{On, Following}
 use Rattle.rb_code.specs.Erase.{erase}

@@ -1,7 +1,6 @@
-use Rattle.std.proofs.Common.{◌≡◌, refl, sym, ap, ◌∙◌}
-use Rattle.rb_model.specs.Values.{plain}
+use Rattle.std.proofs.Common.{◌≡◌, refl, ap}
 use Rattle.rb_interp.specs.Outcome.{value_of}
-use Rattle.rb_interp.specs.Answers.{Writes, wrote, wanted}
+use Rattle.rb_interp.specs.Answers.{wrote, wanted}
 use Rattle.rb_interp.proofs.Outcomes.{gave, value_kept}
 use Rattle.rb_interp.proofs.walker.Walker.write.Goals as goal
 
