@@ -1,5 +1,8 @@
 // Why a script stops with a fault.
 
+ghost use Rattle.std.specs.Prelude.{◌≡◌};
+ghost use Rattle.rb_model.specs.Faults.{fault_name};
+
 use std::fmt;
 
 /// A fault of a script, by its name. At one call they are tested in the order in which they stand here.
@@ -34,9 +37,12 @@ pub enum Fault {
     ThreadLimit,
 }
 
-impl fmt::Display for Fault {
-    fn fmt<W: fmt::Write>(&self, f: &mut fmt::Formatter<W>) -> fmt::Result {
-        f.write_str(match self {
+impl Fault {
+    /// The name of the fault.
+    pub fn name(self) -> &'static str
+        ensures { result.now ≡ fault_name self }
+    {
+        match self {
             Fault::NoMethod => "NoMethod",
             Fault::ArgumentCount => "ArgumentCount",
             Fault::TypeMismatch => "TypeMismatch",
@@ -51,6 +57,12 @@ impl fmt::Display for Fault {
             Fault::LockOwned => "LockOwned",
             Fault::UnlockForeign => "UnlockForeign",
             Fault::ThreadLimit => "ThreadLimit",
-        })
+        }
+    }
+}
+
+impl fmt::Display for Fault {
+    fn fmt<W: fmt::Write>(&self, f: &mut fmt::Formatter<W>) -> fmt::Result {
+        f.write_str(self.name())
     }
 }

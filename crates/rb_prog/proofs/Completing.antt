@@ -1,5 +1,5 @@
 -- A program that is held, and no fault from outside.
-use Rattle.std.proofs.Common.{◌≡◌, ◌≤◌, ℕ, List, length, take, Option, Ok, refl, ◌∙◌, subst, ◌⊎◌, inl, inr, arith}
+use Rattle.std.proofs.Common.{◌≡◌, ◌≤◌, ℕ, List, length, take, Option, Ok, refl, ◌∙◌, subst, inl, inr, arith}
 use Rattle.std.proofs.lemmas.List.{take_all}
 use Rattle.rb_tree.specs.declared.node.Program.{Program}
 use Rattle.rb_lexer.specs.declared.token.Token.{Token}
@@ -7,23 +7,25 @@ use Rattle.rb_lexer.specs.Tokens.{Outcome, Lexes, too_large, not_utf8}
 use Rattle.rb_lexer.specs.Tokens as lexer
 use Rattle.rb_edge.specs.Edge.{Held, Bytes}
 use Rattle.rb_edge.specs.Transfer.{ReadOf, NotHeld}
-use Rattle.rb_prog.specs.declared.model.Entry.{Entry}
-use Rattle.rb_prog.specs.declared.model.End.{End}
-use Rattle.rb_prog.specs.declared.model.End.TheVariants as ending
-use Rattle.rb_prog.specs.Run.{Accepts, status_of, RunsSource, shown, refused, Runs, read, missing, failed}
+use Rattle.rb_model.specs.Ends.{End}
+use Rattle.rb_model.specs.Ends as ending
+use Rattle.rb_model.specs.Log.{Log}
+use Rattle.rb_prog.specs.Run.{Accepts, status_of, IsOwnOrMemory, RunsSource, shown, refused, Runs, read, missing, failed}
 use Rattle.rb_prog.specs.Run as run
 
-ended : (end : End) (sunk : Type 0) → (status_of end ≡ 5 → sunk) → (sunk → ⊥) → (status_of end ≡ 0) ⊎ (status_of end ≡ 1) ⊎ (status_of end ≡ 8)
+ended : (how : End) (sunk : Type 0) → (status_of how ≡ 5 → sunk) → (sunk → ⊥) → IsOwnOrMemory (status_of how)
 ended (ending.Value value) sunk cause never = inl refl
 ended (ending.Raised fault at) sunk cause never = inr (inl refl)
+ended ending.Steps sunk cause never = inr (inr (inl refl))
+ended (ending.Full used asked) sunk cause never = inr (inr (inr (inl refl)))
 ended ending.Sink sunk cause never = absurd (never (cause refl))
-ended ending.Memory sunk cause never = inr (inr refl)
+ended ending.Memory sunk cause never = inr (inr (inr (inr refl)))
 
-source_ends : (bytes : List ℕ) (program : Program) (sunk : Type 0) (old new : Option (List ℕ)) (status : ℕ) (front : Option (List Entry)) (line : List ℕ) → Accepts bytes program → RunsSource bytes old new status front line
-    → (status ≡ 5 → sunk) → (sunk → ⊥) → (status ≡ 0) ⊎ (status ≡ 1) ⊎ (status ≡ 8)
-source_ends bytes program sunk old new _ _ _ a (shown {end} p r e) cause never = ended end sunk cause never
-source_ends bytes program sunk old new _ _ _ a (refused w r n) cause never = absurd (r program a)
-source_ends bytes program sunk old new _ _ _ a (run.RunsSource.out_of_memory n) cause never = inr (inr refl)
+source_ends : (bytes : List ℕ) (program : Program) (sunk : Type 0) (steps : ℕ) (old new : Option (List ℕ)) (status : ℕ) (front : Option Log) (line : List ℕ)
+    → Accepts bytes program → RunsSource bytes steps old new status front line → (status ≡ 5 → sunk) → (sunk → ⊥) → IsOwnOrMemory status
+source_ends bytes program sunk steps old new _ _ _ a (shown {how} p r) cause never = ended how sunk cause never
+source_ends bytes program sunk steps old new _ _ _ a (refused w r n) cause never = absurd (r program a)
+source_ends bytes program sunk steps old new _ _ _ a (run.RunsSource.out_of_memory n) cause never = inr (inr (inr (inr refl)))
 
 -- a source that has tokens is short
 short_of_tokens : (held : List ℕ) (outcome : Outcome) (tokens : List Token) → Lexes held outcome → outcome ≡ Ok tokens → length held ≤ 1048576
@@ -35,11 +37,11 @@ short_of_tokens held _ tokens (lexer.Lexes.read l u r) e = l
 all_read : (held bytes : List ℕ) (program : Program) → Accepts held program → bytes ≡ take 1048577 held → bytes ≡ held
 all_read held bytes program a e = let l = short_of_tokens held (Ok a.tokens) a.tokens a.lexed refl in e ∙ take_all 1048577 held (omega arith)
 
-pub complete : (h : Held) (held : List ℕ) (program : Program) (read_failed sunk : Type 0) (old new : Option (List ℕ)) (status : ℕ) (front : Option (List Entry)) (line : List ℕ) → Runs h read_failed old new status front line
-    → h ≡ Bytes held → Accepts held program → (read_failed → ⊥) → (status ≡ 5 → sunk) → (sunk → ⊥) → (status ≡ 0) ⊎ (status ≡ 1) ⊎ (status ≡ 8)
-complete h held program read_failed sunk old new _ _ _ (read {bytes} {status} {front} {line} r s) e a calm cause never =
+pub complete : (h : Held) (held : List ℕ) (program : Program) (read_failed sunk : Type 0) (steps : ℕ) (old new : Option (List ℕ)) (status : ℕ) (front : Option Log) (line : List ℕ)
+    → Runs h read_failed steps old new status front line → h ≡ Bytes held → Accepts held program → (read_failed → ⊥) → (status ≡ 5 → sunk) → (sunk → ⊥) → IsOwnOrMemory status
+complete h held program read_failed sunk steps old new _ _ _ (read {bytes} {status} {front} {line} r s) e a calm cause never =
     let same : bytes ≡ held = all_read held bytes program a (subst (λ h. ReadOf h bytes) e r) in
-    source_ends held program sunk old new status front line a (subst (λ b. RunsSource b old new status front line) same s) cause never
-complete h held program read_failed sunk old new _ _ _ (missing m k) e a calm cause never = absurd (subst NotHeld e m)
-complete h held program read_failed sunk old new _ _ _ (failed f k) e a calm cause never = absurd (calm f)
-complete h held program read_failed sunk old new _ _ _ (run.Runs.out_of_memory k) e a calm cause never = inr (inr refl)
+    source_ends held program sunk steps old new status front line a (subst (λ b. RunsSource b steps old new status front line) same s) cause never
+complete h held program read_failed sunk steps old new _ _ _ (missing m k) e a calm cause never = absurd (subst NotHeld e m)
+complete h held program read_failed sunk steps old new _ _ _ (failed f k) e a calm cause never = absurd (calm f)
+complete h held program read_failed sunk steps old new _ _ _ (run.Runs.out_of_memory k) e a calm cause never = inr (inr (inr (inr refl)))

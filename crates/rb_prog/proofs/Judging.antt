@@ -18,7 +18,7 @@ use Rattle.rb_prog.specs.declared.refusal.Refusal.TheVariants as refusal
 use Rattle.rb_prog.specs.declared.source.Unaccepted.{Unaccepted}
 use Rattle.rb_prog.specs.declared.source.Unaccepted.TheVariants as unaccepted
 use Rattle.rb_edge.specs.Edge.{Adds}
-use Rattle.rb_prog.specs.Accepting.{Keeps_out, IsRunnable, Judges, AcceptsOf, rejected_status, rejected_line}
+use Rattle.rb_prog.specs.Accepting.{IsRunnable, Judges, AcceptsOf, rejected_status, rejected_line}
 use Rattle.rb_prog.specs.Accepting as spec
 use Rattle.rb_prog.specs.Run as run
 use Rattle.rb_prog.specs.Run.{Accepts, RefusedBy, unread, syntax, too_nested, broken, not_built, RunsSource}
@@ -30,7 +30,7 @@ pub judged : (source : List ℕ) (tokens : List Token) (program : Program) (resu
 judged source tokens program (Ok found) l p j =
     let r = subst IsRunnable (sym j.0) j.1 in
     let s = subst (λ q. IsProgram max_height max_levels tokens q) (sym j.0) p in
-    (record { tokens = tokens; lexed = l; spelled = s; checked = r.checked; built = r.built }, r.short)
+    record { tokens = tokens; lexed = l; spelled = s; checked = r.checked; built = r.built }
 judged source tokens program (Err (unaccepted.Refused (refusal.Unread fault))) l p j = absurd j
 judged source tokens program (Err (unaccepted.Refused (refusal.Unparsed fault))) l p j = absurd j
 judged source tokens program (Err (unaccepted.Refused (refusal.Broken fault))) l p j = broken l p j
@@ -62,7 +62,7 @@ breaks program (error.Fault f) why b e = subst (λ w. Judges program (Err w)) (s
 breaks program error.Memory why b e = subst (λ w. Judges program (Err w)) (sym e) tt
 
 -- what a source that is not accepted comes to
-pub not_run : (source : List ℕ) (why : Unaccepted) (old new : Option (List ℕ)) → AcceptsOf source (Err why) → Adds old new []
-    → RunsSource source old new (rejected_status why) None (rejected_line source why)
-not_run source (unaccepted.Refused why) old new r a = run.refused r (is_refused source why r) a
-not_run source unaccepted.Memory old new r a = run.RunsSource.out_of_memory a
+pub not_run : (source : List ℕ) (why : Unaccepted) (steps : ℕ) (old new : Option (List ℕ)) → AcceptsOf source (Err why) → Adds old new []
+    → RunsSource source steps old new (rejected_status why) None (rejected_line source why)
+not_run source (unaccepted.Refused why) steps old new r a = run.refused r (is_refused source why r) a
+not_run source unaccepted.Memory steps old new r a = run.RunsSource.out_of_memory a

@@ -1,10 +1,5 @@
-pub mod Walking
-pub mod Histories
-pub mod Meant
-pub mod Checking
+pub mod Adding
 pub mod Refusing
-pub mod Runnable
 pub mod Judging
-pub mod Wording
 pub mod Telling
 pub mod Completing

@@ -8,8 +8,8 @@ use Rattle.rb_grammar.specs.Script.{IsScript, BeginsNone}
 use Rattle.rb_grammar.specs.Program.{IsProgram, max_height, max_levels}
 use Rattle.rb_grammar.proofs.Whole.{one_program}
 use Rattle.rb_checker.specs.Check.{fault_of}
+use Rattle.rb_built.specs.Unbuilt.{first_unbuilt}
 use Rattle.rb_prog.specs.declared.refusal.Refusal.{Refusal}
-use Rattle.rb_prog.specs.Lines.{first_unbuilt}
 use Rattle.rb_prog.specs.Run.{Accepts, RefusedBy, unread, syntax, too_nested, broken, not_built, IsRefused}
 
 begins_no_program : (tokens : List Token) (at : ℕ) → BeginsNone tokens at → (program : Program) → IsProgram max_height max_levels tokens program → ⊥

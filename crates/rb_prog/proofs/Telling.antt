@@ -6,7 +6,7 @@ use Rattle.std.proofs.lemmas.List.{append-nil, drop_more, take_all, take-append-
 use Rattle.std.proofs.Math.Seq.{take-append-add}
 use Rattle.rb_tree.specs.Place.{line_of, column_of}
 use Rattle.rb_edge.specs.Edge.{Rose, Adds, Told}
-use Rattle.rb_prog.proofs.Histories.{adds_then}
+use Rattle.rb_prog.proofs.Adding.{adds_then}
 
 -- a byte behind the end is told as the end
 pub take_past : (source : List ℕ) (at size : ℕ) → size ≡ length source → size < at → take size source ≡ take at source

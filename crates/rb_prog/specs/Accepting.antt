@@ -1,5 +1,5 @@
 -- How a source comes to a program that is run, or to its refusal.
-use Rattle.std.specs.Prelude.{◌≡◌, ℕ, ◌≤◌, List, length, Some, None, Result, Ok, Err}
+use Rattle.std.specs.Prelude.{◌≡◌, ℕ, List, Some, None, Result, Ok, Err}
 use Rattle.rb_tree.specs.declared.node.Program.{Program}
 use Rattle.rb_lexer.specs.declared.fault.LexFault.{LexFault}
 use Rattle.rb_lexer.specs.declared.fault.LexFault.TheVariants as lex
@@ -8,11 +8,11 @@ use Rattle.rb_cursor.specs.declared.fault.ParseFault.TheVariants as parse
 use Rattle.rb_checker.specs.declared.whole.CheckError.{CheckError}
 use Rattle.rb_checker.specs.declared.whole.CheckError.TheVariants as error
 use Rattle.rb_checker.specs.Check.{fault_of}
+use Rattle.rb_built.specs.Unbuilt.{first_unbuilt}
 use Rattle.rb_prog.specs.declared.refusal.Refusal.{Refusal}
 use Rattle.rb_prog.specs.declared.refusal.Refusal.TheVariants as refusal
 use Rattle.rb_prog.specs.declared.source.Unaccepted.{Unaccepted}
 use Rattle.rb_prog.specs.declared.source.Unaccepted.TheVariants as unaccepted
-use Rattle.rb_prog.specs.Lines.{first_unbuilt}
 use Rattle.rb_prog.specs.Remarks.{refusal_line, memory_line}
 use Rattle.rb_prog.specs.Run.{Accepts, RefusedBy}
 
@@ -30,27 +30,26 @@ broken (error.Fault fault) = unaccepted.Refused (refusal.Broken fault)
 broken error.Memory = unaccepted.Memory
 
 -- what keeps a program from being run
-abbrev pub Keeps_out : Program → Refusal → Type 0
-Keeps_out program (refusal.Unread fault) = ⊥
-Keeps_out program (refusal.Unparsed fault) = ⊥
-Keeps_out program (refusal.Broken fault) = fault_of program ≡ Some fault
-Keeps_out program (refusal.NotBuilt at) = (fault_of program ≡ None) × (first_unbuilt program ≡ Some at)
+abbrev pub KeepsOut : Program → Refusal → Type 0
+KeepsOut program (refusal.Unread fault) = ⊥
+KeepsOut program (refusal.Unparsed fault) = ⊥
+KeepsOut program (refusal.Broken fault) = fault_of program ≡ Some fault
+KeepsOut program (refusal.NotBuilt at) = (fault_of program ≡ None) × (first_unbuilt program ≡ Some at)
 
 -- a program that may be run
 pub record IsRunnable (program : Program) : Type 0 where
   pub checked : fault_of program ≡ None
   pub built : first_unbuilt program ≡ None
-  pub short : length program.main ≤ 2097153
 
 -- what is answered to a program: itself, where it may be run; or what keeps it from that; or memory is wanted
 abbrev pub Judges : Program → Result Program Unaccepted → Type 0
 Judges program (Ok found) = (found ≡ program) × IsRunnable program
-Judges program (Err (unaccepted.Refused why)) = Keeps_out program why
+Judges program (Err (unaccepted.Refused why)) = KeepsOut program why
 Judges program (Err unaccepted.Memory) = Unit {0}
 
 -- what is answered to a source
 abbrev pub AcceptsOf : List ℕ → Result Program Unaccepted → Type 0
-AcceptsOf source (Ok program) = Accepts source program × (length program.main ≤ 2097153)
+AcceptsOf source (Ok program) = Accepts source program
 AcceptsOf source (Err (unaccepted.Refused why)) = RefusedBy source why
 AcceptsOf source (Err unaccepted.Memory) = Unit {0}
 

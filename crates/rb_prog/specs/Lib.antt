@@ -1,9 +1,3 @@
-pub mod History
-pub mod Meaning
-pub mod Lines
-pub mod Marks
-pub mod Keeps
-pub mod Walk
 pub mod Refusals
 pub mod Remarks
 pub mod Run

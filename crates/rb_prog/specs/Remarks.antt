@@ -3,10 +3,10 @@ use Rattle.std.specs.Prelude.{ℕ, List, [], ◌∷◌, ◌++◌, Option, Some, 
 use Rattle.std.specs.List.{concat}
 use Rattle.std.specs.Fmt.{decimal}
 use Rattle.rb_tree.specs.Place.{line_of, column_of}
-use Rattle.rb_prog.specs.declared.model.Fault.{Fault}
-use Rattle.rb_prog.specs.declared.model.Fault.TheVariants.{IntegerOverflow}
-use Rattle.rb_prog.specs.declared.model.End.{End}
-use Rattle.rb_prog.specs.declared.model.End.TheVariants as ending
+use Rattle.rb_model.specs.declared.fault.Fault.{Fault}
+use Rattle.rb_model.specs.Faults.{fault_name}
+use Rattle.rb_model.specs.Ends.{End}
+use Rattle.rb_model.specs.Ends as ending
 use Rattle.rb_prog.specs.declared.refusal.Refusal.{Refusal}
 use Rattle.rb_prog.specs.Refusals.{number, name, place}
 
@@ -26,10 +26,7 @@ refused_as source number name at = concat (codes "rbso: refused " ∷ decimal nu
 abbrev pub refusal_line : Text → Refusal → Text
 refusal_line source why = refused_as source (number why) (name why) (place why)
 
--- the name of a fault
-abbrev pub fault_name : Fault → Text
-fault_name IntegerOverflow = codes "IntegerOverflow"
-
+-- the name of a fault, and where it was raised
 abbrev pub fault_line : Text → Fault → ℕ → Text
 fault_line source fault at = concat (codes "rbso: fault " ∷ fault_name fault ∷ stands source (Some at) ++ codes "\n" ∷ [])
 
@@ -48,9 +45,19 @@ missing_line = codes "rbso: source missing\n"
 abbrev pub failed_line : Text
 failed_line = codes "rbso: source failed\n"
 
--- how a run ended; of a value nothing is said
-abbrev pub end_line : Text → End → Text
-end_line source (ending.Value value) = []
-end_line source (ending.Raised fault at) = fault_line source fault at.from
-end_line source ending.Sink = sink_line
-end_line source ending.Memory = memory_line
+-- the steps that a thread may make
+abbrev pub steps_line : ℕ → Text
+steps_line steps = concat (codes "rbso: steps " ∷ decimal steps ∷ codes "\n" ∷ [])
+
+-- the words of the shared heap that are used, and those that were asked for
+abbrev pub full_line : ℕ → ℕ → Text
+full_line used asked = concat (codes "rbso: heap full, used " ∷ decimal used ∷ codes ", asked " ∷ decimal asked ∷ codes "\n" ∷ [])
+
+-- how a run with so many steps ended; of a value nothing is said
+abbrev pub end_line : Text → ℕ → End → Text
+end_line source steps (ending.Value value) = []
+end_line source steps (ending.Raised fault at) = fault_line source fault at.from
+end_line source steps ending.Steps = steps_line steps
+end_line source steps (ending.Full used asked) = full_line used asked
+end_line source steps ending.Sink = sink_line
+end_line source steps ending.Memory = memory_line

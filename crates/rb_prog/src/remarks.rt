@@ -5,12 +5,13 @@ ghost use Rattle.std.specs.List.{concat};
 ghost use Rattle.std.specs.Borrow.{Bor};
 ghost use Rattle.rb_tree.specs.Place.{line_of, column_of};
 ghost use Rattle.rb_edge.specs.Edge.{Rose, Told};
-ghost use Rattle.rb_prog.specs.Remarks.{fault_name, fault_line, refused_as, refusal_line, end_line};
+ghost use Rattle.rb_model.specs.Ends.{over};
+ghost use Rattle.rb_prog.specs.Remarks.{fault_line, steps_line, full_line, refused_as, refusal_line, end_line};
 
-use crate::model::{End, Fault};
 use crate::refusal::{Refusal, Row, row_of};
 use itoa::Buffer;
 use rb_edge::{Sink, write_all};
+use rb_model::{End, Fault};
 use rb_tree::line_column;
 
 /// The words are none of the program's.
@@ -106,15 +107,6 @@ pub(crate) fn tell_refusal<E: Sink>(err: &mut E, source: &[u8], refusal: Refusal
     tell_row(err, source, row_of(refusal));
 }
 
-/// The name of a fault.
-fn name_of(fault: Fault) -> &'static str
-    ensures { result.now ≡ fault_name fault }
-{
-    match fault {
-        Fault::IntegerOverflow => "IntegerOverflow",
-    }
-}
-
 /// Writes by which fault a run ended, and where.
 fn tell_fault<E: Sink>(err: &mut E, source: &[u8], fault: Fault, at: u32)
     requires { length source.now ≤ 1048577 }
@@ -130,7 +122,7 @@ fn tell_fault<E: Sink>(err: &mut E, source: &[u8], fault: Fault, at: u32)
         err,
         &[
             "rbso: fault ",
-            name_of(fault),
+            fault.name(),
             " at ",
             line,
             ":",
@@ -140,15 +132,41 @@ fn tell_fault<E: Sink>(err: &mut E, source: &[u8], fault: Fault, at: u32)
     )
 }
 
-/// Writes how a run ended; of a value nothing.
-pub(crate) fn tell_end<E: Sink>(err: &mut E, source: &[u8], end: End)
+/// Writes how many steps a thread may make, of which it needed one more.
+fn tell_steps<E: Sink>(err: &mut E, steps: u64)
+    ensures told { Told (E.told err.old) (E.told err.new) (steps_line steps) (Rose (E.faults err.old) (E.faults err.new)) }
+    ensures rises { E.faults err.old ≤ E.faults err.new }
+{
+    let mut numbers = Buffer::new();
+    tell_pieces(err, &["rbso: steps ", numbers.format(steps), "\n"]);
+}
+
+/// Writes how many words of the shared heap were used, and how many more were asked for.
+fn tell_full<E: Sink>(err: &mut E, used: u64, asked: u64)
+    ensures told { Told (E.told err.old) (E.told err.new) (full_line used asked) (Rose (E.faults err.old) (E.faults err.new)) }
+    ensures rises { E.faults err.old ≤ E.faults err.new }
+{
+    let mut numbers = Buffer::new();
+    let mut others = Buffer::new();
+    let used = numbers.format(used);
+    let asked = others.format(asked);
+    tell_pieces(
+        err,
+        &["rbso: heap full, used ", used, ", asked ", asked, "\n"],
+    );
+}
+
+/// Writes how a run with so many steps ended; of a value nothing.
+pub(crate) fn tell_end<E: Sink>(err: &mut E, source: &[u8], steps: u64, end: &End)
     requires { length source.now ≤ 1048577 }
-    ensures told { Told (E.told err.old) (E.told err.new) (end_line source.now end) (Rose (E.faults err.old) (E.faults err.new)) }
+    ensures told { Told (E.told err.old) (E.told err.new) (end_line source.now steps (over end.now)) (Rose (E.faults err.old) (E.faults err.new)) }
     ensures rises { E.faults err.old ≤ E.faults err.new }
 {
     match end {
         End::Value(_) => {}
-        End::Raised(fault, at) => tell_fault(err, source, fault, at.from),
+        End::Raised(fault, at) => tell_fault(err, source, *fault, at.from),
+        End::Steps => tell_steps(err, steps),
+        End::Full { used, asked } => tell_full(err, *used, *asked),
         End::Sink => tell(err, SINK_FAILED),
         End::Memory => tell(err, MEMORY),
     }

@@ -3,16 +3,13 @@
 ghost use Rattle.std.specs.Prelude.{◌≡◌};
 ghost use Rattle.rb_prog.specs.Accepting.{Judges, AcceptsOf, unread, unparsed, broken};
 
-use crate::built::first_unbuilt;
 use crate::refusal::Refusal;
+use rb_built::first_unbuilt;
 use rb_checker::{CheckError, check};
 use rb_lexer::{LexFault, lex};
 use rb_parser::{ParseFault, parse};
 use rb_tree::Program;
 use std::alloc::Global;
-
-/// The statements of a program that are walked over at most.
-const MAX_STATEMENTS: usize = 2_097_153;
 
 /// Why a source has no program that is run.
 #[derive(Clone, Copy, Debug, PartialEq, Eq)]
@@ -51,22 +48,17 @@ fn broken(error: CheckError) -> Unaccepted
     }
 }
 
-/// A program, where it keeps the rules of names and is one of those that run. More statements than a source of at most 1 MiB can
-/// have are taken for want of memory.
+/// A program, where it keeps the rules of names and has nothing in it that is not run yet.
 fn judged(alloc: Global, program: Program) -> Result<Program, Unaccepted>
     ensures { Judges program result }
 {
-    if program.main.len() > MAX_STATEMENTS {
-        return Err(Unaccepted::Memory);
-    }
     match check(alloc, &program) {
         Ok(()) => {}
         Err(error) => return Err(broken(error)),
     }
-    match first_unbuilt(alloc, &program) {
-        Ok(None) => Ok(program),
-        Ok(Some(at)) => Err(Unaccepted::Refused(Refusal::NotBuilt(at))),
-        Err(_) => Err(Unaccepted::Memory),
+    match first_unbuilt(&program) {
+        None => Ok(program),
+        Some(at) => Err(Unaccepted::Refused(Refusal::NotBuilt(at))),
     }
 }
 

@@ -2,14 +2,13 @@
 
 mod names;
 mod refusals;
+mod scripts;
 mod sources;
 
-use crate::model::{Call, End, Fault, Reply, Value};
 use crate::{Report, run};
 use rb_edge::{Gate, MemoryFiles, MemorySink, OpenGate};
-use rb_tree::{Items, Span, Text};
+use rb_tree::{Items, Text};
 use std::alloc::{AllocError, Global};
-use std::process::ExitCode;
 use std::sync::Arc;
 use std::sync::atomic::{AtomicU64, Ordering};
 use std::test::Fail;
@@ -70,69 +69,6 @@ fn ran(
 fn ran_source(alloc: Global, source: &[u8]) -> Result<Outcome, Fail> {
     let mut files = script(alloc, source, Vec::new(alloc))?;
     ran(alloc, &["run", "a.rb"], &mut files, Vec::new(alloc))
-}
-
-/// A script, its output and its status.
-const SCRIPTS: [(&str, &str, u8); 42] = [
-    ("a = 6\nputs a * 7", "42\n", 0),
-    ("a = 6\nputs a * 7\n", "42\n", 0),
-    ("", "", 0),
-    ("\n\n  \n", "", 0),
-    ("puts 1", "1\n", 0),
-    ("  puts   1+2  ", "3\n", 0),
-    ("puts 1 -2\nputs 0*5", "-1\n0\n", 0),
-    ("a=1\nb=a\na=2\nputs a\nputs b", "2\n1\n", 0),
-    ("a = 3\na = a + a\nputs a", "6\n", 0),
-    ("puts 9223372036854775807", "9223372036854775807\n", 0),
-    (
-        "m = 0 - 9223372036854775807\nputs m - 1",
-        "-9223372036854775808\n",
-        0,
-    ),
-    ("puts 9223372036854775807 + 1", "", 1),
-    ("puts 1\nm = 9223372036854775807 * 2\nputs 2", "1\n", 1),
-    ("m = 0 - 9223372036854775807\nputs m - 2", "", 1),
-    ("puts b", "", 3),
-    ("b = b", "", 3),
-    ("puts 9223372036854775808", "", 3),
-    ("puts 1 + 2 + 3", "", 3),
-    ("puts -1", "-1\n", 0),
-    ("end = 1", "", 3),
-    ("puts = 1", "", 0),
-    ("puts(1)", "1\n", 0),
-    ("puts((1 +\n2))", "3\n", 0),
-    ("puts 1 if 2", "", 3),
-    ("puts 1, 2", "", 3),
-    ("def f\nend", "", 3),
-    ("class A\nend", "", 3),
-    ("a = Thread.new { 1 }", "", 3),
-    ("a += 1", "", 3),
-    ("puts(1", "", 3),
-    ("puts 07", "", 3),
-    ("puts 1;puts 2", "1\n2\n", 0),
-    ("puts 1\r\n", "1\n", 0),
-    ("a =\n6\nputs a", "6\n", 0),
-    ("puts 1 # one\nputs 2", "1\n2\n", 0),
-    ("\tputs\t1", "1\n", 0),
-    ("puts 1_000", "1000\n", 0),
-    ("a? = 1", "", 3),
-    ("puts \"a\"", "", 3),
-    ("puts 1.5", "", 3),
-    ("puts [1]", "", 3),
-    ("puts 'a", "", 3),
-];
-
-#[test]
-fn scripts_have_their_output_and_status(rt: HostRuntime) -> Result<(), Fail> {
-    for (source, output, status) in SCRIPTS {
-        let Outcome { report, err } = ran_source(rt.alloc(), source.as_bytes())?;
-        assert_eq!(rt; report.status, status, "{source}");
-        assert_eq!(rt; report.out.bytes(), output.as_bytes(), "{source}");
-        assert_eq!(rt; report.front.is_some(), status < 2, "{source}");
-        assert_eq!(rt; err.bytes().is_empty(), status == 0, "{source}");
-        assert!(rt; report.exit_code() == ExitCode::from(status), "{source}");
-    }
-    Ok(())
 }
 
 #[test]
@@ -268,40 +204,6 @@ fn a_source_has_at_most_1048576_bytes(rt: HostRuntime) -> Result<(), Fail> {
     Ok(())
 }
 
-/// The steps of a script's prints, its end, and the step of that.
-const HISTORIES: [(&str, &[u64], End, u64); 4] = [
-    ("", &[], End::Value(Value::Nil), 0),
-    ("a = 6\nputs a * 7", &[6], End::Value(Value::Nil), 6),
-    ("puts 1\nputs 2", &[2, 4], End::Value(Value::Nil), 4),
-    (
-        "puts 1\nputs 9223372036854775807 + 1",
-        &[2],
-        End::Raised(Fault::IntegerOverflow, Span { from: 32, to: 33 }),
-        6,
-    ),
-];
-
-#[test]
-fn a_history_has_each_print_and_the_end_with_their_steps(rt: HostRuntime) -> Result<(), Fail> {
-    let alloc = rt.alloc();
-    for (source, prints, end, last) in HISTORIES {
-        let Outcome { report, .. } = ran_source(alloc, source.as_bytes())?;
-        let front = report.front.expect(&rt, "a history");
-        let mut steps = Vec::new(alloc);
-        let mut ends = Vec::new(alloc);
-        for entry in front.entries() {
-            assert_eq!(rt; (entry.thread, entry.reply), (0, Reply::Done));
-            match &entry.call {
-                Call::Print(_) => steps.push(entry.step)?,
-                Call::End(end) => ends.push((*end, entry.step))?,
-            }
-        }
-        assert_eq!(rt; steps.as_slice(), prints, "{source}");
-        assert_eq!(rt; ends.as_slice(), [(end, last)].as_slice(), "{source}");
-    }
-    Ok(())
-}
-
 /// So many names, each assigned on a line of its own and printed on the next, and what that prints.
 fn long_script(alloc: Global, names: u32) -> Result<(String, String), AllocError> {
     let mut source = String::new(alloc);
@@ -322,8 +224,6 @@ fn a_script_of_thousands_of_lines_names_and_prints_runs(rt: HostRuntime) -> Resu
     let Outcome { report, .. } = ran_source(alloc, source.as_bytes())?;
     assert_eq!(rt; report.status, 0);
     assert!(rt; report.out.bytes() == output.as_bytes());
-    let front = report.front.expect(&rt, "a history");
-    assert_eq!(rt; front.entries().len(), 2001);
     Ok(())
 }
 

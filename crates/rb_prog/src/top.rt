@@ -1,25 +1,24 @@
 // The top call.
 
-ghost use Rattle.std.specs.Prelude.{◌≡◌, ◌⊎◌, ◌≤◌, ℕ, List, [], Option, Some, None, IfOk, map, length, string_bytes};
-ghost use Rattle.std.specs.Option.{option_map};
-ghost use Rattle.std.specs.Borrow.{Bor};
+ghost use Rattle.std.specs.Prelude.{◌≡◌, ◌⊎◌, ◌≤◌, ℕ, List, [], Option, Some, None, map, length, string_bytes};
 ghost use Rattle.std.specs.Process.{exit_status};
 ghost use Rattle.rb_tree.specs.declared.node.Program.{Program as Tree};
 ghost use Rattle.rb_command.specs.Words as asked;
 ghost use Rattle.rb_edge.specs.Edge.{Bytes, Rose, Told};
+ghost use Rattle.rb_model.specs.Ends.{over};
 ghost use Rattle.rb_prog.specs.Accepting.{rejected_status, rejected_line};
 ghost use Rattle.rb_prog.specs.Remarks.{usage_line, memory_line};
 ghost use Rattle.rb_prog.specs.Run as spec;
-ghost use Rattle.rb_prog.specs.Run.{Accepts, RunsSource, Runs};
+ghost use Rattle.rb_prog.specs.Run.{Accepts, RunsSource, Runs, IsOwnOrMemory};
 
-use crate::history::RunFront;
-use crate::model::End;
 use crate::remarks::{MEMORY, SOURCE_FAILED, SOURCE_MISSING, USAGE, tell, tell_end, tell_refusal};
 use crate::source::{Unaccepted, accept};
-use crate::walk::{Ran, run_main};
-use rb_command::{Command, command_of};
+use rb_command::{Command, RunWords, command_of};
 use rb_edge::{Files, Gate, ReadFault, Sink, read_source};
-use std::alloc::{AllocError, Global};
+use rb_model::End;
+use rb_run::{Ran, run_program};
+use rb_store::RunFront;
+use std::alloc::Global;
 use std::process::ExitCode;
 use std::sync::Arc;
 
@@ -41,23 +40,15 @@ impl<K> Report<K> {
     }
 }
 
-/// The path of the script that the words name.
-fn path_of(alloc: Global, words: &[String]) -> Result<Option<&str>, AllocError>
-    ensures { IfOk result (λ found. option_map (λ (b : Bor (List ℕ)). b.now) found ≡ spec.path_of (map string_bytes words.now)) }
-{
-    match command_of(alloc, words)? {
-        Some(Command::Run(run)) => Ok(Some(run.file)),
-        None => Ok(None),
-    }
-}
-
 /// The status of an end.
-fn status_of(end: End) -> u8
-    ensures { result ≡ spec.status_of end }
+fn status_of(end: &End) -> u8
+    ensures { result ≡ spec.status_of (over end.now) }
 {
     match end {
         End::Value(_) => 0,
         End::Raised(..) => 1,
+        End::Steps => 6,
+        End::Full { .. } => 7,
         End::Sink => 5,
         End::Memory => 8,
     }
@@ -100,41 +91,49 @@ fn rejected<K, E: Sink>(source: &[u8], why: Unaccepted, out: K, err: &mut E) -> 
     }
 }
 
-/// A source that was read, accepted and run.
-fn run_source<K: Sink, E: Sink>(alloc: Global, bytes: &[u8], mut out: K, err: &mut E) -> Report<K>
-    requires { length bytes.now ≤ 1048577 }
-    ensures runs { (line : List ℕ) × RunsSource bytes.now (K.told out) (K.told result.out) result.status result.front line
+/// A source that was read, accepted and run with so many steps.
+fn run_source<K: Sink + Drop, E: Sink>(
+    alloc: Global,
+    source: &[u8],
+    steps: u64,
+    out: K,
+    err: &mut E,
+) -> Report<K>
+    requires { length source.now ≤ 1048577 }
+    ensures runs { (line : List ℕ) × RunsSource source.now steps (K.told out) (K.told result.out) result.status result.front line
         × Told (E.told err.old) (E.told err.new) line (Rose (E.faults err.old) (E.faults err.new)) }
     ensures cause { result.status ≡ 5 → Rose (K.faults out) (K.faults result.out) }
     ensures rises { K.faults out ≤ K.faults result.out }
     ensures err_rises { E.faults err.old ≤ E.faults err.new }
 {
-    let program = match accept(alloc, bytes) {
+    let program = match accept(alloc, source) {
         Ok(program) => program,
-        Err(why) => return rejected(bytes, why, out, err),
+        Err(why) => return rejected(source, why, out, err),
     };
-    let Some(ran) = run_main(alloc, &program, &mut out) else {
-        return stopped(8, MEMORY, out, err);
-    };
-    let Ran { front, end } = ran;
-    tell_end(err, bytes, end);
-    Report {
-        status: status_of(end),
-        out,
-        front: Some(front),
+    match run_program(alloc, &program, steps, out) {
+        Ok(Ran { out, front, end }) => {
+            tell_end(err, source, steps, &end);
+            Report {
+                status: status_of(&end),
+                out,
+                front: Some(front),
+            }
+        }
+        // An accepted program has nothing that is not built, so memory was wanted.
+        Err(unbegun) => stopped(8, MEMORY, unbegun.out, err),
     }
 }
 
-/// The file under a path, read and run.
-fn run_path<F: Files, K: Sink, E: Sink>(
+/// The script that the words name, read and run.
+fn run_file<F: Files, K: Sink + Drop, E: Sink>(
     alloc: Global,
-    path: &str,
+    words: RunWords,
     files: &mut F,
     out: K,
     err: &mut E,
 ) -> Report<K>
     ensures runs { (line : List ℕ)
-        × Runs (F.held files.old path.now) (Rose (F.faults files.old) (F.faults files.new)) (K.told out) (K.told result.out) result.status result.front line
+        × Runs (F.held files.old words.file.now) (Rose (F.faults files.old) (F.faults files.new)) words.steps (K.told out) (K.told result.out) result.status result.front line
         × Told (E.told err.old) (E.told err.new) line (Rose (E.faults err.old) (E.faults err.new)) }
     ensures cause { result.status ≡ 5 → Rose (K.faults out) (K.faults result.out) }
     ensures not_usage { result.status ≡ 2 → ⊥ }
@@ -143,21 +142,22 @@ fn run_path<F: Files, K: Sink, E: Sink>(
     ensures rises { K.faults out ≤ K.faults result.out }
     ensures err_rises { E.faults err.old ≤ E.faults err.new }
 {
-    match read_source(alloc, files, path) {
-        Ok(bytes) => run_source(alloc, bytes.as_slice(), out, err),
+    match read_source(alloc, files, words.file) {
+        Ok(bytes) => run_source(alloc, bytes.as_slice(), words.steps, out, err),
         Err(ReadFault::Missing) => stopped(4, SOURCE_MISSING, out, err),
         Err(ReadFault::Failed) => stopped(4, SOURCE_FAILED, out, err),
         Err(ReadFault::Memory) => stopped(8, MEMORY, out, err),
     }
 }
 
-/// All that the program does: `run FILE` reads a script of integer lines, runs it and writes what it prints to `out`.
-/// `words` are the arguments without the program's own name. The steps and the heap words that they give have no effect yet.
+/// All that the program does: `run FILE` reads a script, runs it and writes what it prints to `out`. `words` are the arguments
+/// without the program's own name. A thread makes as many steps as `--steps` says at most; what `--heap-words` says has no effect
+/// yet, since no thread shares anything.
 ///
 /// The status is 0 where the script ended with a value and 1 where it raised a fault; 2 where the words are none of the
-/// program's; 3 where the script is refused; 4 where it is missing or could not be read; 5 where `out` failed; 8 for want
-/// of memory. But for the status 0, one line on `err` tells why.
-pub fn run<F: Files, K: Sink + Send, E: Sink, G: Gate + Send + Sync + Drop>(
+/// program's; 3 where the script is refused; 4 where it is missing or could not be read; 5 where `out` failed; 6 where it needed
+/// a step more than it may make; 8 for want of memory. But for the status 0, one line on `err` tells why.
+pub fn run<F: Files, K: Sink + Send + Drop, E: Sink, G: Gate + Send + Sync + Drop>(
     alloc: Global,
     words: &[String],
     files: &mut F,
@@ -165,12 +165,12 @@ pub fn run<F: Files, K: Sink + Send, E: Sink, G: Gate + Send + Sync + Drop>(
     err: &mut E,
     gate: Arc<G>,
 ) -> Report<K>
-    // The headline. Whatever the files hold, the history that is shown is a run of the program that was read: all that
-    // it means, or a part of it that want of memory or the sink cut short and that is then ended; and the bytes written
-    // are that history's prints, with a proper prefix of the one print that the sink refused. Each status has its cause.
-    // And `err` is told the one line that names that cause, or a front of it, and then its count of faults rose.
-    ensures runs { (path : List ℕ) → spec.path_of (map string_bytes words.now) ≡ Some path → (line : List ℕ)
-        × Runs (F.held files.old path) (Rose (F.faults files.old) (F.faults files.new)) (K.told out) (K.told result.out) result.status result.front line
+    // The headline. Whatever the files hold, the history that is shown is what the main thread of the program that was read does
+    // by the reference machine, and so it ends: all of it, or a part of it that want of memory or the sink cut short; and the
+    // bytes written are that history's prints, with a proper prefix of the one print that the sink refused. Each status has its
+    // cause. And `err` is told the one line that names that cause, or a front of it, and then its count of faults rose.
+    ensures runs { (wanted : asked.Run) → asked.command_of (map string_bytes words.now) ≡ Some (asked.run wanted) → (line : List ℕ)
+        × Runs (F.held files.old wanted.file) (Rose (F.faults files.old) (F.faults files.new)) wanted.steps (K.told out) (K.told result.out) result.status result.front line
         × Told (E.told err.old) (E.told err.new) line (Rose (E.faults err.old) (E.faults err.new)) }
 
     // Status 2 comes only where the words are not the program's. Where they are not, it comes, or memory is wanted, and nothing is
@@ -188,10 +188,10 @@ pub fn run<F: Files, K: Sink + Send, E: Sink, G: Gate + Send + Sync + Drop>(
     ensures cause { result.status ≡ 5 → Rose (K.faults out) (K.faults result.out) }
 
     // A program that is held, and no fault from outside, give one of the script's own ends, or want of memory.
-    ensures complete { (path bytes : List ℕ) (program : Tree) → spec.path_of (map string_bytes words.now) ≡ Some path
-        → F.held files.old path ≡ Bytes bytes → Accepts bytes program
+    ensures complete { (wanted : asked.Run) (bytes : List ℕ) (program : Tree) → asked.command_of (map string_bytes words.now) ≡ Some (asked.run wanted)
+        → F.held files.old wanted.file ≡ Bytes bytes → Accepts bytes program
         → (Rose (F.faults files.old) (F.faults files.new) → ⊥) → (Rose (K.faults out) (K.faults result.out) → ⊥)
-        → (result.status ≡ 0) ⊎ (result.status ≡ 1) ⊎ (result.status ≡ 8) }
+        → IsOwnOrMemory result.status }
 
     // What is held stays, and counts of faults never fall.
     ensures kept { (p : List ℕ) → F.held files.new p ≡ F.held files.old p }
@@ -200,12 +200,9 @@ pub fn run<F: Files, K: Sink + Send, E: Sink, G: Gate + Send + Sync + Drop>(
     ensures err_rises { E.faults err.old ≤ E.faults err.new }
 {
     let _ = gate;
-    let found = match path_of(alloc, words) {
-        Ok(found) => found,
-        Err(_) => return stopped(8, MEMORY, out, err),
-    };
-    match found {
-        Some(path) => run_path(alloc, path, files, out, err),
-        None => stopped(2, USAGE, out, err),
+    match command_of(alloc, words) {
+        Ok(Some(Command::Run(wanted))) => run_file(alloc, wanted, files, out, err),
+        Ok(None) => stopped(2, USAGE, out, err),
+        Err(_) => stopped(8, MEMORY, out, err),
     }
 }

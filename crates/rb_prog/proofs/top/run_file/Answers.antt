@@ -1,8 +1,8 @@
 use Rattle.std.proofs.Common.{ap, Err}
 use Rattle.rb_prog.specs.Run as run
 use Rattle.rb_prog.specs.Run.{read, missing, failed}
-use Rattle.rb_prog.proofs.Histories.{adds_none}
-use Rattle.rb_prog.proofs.top.run_path.Goals as goal
+use Rattle.rb_prog.proofs.Adding.{adds_none}
+use Rattle.rb_prog.proofs.top.run_file.Goals as goal
 
 pub returns-in-Ok-clause-runs : goal.returns-in-Ok-clause-runs
 returns-in-Ok-clause-runs g c =
