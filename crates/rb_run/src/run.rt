@@ -1,15 +1,15 @@
 // The run of a program.
 
-ghost use Rattle.std.specs.Prelude.{◌≡◌, ◌≤◌, ◌++◌, [], ◌∷◌, ℕ, List, map, IfOk, IfErr};
+ghost use Rattle.std.specs.Prelude.{◌≡◌, ◌≤◌, ◌++◌, [], ◌∷◌, true, List, IfOk, IfErr};
 ghost use Rattle.rb_model.specs.Ends.{over};
 ghost use Rattle.rb_model.specs.Ends as ending;
-ghost use Rattle.rb_model.specs.Log.{Log, Refusal};
+ghost use Rattle.rb_model.specs.Log.{Refusal};
 ghost use Rattle.rb_machine.specs.Scopes.{Script};
 ghost use Rattle.rb_machine.specs.Follows.{Follows};
 ghost use Rattle.rb_machine.specs.Alone.{opening};
 ghost use Rattle.rb_code.specs.Stands.{StandsFor};
 ghost use Rattle.rb_edge.specs.Edge.{Rose};
-ghost use Rattle.rb_store.specs.Kept.{entry_of, Written, Caused};
+ghost use Rattle.rb_store.specs.Written.{Caused, Written, only_prints};
 ghost use Rattle.rb_run.specs.Run.{IsRunOf};
 
 use crate::row::row_of;
@@ -48,9 +48,13 @@ fn run_with<K: Sink + Drop, B: Begun>(
 ) -> Result<Ran<K>, K>
     requires told { K.told out ≡ B.told }
     requires faults { K.faults out ≡ B.faults }
-    ensures does { IfOk result (λ ran. (log : Log) × (map entry_of ran.front ≡ log.entries) × Written B.told (K.told ran.out) log × Caused B.faults (K.faults ran.out) log.refusals
-        × ((S : Script) → StandsFor code.now S → S.program.names ≡ names.now → Follows S 0 steps (opening S steps) log (over ran.end))
-        × ((S : Script) → StandsFor code.now S → S.program.names ≡ names.now → over ran.end ≡ ending.Sink → (before : List Refusal) × (r : Refusal) × (log.refusals ≡ before ++ r ∷ []))) }
+    ensures follows { IfOk result (λ ran. (S : Script) → StandsFor code.now S → S.program.names ≡ names.now
+        → Follows S 0 steps (opening S steps) ran.front (over ran.end)) }
+    ensures refused { IfOk result (λ ran. (S : Script) → StandsFor code.now S → S.program.names ≡ names.now
+        → over ran.end ≡ ending.Sink → (before : List Refusal) × (r : Refusal) × (ran.front.refusals ≡ before ++ r ∷ [])) }
+    ensures own { IfOk result (λ ran. only_prints ran.front.entries ≡ true) }
+    ensures written { IfOk result (λ ran. Written B.told (K.told ran.out) ran.front) }
+    ensures cause { IfOk result (λ ran. Caused B.faults (K.faults ran.out) ran.front.refusals) }
     ensures rises { IfOk result (λ ran. B.faults ≤ K.faults ran.out) }
     ensures back { IfErr result (λ sink. sink ≡ out) }
 {

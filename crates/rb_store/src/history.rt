@@ -1,108 +1,79 @@
 // The history of a run.
 
-ghost use Rattle.std.specs.Prelude.{◌≡◌, ◌<◌, ◌+◌, [], ◌∷◌, ◌++◌, vec_len, vec_capacity, IfOk, OnOk};
+ghost use Rattle.std.specs.Prelude.{◌≡◌, [], IfOk};
+ghost use Rattle.rb_model.specs.Log as log;
+ghost use Rattle.rb_model.specs.Log.{asked, logged, plain_entry, refused};
 
+use crate::rule::{Asking, Does, Known, Refuses, Unbound};
+use atomic_table::{Seat, Table};
 use rb_model::Call;
-use rb_tree::Items;
 use std::alloc::{AllocError, Global};
 use std::marker::Model;
 
-/// One call of a run's history. Its step is the count of steps that its thread had begun by then.
-#[derive(Drop)]
-pub struct Entry {
-    pub thread: u64,
-    pub step: u64,
-    pub call: Call,
-}
-
-/// The entries so far, with room for one more.
+/// The history of a run that goes on, which takes the bytes of one word, however long it grows. Contracts see it as its log.
 #[derive(Drop)]
 pub(crate) struct History {
-    entries: Vec<Entry>,
-    ghost room: { vec_len entries < vec_capacity entries },
+    table: Table<(), Known, (), Unbound, Global>,
+    seat: Seat<(), Known>,
+}
+
+impl Model for History {
+    ghost use Rattle.std.specs.Prelude.{◌≡◌};
+    ghost use Rattle.rb_model.specs.Log.{Log};
+
+    ghost Value = { Log };
+
+    ghost view = { λ h. h.seat.me.0 };
+
+    ghost invariant = { λ h. (h.table.shared.table_id.words ≡ 1) × (h.seat.table_id ≡ h.table.shared.table_id) };
 }
 
 impl History {
-    /// No entries.
+    /// Nothing was asked.
     pub(crate) fn new(alloc: Global) -> Result<History, AllocError>
-        ensures { IfOk result (λ h. h.entries.items ≡ []) }
+        ensures { IfOk result (λ h. h ≡ log.fresh) }
     {
-        Ok(History {
-            entries: Vec::with_capacity(alloc, 1)?,
-        })
+        let (table, seat) = Table::of_words(alloc, &[0], &())?;
+        Ok(History { table, seat })
     }
 
-    /// How many entries there are.
-    pub(crate) fn len(&self) -> usize
-        ensures { result ≡ vec_len self.now.entries }
+    /// Adds the entry of a call that was done.
+    pub(crate) fn add<A: Asking>(&mut self, step: u64, call: &Call)
+        requires asks { (A.step ≡ step) × (A.call ≡ asked call.now) }
+        ensures { self.new ≡ logged self.old (plain_entry step (asked call.now)) }
     {
-        self.entries.len()
+        let table = &self.table;
+        table.shared.load::<Does<A>>(&mut self.seat, 0);
     }
 
-    /// Takes room for one entry and for the last one behind it.
-    pub(crate) fn reserve(&mut self) -> Result<(), AllocError>
-        ensures same { self.new.entries.items ≡ self.old.entries.items }
-        ensures ok { OnOk result (vec_len self.new.entries + 1 < vec_capacity self.new.entries) }
+    /// Adds the refusal of a call.
+    pub(crate) fn refuse<A: Asking>(&mut self, call: &Call)
+        requires asks { A.call ≡ asked call.now }
+        ensures { self.new ≡ refused self.old (asked call.now) [] }
     {
-        self.entries.reserve(2)
-    }
-
-    /// Adds an entry. There is room for it and for the last one behind it.
-    pub(crate) fn record(&mut self, entry: Entry)
-        requires { vec_len self.old.entries + 1 < vec_capacity self.old.entries }
-        ensures { self.new.entries.items ≡ self.old.entries.items ++ entry ∷ [] }
-    {
-        match self.entries.push(entry) {
-            Ok(()) => {}
-            Err(_) => unreachable!(),
-        }
+        let table = &self.table;
+        table.shared.load::<Refuses<A>>(&mut self.seat, 0);
     }
 
     /// What the run shows of it.
     pub(crate) fn into_front(self) -> RunFront
-        ensures { result ≡ self.entries.items }
+        ensures { result ≡ self }
     {
-        let History { entries } = self;
-        RunFront {
-            entries: Items::from_vec(entries),
-        }
-    }
-
-    /// What the run shows of it, with the last entry.
-    pub(crate) fn into_front_with(self, last: Entry) -> RunFront
-        ensures { result ≡ self.entries.items ++ last ∷ [] }
-    {
-        let History { mut entries } = self;
-        match entries.push(last) {
-            Ok(()) => {}
-            Err(_) => unreachable!(),
-        }
-        RunFront {
-            entries: Items::from_vec(entries),
-        }
+        let History { seat, .. } = self;
+        RunFront { seat }
     }
 }
 
-/// The history of a run: its entries in their order. Contracts see it as their list.
+/// The history of a run that is over. It takes no bytes. Contracts see it as its log.
 #[derive(Drop)]
 pub struct RunFront {
-    entries: Items<Entry>,
+    seat: Seat<(), Known>,
 }
 
 impl Model for RunFront {
-    ghost use Rattle.std.specs.Prelude.{List};
-    ghost use Rattle.rb_store.specs.declared.history.Entry.{Entry};
+    ghost use Rattle.rb_model.specs.Log.{Log};
 
-    ghost Value = { List Entry };
+    ghost Value = { Log };
 
-    ghost view = { λ f. f.entries };
-}
-
-impl RunFront {
-    /// The entries in their order.
-    pub fn entries(&self) -> &[Entry]
-        ensures { result.now ≡ self.now }
-    {
-        self.entries.as_slice()
-    }
+    ghost view = { λ f. f.seat.me.0 };
 }

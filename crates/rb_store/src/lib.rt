@@ -1,11 +1,12 @@
-//! The store of a run with one thread: its history in memory, and the sink that its prints are written to.
+//! The store of a run with one thread: its history, which takes no bytes, and the sink that its prints are written to.
 #![tactic(auto)]
 
 mod history;
-mod kept;
+mod rule;
 mod store;
 #[cfg(test)]
 mod tests;
 
-pub use history::{Entry, RunFront};
+pub use history::RunFront;
+pub use rule::{Asking, Known};
 pub use store::{Begun, MainStore};

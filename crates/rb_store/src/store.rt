@@ -1,17 +1,15 @@
 // The store.
 
-ghost use Rattle.std.specs.Prelude.{◌≡◌, ◌≤◌, ◌||◌, ◌++◌, true, false, ℕ, List, Option, is_none, is_ok, map, IfOk, IfErr};
+ghost use Rattle.std.specs.Prelude.{◌≡◌, ◌≢◌, ◌≤◌, ◌||◌, ◌++◌, [], true, ℕ, List, Option, is_none, IfOk, IfErr};
 ghost use Rattle.std.specs.Option.{option_map};
-ghost use Rattle.rb_model.specs.Ends.{over};
 ghost use Rattle.rb_model.specs.Log as log;
-ghost use Rattle.rb_model.specs.Log.{Answers, has_end, is_sure};
-ghost use Rattle.rb_store.specs.Kept.{Caused, Written, entry_of, has_risen, log_of, taken_of};
+ghost use Rattle.rb_model.specs.Log.{Answers, asked, logged, plain_entry};
+ghost use Rattle.rb_store.specs.Written.{Caused, Written, has_risen, is_refusal, only_prints, taken_of};
 
-use crate::history::{Entry, History, RunFront};
-use crate::kept::{Kept, Last, Refused};
+use crate::history::{History, RunFront};
 use rb_edge::{Sink, write_all};
-use rb_model::{Answer, Call, End, OneStore, SharedText};
-use std::alloc::{AllocError, Global};
+use rb_model::{Answer, Call, OneStore, SharedText};
+use std::alloc::Global;
 use std::marker::{Brand, PhantomData};
 
 /// What the sink was when the run began.
@@ -35,11 +33,15 @@ impl Begun for Brand {
 #[derive(Drop)]
 pub struct MainStore<K: Sink, B: Begun> {
     out: K,
-    kept: Kept,
+    history: History,
+    /// How many bytes the sink took of a print that it refused.
+    taken: Option<usize>,
     begun: PhantomData<B>,
-    ghost written: { K.told out ≡ option_map (λ first. first ++ taken_of kept) B.told },
+    ghost written: { K.told out ≡ option_map (λ first. first ++ taken_of taken history) B.told },
+    ghost refusal: { is_refusal taken history.refusals ≡ true },
+    ghost own: { only_prints history.entries ≡ true },
     ghost rises: { B.faults ≤ K.faults out },
-    ghost cause: { (is_none kept.refused || has_risen B.faults (K.faults out)) ≡ true },
+    ghost cause: { (is_none taken || has_risen B.faults (K.faults out)) ≡ true },
 }
 
 impl<K: Sink, B: Begun> MainStore<K, B> {
@@ -47,17 +49,14 @@ impl<K: Sink, B: Begun> MainStore<K, B> {
     pub fn new(alloc: Global, out: K) -> Result<MainStore<K, B>, K>
         requires told { K.told out ≡ B.told }
         requires faults { K.faults out ≡ B.faults }
-        ensures begun { IfOk result (λ s. log_of s.kept ≡ log.fresh) }
+        ensures begun { IfOk result (λ s. s.history ≡ log.fresh) }
         ensures back { IfErr result (λ sink. sink ≡ out) }
     {
         match History::new(alloc) {
             Ok(history) => Ok(MainStore {
                 out,
-                kept: Kept {
-                    history,
-                    closing: None,
-                    refused: None,
-                },
+                history,
+                taken: None,
                 begun: PhantomData,
             }),
             Err(_) => Err(out),
@@ -67,95 +66,71 @@ impl<K: Sink, B: Begun> MainStore<K, B> {
     /// The sink, and what the run shows of its history.
     pub fn into_parts(self) -> (K, RunFront)
         ensures sink { result.0 ≡ self.out }
-        ensures entries { map entry_of result.1 ≡ (log_of self.kept).entries }
-        ensures written { Written B.told (K.told result.0) (log_of self.kept) }
-        ensures cause { Caused B.faults (K.faults result.0) (log_of self.kept).refusals }
+        ensures front { result.1 ≡ self.history }
+        ensures own { only_prints result.1.entries ≡ true }
+        ensures written { Written B.told (K.told result.0) result.1 }
+        ensures cause { Caused B.faults (K.faults result.0) result.1.refusals }
         ensures rises { B.faults ≤ K.faults result.0 }
     {
-        let MainStore { out, kept, .. } = self;
-        (out, kept.into_front())
+        let MainStore { out, history, .. } = self;
+        (out, history.into_front())
     }
 
-    /// Writes a text to the sink, once there is room for its entry and for the last one behind it. Behind a print that was refused
-    /// nothing is written.
-    fn print(&mut self, step: u64, text: &SharedText) -> Answer
-        requires open { has_end (log_of self.old.kept).entries ≡ false }
-        ensures answers { Answers result step (log.Print text.now) (log_of self.old.kept) (log_of self.new.kept) }
+    /// Writes the text of a print whole, and adds its entry. Where the sink fails, the print is refused, and nothing is written from
+    /// then on.
+    fn print(&mut self, step: u64, call: &Call, text: &SharedText) -> Answer
+        requires asks { asked call.now ≡ log.Print text.now }
+        ensures answers { Answers result step (asked call.now) self.old.history self.new.history }
+        ensures memory { result ≡ Answer.Memory → self.old.history.refusals ≢ [] }
+        ensures behind { self.old.history.refusals ≢ [] → self.new.out ≡ self.old.out }
         ensures rises { K.faults self.old.out ≤ K.faults self.new.out }
     {
-        if let Some(_) = &self.kept.refused {
+        if let Some(_) = self.taken {
             return Answer::Memory;
         }
-        let Ok(own) = text.share() else {
-            return Answer::Memory;
-        };
-        let Ok(()) = self.kept.history.reserve() else {
-            return Answer::Memory;
-        };
-        match write_all(&mut self.out, own.as_slice()) {
+        match write_all(&mut self.out, text.as_slice()) {
             Ok(()) => {
-                self.kept.history.record(Entry {
-                    thread: 0,
-                    step,
-                    call: Call::Print(own),
-                });
+                self.history.add::<Brand>(step, call);
                 Answer::Done
             }
             Err(failed) => {
-                self.kept.refused = Some(Refused {
-                    text: own,
-                    before: self.kept.history.len(),
-                    taken: failed.taken,
-                });
+                self.history.refuse::<Brand>(call);
+                self.taken = Some(failed.taken);
                 Answer::SinkFailed
             }
         }
     }
 
-    /// Keeps how the thread ended.
-    fn close(&mut self, step: u64, end: &End) -> Answer
-        requires open { has_end (log_of self.old.kept).entries ≡ false }
-        ensures answers { Answers result step (log.End (over end.now)) (log_of self.old.kept) (log_of self.new.kept) }
-        ensures sure { is_sure (log.End (over end.now)) ≡ true → result ≡ Answer.Done }
-        ensures rises { K.faults self.old.out ≤ K.faults self.new.out }
+    /// Adds the entry of the last call.
+    fn close(&mut self, step: u64, call: &Call)
+        requires ends { log.is_end (asked call.now) ≡ true }
+        ensures added { self.new.history ≡ logged self.old.history (plain_entry step (asked call.now)) }
+        ensures same { self.new.out ≡ self.old.out }
     {
-        match copy_of(end) {
-            Ok(end) => {
-                self.kept.closing = Some(Last { step, end });
-                Answer::Done
-            }
-            Err(_) => Answer::Memory,
-        }
+        self.history.add::<Brand>(step, call);
     }
 }
 
 impl<K: Sink, B: Begun> OneStore for MainStore<K, B> {
-    ghost log = { λ s. log_of s.kept };
+    ghost log = { λ s. s.history };
 
     ghost faults = { λ s. K.faults s.out };
 
-    fn call(&mut self, step: u64, call: &Call) -> Answer {
+    fn call(&mut self, step: u64, call: &Call) -> Answer
+        ensures answers { Answers result step (asked call.now) self.old.history self.new.history }
+        ensures sure { log.is_sure (asked call.now) ≡ true → result ≡ Answer.Done }
+        ensures rises { K.faults self.old.out ≤ K.faults self.new.out }
+        // An end needs no room, and a print has room where none was refused.
+        ensures done { log.is_end (asked call.now) ≡ true → result ≡ Answer.Done }
+        ensures memory { result ≡ Answer.Memory → self.old.history.refusals ≢ [] }
+        ensures behind { self.old.history.refusals ≢ [] → self.new.out ≡ self.old.out }
+    {
         match call {
-            Call::Print(text) => self.print(step, text),
-            Call::End(end) => self.close(step, end),
+            Call::Print(text) => self.print(step, call, text),
+            Call::End(_) => {
+                self.close(step, call);
+                Answer::Done
+            }
         }
-    }
-}
-
-/// The same end. Only a value may want memory.
-fn copy_of(end: &End) -> Result<End, AllocError>
-    ensures same { IfOk result (λ copy. over copy ≡ over end.now) }
-    ensures sure { is_sure (log.End (over end.now)) ≡ true → is_ok result ≡ true }
-{
-    match end {
-        End::Value(value) => Ok(End::Value(value.share()?)),
-        End::Raised(fault, at) => Ok(End::Raised(*fault, *at)),
-        End::Steps => Ok(End::Steps),
-        End::Full { used, asked } => Ok(End::Full {
-            used: *used,
-            asked: *asked,
-        }),
-        End::Sink => Ok(End::Sink),
-        End::Memory => Ok(End::Memory),
     }
 }

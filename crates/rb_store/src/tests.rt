@@ -3,19 +3,18 @@
 ghost use Rattle.std.specs.Prelude.{◌≡◌, false};
 ghost use Rattle.rb_model.specs.Log.{has_end};
 
-use crate::{Begun, MainStore, RunFront};
+use crate::{Begun, MainStore};
 use rb_edge::{MemorySink, Sink};
 use rb_model::{Answer, Call, End, OneStore, SharedText};
 use std::alloc::{AllocError, Global};
 use std::marker::Brand;
 use std::test::Fail;
 
-/// What a run leaves: the answers to its calls, the sink, and its history.
+/// What a run leaves: the answers to its calls, and the sink.
 #[derive(Drop)]
 struct Left {
     answers: [Answer; 4],
     out: MemorySink,
-    front: RunFront,
 }
 
 /// Prints a text.
@@ -38,11 +37,10 @@ fn three_prints<B: Begun>(alloc: Global, out: MemorySink) -> Result<Left, AllocE
     let second = print(&mut store, 4, SharedText::from_slice(alloc, b"cd")?);
     let third = print(&mut store, 6, SharedText::from_slice(alloc, b"ef")?);
     let last = store.call(7, &Call::End(End::Sink));
-    let (out, front) = store.into_parts();
+    let (out, _) = store.into_parts();
     Ok(Left {
         answers: [first, second, third, last],
         out,
-        front,
     })
 }
 
@@ -53,11 +51,6 @@ fn prints_are_written_in_order(rt: HostRuntime) -> Result<(), Fail> {
     let left = three_prints::<Brand>(alloc, out)?;
     assert_eq!(rt; left.answers, [Answer::Done; 4]);
     assert_eq!(rt; left.out.bytes(), b"abcdef".as_slice());
-    let mut steps = Vec::new(alloc);
-    for entry in left.front.entries() {
-        steps.push(entry.step)?;
-    }
-    assert_eq!(rt; steps.as_slice(), [1, 4, 6, 7].as_slice());
     Ok(())
 }
 
@@ -74,6 +67,5 @@ fn behind_a_refused_print_nothing_is_written(rt: HostRuntime) -> Result<(), Fail
     ];
     assert_eq!(rt; left.answers, answers);
     assert_eq!(rt; left.out.bytes(), b"ab".as_slice());
-    assert_eq!(rt; left.front.entries().len(), 2);
     Ok(())
 }

@@ -5,11 +5,11 @@ use Rattle.rb_run.proofs.run.run_program.Goals as goal
 
 pub returns-in-Ok-run_with-clause-runs : goal.returns-in-Ok-run_with-clause-runs
 returns-in-Ok-run_with-clause-runs g c =
-    let d = c.in-Ok-run_with.ensures.does in
-    is_run c.args.program.now c.args.steps _ _ _ _ d.0 d.1 d.2 (d.4 (script_of c.args.program.now) c.in-Ok.ensures refl)
+    let ran = c.in-Ok-run_with.ensures in
+    is_run c.args.program.now c.args.steps _ _ _ _ ran.own ran.written (ran.follows (script_of c.args.program.now) c.in-Ok.ensures refl)
 
 pub returns-in-Ok-run_with-clause-cause : goal.returns-in-Ok-run_with-clause-cause
 returns-in-Ok-run_with-clause-cause g c = λ q.
-    let d = c.in-Ok-run_with.ensures.does in
-    let last = d.5 (script_of c.args.program.now) c.in-Ok.ensures refl q in
-    failed _ _ d.0.refusals last.0 last.1 last.2 d.3
+    let ran = c.in-Ok-run_with.ensures in
+    let last = ran.refused (script_of c.args.program.now) c.in-Ok.ensures refl q in
+    failed _ _ _ last.0 last.1 last.2 ran.cause

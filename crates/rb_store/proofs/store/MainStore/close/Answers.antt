@@ -1,5 +1,9 @@
-use Rattle.rb_store.proofs.Keeping.{log_of-closed}
+use Rattle.rb_store.proofs.Keeping.{ends_own, ends_silent, only_prints-more, told-silent}
 use Rattle.rb_store.proofs.store.MainStore.close.Goals as goal
 
-pub returns-in-Ok-clause-answers : goal.returns-in-Ok-clause-answers
-returns-in-Ok-clause-answers g c = log_of-closed c.args.self.now.kept _ _ c.requires.open c.in-Ok.ensures.same
+pub invariant_of-self-clause-written : goal.invariant_of-self-clause-written
+invariant_of-self-clause-written g c =
+    let s = c.args.self.now in rw c.add.ensures (told-silent _ _ s.taken s.history _ (ends_silent _ c.requires.ends) s.written)
+
+pub invariant_of-self-clause-own : goal.invariant_of-self-clause-own
+invariant_of-self-clause-own g c = rw c.add.ensures (only_prints-more c.args.self.now.history.entries _ c.args.self.now.own (ends_own _ c.requires.ends))
