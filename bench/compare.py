@@ -64,10 +64,37 @@ def write_large_sources(folder):
         "lines_of_code.rb": "a = 1\n" * (LARGEST // 6),
         "words.rb": "word " * (LARGEST // 5),
         "one_comment.rb": "#" * LARGEST,
+        "ordinary_code.rb": ordinary_code(),
     }
     for name, text in sources.items():
         with open(os.path.join(folder, name), "w", encoding="ascii") as script:
             script.write(text)
+
+
+METHOD = """# The greatest common divisor, with a word about it.
+def divisor_{0}(first, second, quiet)
+  until second == 0
+    rest = first % second
+    first = second
+    second = rest
+  end
+  unless quiet || first < 2
+    3.times {{ |turn| print turn, " " if turn != 1 }}
+    puts "divisor #{{first}} of method {0}"
+  end
+  first > 0 ? first : -first
+end
+
+"""
+
+
+def ordinary_code():
+    """As many methods as the largest source has room for, none of which is called: the front end alone works on it."""
+    methods, size = [], 0
+    while size + len(METHOD) + 12 < LARGEST:
+        methods.append(METHOD.format(len(methods)))
+        size += len(methods[-1])
+    return "".join(methods)
 
 
 def write_many_lines(path):

@@ -1,1 +1,1 @@
-puts "a"
+puts [1]

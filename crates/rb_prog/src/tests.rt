@@ -1,5 +1,6 @@
 // Whole runs over files and sinks in memory. The expected values are worked out by hand from the language.
 
+mod examples;
 mod names;
 mod refusals;
 mod scripts;

@@ -6,7 +6,7 @@ use std::process::{Abort, ExitCode};
 use std::test::Fail;
 
 /// A script, what it prints, and what its line on standard error says behind `rbso: `, empty where it ends well.
-type Row = (&'static str, &'static str, &'static str);
+pub(super) type Row = (&'static str, &'static str, &'static str);
 
 /// Sums, brackets and precedence.
 const SUMS: [Row; 24] = [
@@ -367,7 +367,7 @@ fn line_of(alloc: Global, said: &str) -> Result<String, AllocError> {
 }
 
 /// Runs each script of a table.
-fn all_hold<R: Abort>(rt: &R, alloc: Global, rows: &[Row]) -> Result<(), Fail> {
+pub(super) fn all_hold<R: Abort>(rt: &R, alloc: Global, rows: &[Row]) -> Result<(), Fail> {
     for (source, output, said) in rows {
         let Outcome { report, err } = ran_source(alloc, source.as_bytes())?;
         let line = line_of(alloc, said)?;
