@@ -8,5 +8,4 @@ mod store;
 mod tests;
 
 pub use history::RunFront;
-pub use rule::{Asking, Known};
 pub use store::{Begun, MainStore};

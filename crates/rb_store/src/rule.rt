@@ -4,7 +4,7 @@ use atomic_table::{Play, TableRule};
 use std::marker::{Brand, Model, PhantomData};
 
 /// What is known of a history: its log. No value of it is made, so it takes no bytes.
-pub struct Known {}
+pub(crate) struct Known {}
 
 impl Model for Known {
     ghost use Rattle.rb_model.specs.Log.{Log, fresh};
@@ -15,7 +15,7 @@ impl Model for Known {
 }
 
 /// One thread alone steps, so no rule binds what it knows.
-pub struct Unbound;
+pub(crate) struct Unbound;
 
 impl TableRule<(), Known, ()> for Unbound {
     ghost use Rattle.rb_model.specs.Log.{fresh};
@@ -26,7 +26,7 @@ impl TableRule<(), Known, ()> for Unbound {
 }
 
 /// What is asked as a step adds to the history.
-pub trait Asking {
+pub(crate) trait Asking {
     ghost use Rattle.std.specs.Prelude.{ℕ};
     ghost use Rattle.rb_model.specs.Log.{Call};
 

@@ -5,7 +5,8 @@ ghost use Rattle.rb_model.specs.Log.{has_end};
 
 use crate::{Begun, MainStore};
 use rb_edge::{MemorySink, Sink};
-use rb_model::{Answer, Call, End, OneStore, SharedText};
+use rb_model::Answer::{Done, Memory, SinkFailed};
+use rb_model::{Answer, Call, End, OneStore, SharedText, Value};
 use std::alloc::{AllocError, Global};
 use std::marker::Brand;
 use std::test::Fail;
@@ -25,7 +26,7 @@ fn print<S: OneStore>(store: &mut S, step: u64, text: SharedText) -> Answer
     store.call(step, &Call::Print(text))
 }
 
-/// A run that prints three texts and ends.
+/// A run that prints three texts and ends with a value.
 fn three_prints<B: Begun>(alloc: Global, out: MemorySink) -> Result<Left, AllocError>
     requires told { ⟦<MemorySink as Sink>⟧.told out ≡ B.told }
     requires faults { ⟦<MemorySink as Sink>⟧.faults out ≡ B.faults }
@@ -36,7 +37,7 @@ fn three_prints<B: Begun>(alloc: Global, out: MemorySink) -> Result<Left, AllocE
     let first = print(&mut store, 1, SharedText::from_slice(alloc, b"ab")?);
     let second = print(&mut store, 4, SharedText::from_slice(alloc, b"cd")?);
     let third = print(&mut store, 6, SharedText::from_slice(alloc, b"ef")?);
-    let last = store.call(7, &Call::End(End::Sink));
+    let last = store.call(7, &Call::End(End::Value(Value::Nil)));
     let (out, _) = store.into_parts();
     Ok(Left {
         answers: [first, second, third, last],
@@ -44,28 +45,22 @@ fn three_prints<B: Begun>(alloc: Global, out: MemorySink) -> Result<Left, AllocE
     })
 }
 
-#[test]
-fn prints_are_written_in_order(rt: HostRuntime) -> Result<(), Fail> {
-    let alloc = rt.alloc();
-    let out = MemorySink::new(alloc, Vec::new(alloc), 100)?;
-    let left = three_prints::<Brand>(alloc, out)?;
-    assert_eq!(rt; left.answers, [Answer::Done; 4]);
-    assert_eq!(rt; left.out.bytes(), b"abcdef".as_slice());
-    Ok(())
-}
+/// Which write fails, the answers to the three prints and to the end, and the bytes that were taken.
+const RUNS: [(u64, [Answer; 4], &str); 4] = [
+    (9, [Done, Done, Done, Done], "abcdef"),
+    (3, [Done, Done, SinkFailed, Done], "abcd"),
+    (2, [Done, SinkFailed, Memory, Done], "ab"),
+    (1, [SinkFailed, Memory, Memory, Done], ""),
+];
 
 #[test]
-fn behind_a_refused_print_nothing_is_written(rt: HostRuntime) -> Result<(), Fail> {
+fn prints_are_written_in_order_up_to_one_that_is_refused(rt: HostRuntime) -> Result<(), Fail> {
     let alloc = rt.alloc();
-    let out = MemorySink::new(alloc, vec![in alloc; 2]?, 100)?;
-    let left = three_prints::<Brand>(alloc, out)?;
-    let answers = [
-        Answer::Done,
-        Answer::SinkFailed,
-        Answer::Memory,
-        Answer::Done,
-    ];
-    assert_eq!(rt; left.answers, answers);
-    assert_eq!(rt; left.out.bytes(), b"ab".as_slice());
+    for (failing, answers, bytes) in RUNS {
+        let out = MemorySink::new(alloc, vec![in alloc; failing]?, 100)?;
+        let left = three_prints::<Brand>(alloc, out)?;
+        assert_eq!(rt; left.answers, answers, "write {failing}");
+        assert_eq!(rt; left.out.bytes(), bytes.as_bytes(), "write {failing}");
+    }
     Ok(())
 }
