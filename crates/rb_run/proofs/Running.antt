@@ -3,7 +3,7 @@ use Rattle.std.proofs.Common.{◌≡◌, ℕ, Bool, true, false, List, [], ◌�
 use Rattle.std.specs.Prelude.{not, ◌&&◌}
 use Rattle.rb_tree.specs.declared.node.Program.{Program}
 use Rattle.rb_model.specs.Ends.{End}
-use Rattle.rb_model.specs.Log.{Log, Entry, Refusal, Call, On, Print, End as Ending, prints}
+use Rattle.rb_model.specs.Log.{Log, Entry, Refusal, Call, On, Print, End as Ending}
 use Rattle.rb_machine.specs.Follows.{Follows}
 use Rattle.rb_machine.specs.Alone.{opening}
 use Rattle.rb_machine.specs.Laws.{asks_thing, keeps_to_itself}
