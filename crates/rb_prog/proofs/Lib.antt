@@ -3,3 +3,4 @@ pub mod Refusing
 pub mod Judging
 pub mod Telling
 pub mod Completing
+pub mod Wording

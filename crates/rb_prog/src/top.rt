@@ -4,6 +4,7 @@ ghost use Rattle.std.specs.Prelude.{◌≡◌, ◌⊎◌, ◌≤◌, ℕ, List, 
 ghost use Rattle.std.specs.Process.{exit_status};
 ghost use Rattle.rb_tree.specs.declared.node.Program.{Program as Tree};
 ghost use Rattle.rb_command.specs.Words as asked;
+ghost use Rattle.rb_command.specs.Seen.{run_seen, seen};
 ghost use Rattle.rb_edge.specs.Edge.{Bytes, Rose, Told};
 ghost use Rattle.rb_model.specs.Ends.{over};
 ghost use Rattle.rb_prog.specs.Accepting.{rejected_status, rejected_line};
@@ -38,6 +39,14 @@ impl<K> Report<K> {
     {
         ExitCode::from(self.status)
     }
+}
+
+/// What a run is told by the command.
+fn run_words(command: Command) -> RunWords
+    ensures { seen command.entry ≡ asked.run (run_seen result) }
+{
+    let Command::Run(words) = command;
+    words
 }
 
 /// The status of an end.
@@ -133,10 +142,12 @@ fn run_file<F: Files, K: Sink + Drop, E: Sink>(
     err: &mut E,
 ) -> Report<K>
     ensures runs { (line : List ℕ)
-        × Runs (F.held files.old words.file.now) (Rose (F.faults files.old) (F.faults files.new)) words.steps (K.told out) (K.told result.out) result.status result.front line
+        × Runs (F.held files.old words.entry.file.now) (Rose (F.faults files.old) (F.faults files.new)) words.entry.steps (K.told out) (K.told result.out) result.status result.front line
         × Told (E.told err.old) (E.told err.new) line (Rose (E.faults err.old) (E.faults err.new)) }
     ensures cause { result.status ≡ 5 → Rose (K.faults out) (K.faults result.out) }
     ensures not_usage { result.status ≡ 2 → ⊥ }
+    ensures complete { (bytes : List ℕ) (program : Tree) → F.held files.old words.entry.file.now ≡ Bytes bytes → Accepts bytes program
+        → (Rose (F.faults files.old) (F.faults files.new) → ⊥) → (Rose (K.faults out) (K.faults result.out) → ⊥) → IsOwnOrMemory result.status }
     ensures kept { (p : List ℕ) → F.held files.new p ≡ F.held files.old p }
     ensures files_rise { F.faults files.old ≤ F.faults files.new }
     ensures rises { K.faults out ≤ K.faults result.out }
@@ -201,7 +212,7 @@ pub fn run<F: Files, K: Sink + Send + Drop, E: Sink, G: Gate + Send + Sync + Dro
 {
     let _ = gate;
     match command_of(alloc, words) {
-        Ok(Some(Command::Run(wanted))) => run_file(alloc, wanted, files, out, err),
+        Ok(Some(command)) => run_file(alloc, run_words(command), files, out, err),
         Ok(None) => stopped(2, USAGE, out, err),
         Err(_) => stopped(8, MEMORY, out, err),
     }

@@ -2,6 +2,7 @@ use Rattle.std.proofs.Common.{ap, Err}
 use Rattle.rb_prog.specs.Run as run
 use Rattle.rb_prog.specs.Run.{read, missing, failed}
 use Rattle.rb_prog.proofs.Adding.{adds_none}
+use Rattle.rb_prog.proofs.Completing.{complete}
 use Rattle.rb_prog.proofs.top.run_file.Goals as goal
 
 pub returns-in-Ok-clause-runs : goal.returns-in-Ok-clause-runs
@@ -21,3 +22,25 @@ returns-in-Err-Failed-clause-runs g c =
 pub returns-in-Err-Memory-clause-runs : goal.returns-in-Err-Memory-clause-runs
 returns-in-Err-Memory-clause-runs g c =
     rw c.stopped-in-Err-Memory.ensures.report (_, run.Runs.out_of_memory (adds_none (g.K.Sink.told c.args.out)), c.stopped-in-Err-Memory.ensures.told)
+
+pub returns-in-Ok-clause-complete : goal.returns-in-Ok-clause-complete
+returns-in-Ok-clause-complete g c = λ bytes program h a calm never.
+    complete _ bytes program _ _ _ _ _ _ _ _ (returns-in-Ok-clause-runs g c).1 h a calm c.run_source.ensures.cause never
+
+pub returns-in-Err-Missing-clause-complete : goal.returns-in-Err-Missing-clause-complete
+returns-in-Err-Missing-clause-complete g c =
+    let none = adds_none (g.K.Sink.told c.args.out) in
+    rw c.stopped.ensures.report (λ bytes program h a calm never.
+    complete _ bytes program _ _ c.args.words.steps _ _ _ _ _ (missing (c.in-Err-Missing.ensures.missing (ap Err c.in-Err-Missing.field-0-is)) none) h a calm (λ e. absurd (cc)) never)
+
+pub returns-in-Err-Failed-clause-complete : goal.returns-in-Err-Failed-clause-complete
+returns-in-Err-Failed-clause-complete g c =
+    let none = adds_none (g.K.Sink.told c.args.out) in
+    rw c.stopped-in-Err-Failed.ensures.report (λ bytes program h a calm never.
+    complete _ bytes program _ _ c.args.words.steps _ _ _ _ _ (failed (c.in-Err-Failed.ensures.failed (ap Err c.in-Err-Failed.field-0-is)) none) h a calm (λ e. absurd (cc)) never)
+
+pub returns-in-Err-Memory-clause-complete : goal.returns-in-Err-Memory-clause-complete
+returns-in-Err-Memory-clause-complete g c =
+    let none = adds_none (g.K.Sink.told c.args.out) in
+    rw c.stopped-in-Err-Memory.ensures.report (λ bytes program h a calm never.
+    complete _ bytes program _ _ c.args.words.steps _ _ _ _ _ (run.Runs.out_of_memory none) h a calm (λ e. absurd (cc)) never)

@@ -10,7 +10,9 @@ returns-in-Err-clause-runs g c =
     rw c.rejected.ensures.report (_, not_run c.args.source.now c.in-Err.why c.args.steps told told c.in-Err.ensures (adds_none told), c.rejected.ensures.told)
 
 pub returns-in-Ok-run_program-clause-runs : goal.returns-in-Ok-run_program-clause-runs
-returns-in-Ok-run_program-clause-runs g c = ?
+returns-in-Ok-run_program-clause-runs g c = rw c.status_of.ensures (_, shown c.in-Ok.ensures c.in-Ok-run_program.ensures.runs, c.tell_end.ensures.told)
 
-pub returns-in-Err-run_program-clause-runs : goal.returns-in-Err-run_program-clause-runs
-returns-in-Err-run_program-clause-runs g c = ?
+pub returns-clause-runs : goal.returns-clause-runs
+returns-clause-runs g c =
+    let told = g.K.Sink.told c.args.out in
+    rw c.stopped.ensures.report (_, run.RunsSource.out_of_memory (rw c.in-Err-run_program.ensures.back (adds_none told)), c.stopped.ensures.told)
