@@ -3,5 +3,6 @@ pub mod Values
 pub mod Ends
 pub mod Acts
 pub mod Things
+pub mod Doing
 pub mod Private
 pub mod Log

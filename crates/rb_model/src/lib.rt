@@ -2,6 +2,7 @@
 //! outside. The definitions in `specs/` are those that the reference machine and every store speak of.
 #![tactic(auto)]
 
+mod act;
 mod call;
 mod fault;
 mod shared_text;
@@ -10,6 +11,7 @@ mod store;
 mod tests;
 mod value;
 
+pub use act::{Act, Make, Reply};
 pub use call::{Answer, Call, End};
 pub use fault::Fault;
 pub use shared_text::SharedText;
