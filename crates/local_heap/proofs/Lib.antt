@@ -1,0 +1,6 @@
+pub mod Inverse
+pub mod Named
+pub mod Laid
+pub mod Behind
+pub mod Objects
+pub mod Cellwise

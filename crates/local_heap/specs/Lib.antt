@@ -1,0 +1,6 @@
+pub mod Paths
+pub mod Heap
+pub mod Words
+pub mod Kept
+pub mod Fields
+pub mod Cells
