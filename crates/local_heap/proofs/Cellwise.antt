@@ -42,6 +42,10 @@ pub either : {T E P Q : Type 0} (r : Result T E) → OnOk r P → OnErr r Q → 
 either (Ok x) p q = inl p
 either (Err e) p q = inr q
 
+pub always_err : {T E P : Type 0} (r : Result T E) → P → OnErr r P
+always_err (Ok x) p = tt
+always_err (Err e) p = p
+
 map_same : {A B : Type 0} (f g : A → B) (xs : List A) → ((x : A) → f x ≡ g x) → map f xs ≡ map g xs
 map_same f g [] same = refl
 map_same f g (x ∷ xs) same =

@@ -11,6 +11,7 @@ use Rattle.shape_core.specs.declared.edge.Kind.TheVariants.{IntLoc, AnyLoc}
 use Rattle.shape_core.specs.declared.edge.Edge.TheVariants.{Add, Widen, Share}
 use Rattle.shape_core.specs.Path.{Path, IsPath, find_on, next_place}
 use Rattle.shape_core.proofs.Paths.{Found, same_name}
+use Rattle.local_heap.specs.Memory.{wide_on}
 use Rattle.local_heap.specs.Fields.{names_on}
 
 abbrev has : NameId → List Field → Bool
@@ -120,6 +121,33 @@ module _ (f : NameId → Field) (named : (m : NameId) → (f m).name ≡ m) wher
   pub reads : (path : Path) (name : NameId) (found : Found) → IsPath path → find_on path name ≡ Some found
       → field name (map f (names_on path)) ≡ (f name).value
   reads path name found valid there = field_some name (names_on path) (has_found path name valid ∙ ap is_some there)
+
+  -- whether the field of a name is wide
+  wide_none : (name : NameId) (ns : List NameId) → has name (map f ns) ≡ false → wide_on name (map f ns) ≡ None
+  wide_none name [] h = refl
+  wide_none name (m ∷ ns) h = by ((f m).name.0 == name.0) h (wide_none name ns)
+    where
+      by : (b : Bool) → cond b true (has name (map f ns)) ≡ false
+          → (has name (map f ns) ≡ false → wide_on name (map f ns) ≡ None) → cond b (Some (f m).wide) (wide_on name (map f ns)) ≡ None
+      by true e deeper = absurd (cc)
+      by false e deeper = deeper e
+
+  wide_some : (name : NameId) (ns : List NameId) → has name (map f ns) ≡ true → wide_on name (map f ns) ≡ Some (f name).wide
+  wide_some name [] h = absurd (cc)
+  wide_some name (m ∷ ns) h = by ((f m).name.0 == name.0) refl h (wide_some name ns)
+    where
+      by : (b : Bool) → ((f m).name.0 == name.0) ≡ b → cond b true (has name (map f ns)) ≡ true
+          → (has name (map f ns) ≡ true → wide_on name (map f ns) ≡ Some (f name).wide)
+          → cond b (Some (f m).wide) (wide_on name (map f ns)) ≡ Some (f name).wide
+      by true e h deeper = ap (λ (n : NameId). Some (f n).wide) (same_name m name (sym (own_test m name) ∙ e))
+      by false e h deeper = deeper h
+
+  pub wide_nowhere : (path : Path) (name : NameId) → IsPath path → find_on path name ≡ None → wide_on name (map f (names_on path)) ≡ None
+  wide_nowhere path name valid none = wide_none name (names_on path) (has_found path name valid ∙ ap is_some none)
+
+  pub wide_there : (path : Path) (name : NameId) (found : Found) → IsPath path → find_on path name ≡ Some found
+      → wide_on name (map f (names_on path)) ≡ Some (f name).wide
+  wide_there path name found valid there = wide_some name (names_on path) (has_found path name valid ∙ ap is_some there)
 
 -- a field that is written
 abbrev pub written_on : Val → Field → Field

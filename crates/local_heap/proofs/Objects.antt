@@ -18,10 +18,11 @@ use Rattle.shape_core.specs.Path.{Path, find_on}
 use Rattle.shape_core.specs.Shape.{Shape, Gains, Has, child_of, path_at, shape_at, root_of}
 use Rattle.typed_location.specs.Word.{twos_complement}
 use Rattle.local_heap.specs.declared.object.Object.{Object}
+use Rattle.local_heap.specs.Memory.{wide_on}
 use Rattle.local_heap.specs.Kept.{Kept}
-use Rattle.local_heap.specs.Fields.{IsLaid, Wrote, fields_of, field_of, field_found, value_by}
+use Rattle.local_heap.specs.Fields.{IsLaid, Wrote, fields_of, field_of, field_found, is_any, value_by}
 use Rattle.local_heap.specs.Cells.{IsObject, Written, shape_in}
-use Rattle.local_heap.proofs.Named.{reads, reads_nil}
+use Rattle.local_heap.proofs.Named.{reads, reads_nil, wide_nowhere, wide_there}
 use Rattle.local_heap.proofs.Laid.{named, adds, puts, extends_itself}
 use Rattle.local_heap.proofs.Inverse.{integer_word}
 use Rattle.local_heap.proofs.Behind.{behind_new_integer, behind_integer}
@@ -36,6 +37,17 @@ pub read_word : (kept : Kept) (path : Path) (words : List ℕ) (name : NameId) (
 read_word kept path words name place kind laid there =
     reads (field_of kept path words) (named kept path words) path name (place, kind) laid.valid there
     ∙ ap (λ (f : Field). f.value) (ap (field_found kept words name) there)
+
+-- whether the field of a name is wide
+pub wide_absent : (kept : Kept) (path : Path) (words : List ℕ) (name : NameId) → IsLaid kept path words → find_on path name ≡ None
+    → wide_on name (fields_of kept path words) ≡ None
+wide_absent kept path words name laid none = wide_nowhere (field_of kept path words) (named kept path words) path name laid.valid none
+
+pub wide_of : (kept : Kept) (path : Path) (words : List ℕ) (name : NameId) (place : Place) (kind : Kind) → IsLaid kept path words
+    → find_on path name ≡ Some (place, kind) → wide_on name (fields_of kept path words) ≡ Some (is_any kind)
+wide_of kept path words name place kind laid there =
+    wide_there (field_of kept path words) (named kept path words) path name (place, kind) laid.valid there
+    ∙ ap (λ (f : Field). Some f.wide) (ap (field_found kept words name) there)
 
 -- a shape of a store is in it
 stands_in : (shapes : List Shape) (id : ShapeId) → id.0 < length shapes → Contains shapes (shape_at shapes id)

@@ -1,4 +1,5 @@
 pub mod Paths
+pub mod Memory
 pub mod Heap
 pub mod Words
 pub mod Kept

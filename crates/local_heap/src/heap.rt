@@ -1,11 +1,12 @@
 // The private heap.
 
-ghost use Rattle.std.specs.Prelude.{◌≡◌, ◌++◌, ◌∷◌, [], set, IsSome, is_some, Some, None, IfOk, OnOk, OnErr};
+ghost use Rattle.std.specs.Prelude.{◌≡◌, ◌++◌, ◌∷◌, [], set, IsSome, is_some, Some, None, IfOk, OnOk, OnErr, true};
 ghost use Rattle.rb_model.specs.Private.{bare, entered, changed, held, next_id};
 ghost use Rattle.rb_model.specs.Things.{Thing, becomes, gives};
 ghost use Rattle.rb_model.specs.Doing.{doing, said, made, sort_of};
 ghost use Rattle.shape_core.specs.Shape.{Gains, root_of};
 ghost use Rattle.local_heap.specs.Paths.{shape_behind};
+ghost use Rattle.local_heap.specs.Memory.{may_want};
 ghost use Rattle.local_heap.specs.Heap.{shape_of, shape_made};
 
 use crate::object::Object;
@@ -36,6 +37,7 @@ pub struct LocalHeap<S: ShapeStore> {
 }
 
 impl<S: ShapeStore> Model for LocalHeap<S> {
+    ghost use Rattle.local_heap.specs.Memory.{may_want};
     ghost use Rattle.local_heap.specs.Heap.{Heap};
 
     ghost Value = { Heap };
@@ -148,6 +150,7 @@ impl<S: ShapeStore> LocalHeap<S> {
         ensures shaped { OnOk result (self.new.shaped ≡ set self.old.shaped id.serial (Some (shape_behind (shape_of self.old id) (doing act)))) }
         ensures gains { OnOk result (Gains self.old.shapes (shape_behind (shape_of self.old id) (doing act)) self.new.shapes) }
         ensures err { OnErr result (self.new ≡ self.old) }
+        ensures refused { OnErr result ((thing : Thing) → held self.old.private id ≡ Some thing → may_want thing (doing act) ≡ true) }
     {
         match &mut self.cells[id.serial as usize] {
             // Never, as the thing is held.

@@ -1,11 +1,12 @@
 // One object over a shape store and a table.
 
-ghost use Rattle.std.specs.Prelude.{◌≡◌, ◌<◌, ◌++◌, ◌∷◌, [], length, slice_index, Some, None, IfOk, OnOk, OnErr};
+ghost use Rattle.std.specs.Prelude.{◌≡◌, ◌<◌, ◌++◌, ◌∷◌, [], length, slice_index, Some, None, IfOk, OnOk, OnErr, true, false};
 ghost use Rattle.rb_model.specs.Values.{plain};
-ghost use Rattle.rb_model.specs.Things.{field, gives};
+ghost use Rattle.rb_model.specs.Things.{field, gives, is_integer};
 ghost use Rattle.rb_model.specs.Doing.{doing, said};
 ghost use Rattle.shape_core.specs.Path.{MayFollow, find_on};
 ghost use Rattle.shape_core.specs.Shape.{Gains, Has, child_of, path_at, shape_at};
+ghost use Rattle.local_heap.specs.Memory.{is_kept, is_text, may_want, wide_on, write_wants};
 ghost use Rattle.local_heap.specs.Kept.{Extends, IsWord};
 ghost use Rattle.local_heap.specs.Fields.{value_by};
 ghost use Rattle.local_heap.specs.Cells.{IsObject, Acted, Written, Unwritten, fields_in, thing_in};
@@ -38,6 +39,7 @@ impl Object {
         ensures kept { Extends table.old table.new }
         ensures acted { OnOk result (Acted (S.shapes shapes.old) table.old self.old (doing act) (S.shapes shapes.new) table.new self.new) }
         ensures err { OnErr result (Unwritten (S.shapes shapes.old) self.old (S.shapes shapes.new) self.new) }
+        ensures refused { OnErr result (may_want (thing_in (S.shapes shapes.old) table.old self.old) (doing act) ≡ true) }
     {
         match act {
             Act::GetField(name) => {
@@ -59,7 +61,8 @@ impl Object {
         name: NameId,
     ) -> Result<Value, AllocError>
         requires { IsObject (S.shapes shapes.now) table.now self.now }
-        ensures { IfOk result (λ value. plain value ≡ field name (fields_in (S.shapes shapes.now) table.now self.now)) }
+        ensures value { IfOk result (λ value. plain value ≡ field name (fields_in (S.shapes shapes.now) table.now self.now)) }
+        ensures refused { OnErr result (is_text (field name (fields_in (S.shapes shapes.now) table.now self.now)) ≡ true) }
     {
         match shapes.find(self.shape, name) {
             None => Ok(Value::Nil),
@@ -71,7 +74,8 @@ impl Object {
     fn read_at(&self, table: &Table, place: Place, kind: Kind) -> Result<Value, AllocError>
         requires within { place.0 < length self.now.words.items }
         requires sound { kind ≡ Kind.AnyLoc → IsWord table.now (slice_index self.now.words.items place.0) }
-        ensures { IfOk result (λ value. plain value ≡ value_by table.now kind (slice_index self.now.words.items place.0)) }
+        ensures value { IfOk result (λ value. plain value ≡ value_by table.now kind (slice_index self.now.words.items place.0)) }
+        ensures refused { OnErr result (is_text (value_by table.now kind (slice_index self.now.words.items place.0)) ≡ true) }
     {
         let word = self.words[place.0 as usize];
         match kind {
@@ -92,6 +96,7 @@ impl Object {
         ensures kept { Extends table.old table.new }
         ensures written { OnOk result (Written (S.shapes shapes.old) table.old self.old name (plain value) (S.shapes shapes.new) table.new self.new) }
         ensures err { OnErr result (Unwritten (S.shapes shapes.old) self.old (S.shapes shapes.new) self.new) }
+        ensures refused { OnErr result (write_wants (wide_on name (fields_in (S.shapes shapes.old) table.old self.old)) (plain value) ≡ true) }
     {
         match shapes.find(self.shape, name) {
             None => self.add(shapes, table, name, value),
@@ -137,6 +142,7 @@ impl Object {
         ensures kept { Extends table.old table.new }
         ensures written { OnOk result (Written (S.shapes shapes.old) table.old self.old name (plain value) (S.shapes shapes.new) table.new self.new) }
         ensures err { OnErr result (Unwritten (S.shapes shapes.old) self.old (S.shapes shapes.new) self.new) }
+        ensures refused { OnErr result (is_integer (plain value) ≡ false) }
     {
         if let Value::Int(n) = value {
             self.words[place.0 as usize] = to_int_word(n);
@@ -161,6 +167,7 @@ impl Object {
         ensures kept { Extends table.old table.new }
         ensures written { OnOk result (Written (S.shapes shapes.old) table.old self.old name (plain value) (S.shapes shapes.new) table.new self.new) }
         ensures err { OnErr result (Unwritten (S.shapes shapes.old) self.old (S.shapes shapes.new) self.new) }
+        ensures refused { OnErr result (is_kept (plain value) ≡ true) }
     {
         self.words[place.0 as usize] = table.word(value)?;
         Ok(())

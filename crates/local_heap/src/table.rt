@@ -1,8 +1,9 @@
 // The table of the values that words have no room for.
 
-ghost use Rattle.std.specs.Prelude.{◌≡◌, [], IfOk};
+ghost use Rattle.std.specs.Prelude.{◌≡◌, [], IfOk, OnErr, true};
 ghost use Rattle.rb_model.specs.Values.{plain};
 ghost use Rattle.typed_location.specs.Word.{Fits};
+ghost use Rattle.local_heap.specs.Memory.{is_kept, is_text};
 ghost use Rattle.local_heap.specs.Words.{any_of};
 ghost use Rattle.local_heap.specs.Kept.{IsWord, Stands, Extends, meaning};
 
@@ -58,6 +59,7 @@ impl Table {
         ensures kept { Extends self.old self.new }
         ensures word { IfOk result (λ word. IsWord self.new word) }
         ensures means { IfOk result (λ word. meaning self.new (any_of word) ≡ plain value) }
+        ensures refused { OnErr result (is_kept (plain value) ≡ true) }
     {
         let any = self.enter(value)?;
         Ok(to_any_word(any))
@@ -66,7 +68,8 @@ impl Table {
     /// The value that a general word stands for.
     pub fn value(&self, word: u64) -> Result<Value, AllocError>
         requires { IsWord self.now word }
-        ensures { IfOk result (λ value. plain value ≡ meaning self.now (any_of word)) }
+        ensures value { IfOk result (λ value. plain value ≡ meaning self.now (any_of word)) }
+        ensures refused { OnErr result (is_text (meaning self.now (any_of word)) ≡ true) }
     {
         let any = from_any_word(word).unwrap();
         self.meant(any)
@@ -78,6 +81,7 @@ impl Table {
         ensures fits { IfOk result Fits }
         ensures stands { IfOk result (Stands self.new) }
         ensures means { IfOk result (λ any. meaning self.new any ≡ plain value) }
+        ensures refused { OnErr result (is_kept (plain value) ≡ true) }
     {
         match value {
             Value::Nil => Ok(Any::Nil),
@@ -96,6 +100,7 @@ impl Table {
         ensures fits { IfOk result Fits }
         ensures stands { IfOk result (Stands self.new) }
         ensures means { IfOk result (λ any. meaning self.new any ≡ plain (Value.Int n)) }
+        ensures refused { OnErr result (is_kept (plain (Value.Int n)) ≡ true) }
     {
         if is_small(n) {
             return Ok(Any::Small(n));
@@ -132,7 +137,8 @@ impl Table {
     /// The value of what stands in a word.
     fn meant(&self, any: Any) -> Result<Value, AllocError>
         requires { Stands self.now any }
-        ensures { IfOk result (λ value. plain value ≡ meaning self.now any) }
+        ensures value { IfOk result (λ value. plain value ≡ meaning self.now any) }
+        ensures refused { OnErr result (is_text (meaning self.now any) ≡ true) }
     {
         match any {
             Any::Nil => Ok(Value::Nil),

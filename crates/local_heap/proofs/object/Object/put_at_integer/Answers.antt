@@ -30,4 +30,5 @@ returns g c =
           (behind_widened _ c.args.name (plain c.args.value) c.args.place c.requires.found other))
           c.in_ok-grow.ensures.shape c.in_ok-grow.ensures.words c.in_ok-grow.ensures.gains;
       err = tt;
+      refused = tt;
     }
