@@ -4,3 +4,4 @@ pub mod Laid
 pub mod Behind
 pub mod Objects
 pub mod Cellwise
+pub mod Callers

@@ -5,5 +5,7 @@ mod heap;
 mod object;
 mod room;
 mod table;
+#[cfg(test)]
+mod tests;
 
 pub use heap::LocalHeap;
