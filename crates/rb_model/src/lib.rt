@@ -9,6 +9,7 @@ mod shared_text;
 mod store;
 #[cfg(test)]
 mod tests;
+mod thing;
 mod value;
 
 pub use act::{Act, Make, Reply};
@@ -16,4 +17,5 @@ pub use call::{Answer, Call, End};
 pub use fault::Fault;
 pub use shared_text::SharedText;
 pub use store::OneStore;
+pub use thing::{Field, Thing};
 pub use value::{Id, Ref, Sort, Value};
