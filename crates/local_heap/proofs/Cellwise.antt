@@ -182,6 +182,11 @@ module _ (thread : ℕ) (shapes : List Shape) (kept : Kept) (cells : List Cell) 
       let still_is : still shapes kept (cell.Object o) ≡ Some x = ap (still shapes kept) (sym at ∙ same) ∙ found.2 in
       cc
 
+  pub held_is : held h.private id ≡ Some (thing_in shapes kept o)
+  held_is =
+      let x = some_thing (held h.private id) held_here in
+      x.1 ∙ ap Some (sym (thing_is x.0 x.1))
+
   -- and so is its shape
   pub shape_is : shape_of h id ≡ shape_in shapes o
   shape_is = ap (λ (g : Heap). shape_of g id) (sym is) ∙ shaped_at shapes cells id.serial o there

@@ -5,3 +5,4 @@ pub mod Behind
 pub mod Objects
 pub mod Cellwise
 pub mod Callers
+pub mod Walking

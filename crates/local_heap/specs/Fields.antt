@@ -5,6 +5,7 @@ use Rattle.rb_model.specs.Values.{Value as Val, Nil, Int}
 use Rattle.rb_model.specs.Things.{Field, with_field}
 use Rattle.shape_core.specs.declared.edge.Kind.{Kind}
 use Rattle.shape_core.specs.declared.edge.Kind.TheVariants.{IntLoc, AnyLoc}
+use Rattle.shape_core.specs.declared.edge.Edge.{Edge}
 use Rattle.shape_core.specs.declared.edge.Edge.TheVariants.{Add, Widen, Share}
 use Rattle.shape_core.specs.declared.facts.Place.{Place}
 use Rattle.shape_core.specs.Path.{Path, IsPath, find_on, places_of}
@@ -18,6 +19,13 @@ names_on [] = []
 names_on (Add name kind ∷ path) = names_on path ++ name ∷ []
 names_on (Widen name ∷ path) = names_on path
 names_on (Share ∷ path) = names_on path
+
+-- the name that an edge adds, if it adds one
+abbrev pub given_name : Option Edge → List NameId
+given_name None = []
+given_name (Some (Add name kind)) = name ∷ []
+given_name (Some (Widen name)) = []
+given_name (Some Share) = []
 
 -- the value of a word, by the kind of its place
 abbrev pub value_by : Kept → Kind → ℕ → Val

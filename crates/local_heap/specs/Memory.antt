@@ -1,8 +1,10 @@
 -- Which acts may want memory.
-use Rattle.std.specs.Prelude.{◌==◌, ◌^◌, Bool, true, false, nat_lt, not, if◌then◌else◌, pos, negsuc, List, [], ◌∷◌, Option, Some, None}
+use Rattle.std.specs.Prelude.{◌≡◌, ◌==◌, ◌^◌, Bool, true, false, nat_lt, not, if◌then◌else◌, pos, negsuc, List, [], ◌∷◌, Option, Some, None}
 use Rattle.rb_tree.specs.declared.span.NameId.{NameId}
 use Rattle.rb_model.specs.Values.{Value as Val, Int, Str, To}
 use Rattle.rb_model.specs.Acts.{Act, GetField, SetField}
+use Rattle.rb_model.specs.declared.value.Id.{Id}
+use Rattle.rb_model.specs.Private.{Private, held}
 use Rattle.rb_model.specs.Things.{Thing, Object, Field, field, is_integer}
 
 -- a text: where as many own it as can be counted, no one more may
@@ -34,3 +36,7 @@ abbrev pub may_want : Thing → Act → Bool
 may_want (Object class fs) (GetField name) = is_text (field name fs)
 may_want (Object class fs) (SetField name v) = write_wants (wide_on name fs) v
 may_want thing act = true
+
+-- the same of the thing of an id
+abbrev pub MayWant : Private → Id → Act → Type 0
+MayWant h id act = (thing : Thing) → held h id ≡ Some thing → may_want thing act ≡ true

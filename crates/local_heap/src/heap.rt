@@ -1,18 +1,16 @@
 // The private heap.
 
-ghost use Rattle.std.specs.Prelude.{◌≡◌, ◌++◌, ◌∷◌, [], set, IsSome, is_some, Some, None, IfOk, OnOk, OnErr, true};
-ghost use Rattle.rb_model.specs.Private.{bare, entered, changed, held, next_id};
-ghost use Rattle.rb_model.specs.Things.{Thing, becomes, gives};
-ghost use Rattle.rb_model.specs.Doing.{doing, said, made, sort_of};
+ghost use Rattle.std.specs.Prelude.{◌≡◌, ◌++◌, ◌∷◌, [], set, IsSome, is_some, Some, None, IfOk, OnOk, OnErr};
+ghost use Rattle.rb_model.specs.Private.{bare, entered, held, next_id};
+ghost use Rattle.rb_model.specs.Doing.{doing, said, made, seen, sort_of};
 ghost use Rattle.shape_core.specs.Shape.{Gains, root_of};
-ghost use Rattle.local_heap.specs.Paths.{shape_behind};
-ghost use Rattle.local_heap.specs.Memory.{may_want};
-ghost use Rattle.local_heap.specs.Heap.{shape_of, shape_made};
+ghost use Rattle.local_heap.specs.Memory.{MayWant};
+ghost use Rattle.local_heap.specs.Heap.{Gives, Becomes, shape_made, shape_then};
 
 use crate::object::Object;
 use crate::room::push_within;
 use crate::table::Table;
-use rb_model::{Act, Id, Make, Ref, Reply, Sort};
+use rb_model::{Act, Id, Make, Ref, Reply, Sort, Thing};
 use shape_core::ShapeStore;
 use std::alloc::{AllocError, Global};
 use std::marker::Model;
@@ -37,7 +35,7 @@ pub struct LocalHeap<S: ShapeStore> {
 }
 
 impl<S: ShapeStore> Model for LocalHeap<S> {
-    ghost use Rattle.local_heap.specs.Memory.{may_want};
+    ghost use Rattle.local_heap.specs.Memory.{MayWant};
     ghost use Rattle.local_heap.specs.Heap.{Heap};
 
     ghost Value = { Heap };
@@ -145,17 +143,29 @@ impl<S: ShapeStore> LocalHeap<S> {
     /// Does what is asked of a thing that is held.
     pub fn apply(&mut self, id: Id, act: Act) -> Result<Reply, AllocError>
         requires { IsSome (held self.old.private id) }
-        ensures reply { IfOk result (λ reply. (thing : Thing) → held self.old.private id ≡ Some thing → said reply ≡ gives thing (doing act)) }
-        ensures private { OnOk result ((thing : Thing) → held self.old.private id ≡ Some thing → self.new.private ≡ changed self.old.private id (becomes thing (doing act))) }
-        ensures shaped { OnOk result (self.new.shaped ≡ set self.old.shaped id.serial (Some (shape_behind (shape_of self.old id) (doing act)))) }
-        ensures gains { OnOk result (Gains self.old.shapes (shape_behind (shape_of self.old id) (doing act)) self.new.shapes) }
+        ensures reply { IfOk result (λ reply. Gives self.old.private id (doing act) (said reply)) }
+        ensures private { OnOk result (Becomes self.old.private id (doing act) self.new.private) }
+        ensures shaped { OnOk result (self.new.shaped ≡ set self.old.shaped id.serial (Some (shape_then self.old id (doing act)))) }
+        ensures gains { OnOk result (Gains self.old.shapes (shape_then self.old id (doing act)) self.new.shapes) }
         ensures err { OnErr result (self.new ≡ self.old) }
-        ensures refused { OnErr result ((thing : Thing) → held self.old.private id ≡ Some thing → may_want thing (doing act) ≡ true) }
+        ensures refused { OnErr result (MayWant self.old.private id (doing act)) }
     {
         match &mut self.cells[id.serial as usize] {
             // Never, as the thing is held.
             Cell::Empty => Err(AllocError),
             Cell::Object(object) => object.act(&mut self.shapes, &mut self.table, act),
+        }
+    }
+
+    /// A copy of a thing that is held.
+    pub fn thing(&self, id: Id) -> Result<Thing, AllocError>
+        requires { IsSome (held self.now.private id) }
+        ensures { IfOk result (λ thing. held self.now.private id ≡ Some (seen thing)) }
+    {
+        match &self.cells[id.serial as usize] {
+            // Never, as the thing is held.
+            Cell::Empty => Err(AllocError),
+            Cell::Object(object) => object.told(self.alloc, &self.shapes, &self.table),
         }
     }
 }

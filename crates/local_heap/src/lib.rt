@@ -7,5 +7,6 @@ mod room;
 mod table;
 #[cfg(test)]
 mod tests;
+mod told;
 
 pub use heap::LocalHeap;

@@ -71,7 +71,7 @@ impl Object {
     }
 
     /// The value at a place of this kind.
-    fn read_at(&self, table: &Table, place: Place, kind: Kind) -> Result<Value, AllocError>
+    pub fn read_at(&self, table: &Table, place: Place, kind: Kind) -> Result<Value, AllocError>
         requires within { place.0 < length self.now.words.items }
         requires sound { kind ≡ Kind.AnyLoc → IsWord table.now (slice_index self.now.words.items place.0) }
         ensures value { IfOk result (λ value. plain value ≡ value_by table.now kind (slice_index self.now.words.items place.0)) }

@@ -6,7 +6,7 @@ ghost use Rattle.rb_model.specs.Things.{Object};
 ghost use Rattle.rb_model.specs.Private.{held};
 
 use crate::LocalHeap;
-use rb_model::{Act, Id, Make, Ref, Reply, SharedText, Value};
+use rb_model::{Act, Id, Make, Ref, Reply, SharedText, Sort, Thing, Value};
 use rb_tree::NameId;
 use shape_core::ShapeStore;
 use shape_tree::Tree;
@@ -44,7 +44,7 @@ use Step::{Has, Make as New, Set, Shapes};
 /// The reference to an object of class 7.
 fn thing(serial: u64) -> Ref {
     Ref {
-        sort: rb_model::Sort::Object(7),
+        sort: Sort::Object(7),
         id: Id { thread: 3, serial },
     }
 }
@@ -241,6 +241,46 @@ fn only_what_was_made_here_is_held(rt: HostRuntime) -> Result<(), Fail> {
         assert_eq!(rt; heap.holds(Id { thread, serial }), held);
     }
     assert_eq!(rt; heap.into_shapes().len(), 1);
+    Ok(())
+}
+
+/// What a thing is, where it is held.
+fn told(heap: &Heap, serial: u64) -> Result<Option<Thing>, AllocError> {
+    let id = thing(serial).id;
+    if !heap.holds(id) {
+        return Ok(None);
+    }
+    let thing = heap.thing(id)?;
+    Ok(Some(thing))
+}
+
+#[test]
+fn fields_are_told_in_the_order_of_their_first_writes(rt: HostRuntime) -> Result<(), Fail> {
+    let alloc = rt.alloc();
+    let mut heap = new_heap(alloc)?;
+    heap.make(Make::Object(7))?;
+    for (name, row) in [
+        (5, Row::Int(1)),
+        (2, Row::Text("b")),
+        (9, Row::Int(3)),
+        (5, Row::Nil),
+    ] {
+        assert!(rt; does(&mut heap, alloc, Set(1, name, row))?);
+    }
+    let want = [
+        (5, Row::Nil, true),
+        (2, Row::Text("b"), true),
+        (9, Row::Int(3), false),
+    ];
+    let Some(Thing::Object(class, fields)) = told(&heap, 1)? else {
+        assert!(rt; false);
+        return Ok(());
+    };
+    assert_eq!(rt; class, 7);
+    assert_eq!(rt; fields.len(), want.len());
+    for (field, (name, row, wide)) in fields.iter().zip(want) {
+        assert!(rt; field.name.0 == name && is(&field.value, row) && field.wide == wide);
+    }
     Ok(())
 }
 
