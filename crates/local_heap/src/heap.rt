@@ -35,7 +35,6 @@ pub struct LocalHeap<S: ShapeStore> {
 }
 
 impl<S: ShapeStore> Model for LocalHeap<S> {
-    ghost use Rattle.local_heap.specs.Memory.{MayWant};
     ghost use Rattle.local_heap.specs.Heap.{Heap};
 
     ghost Value = { Heap };
