@@ -4,5 +4,6 @@ pub mod Ends
 pub mod Faults
 pub mod Acts
 pub mod Things
+pub mod Doing
 pub mod Private
 pub mod Log

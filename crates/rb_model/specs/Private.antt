@@ -13,7 +13,7 @@ pub record Private : Type 0 where
 abbrev pub bare : ℕ → Private
 bare t = record { thread = t; things = None ∷ [] }
 
-abbrev or_none : Option (Option Thing) → Option Thing
+abbrev pub or_none : Option (Option Thing) → Option Thing
 or_none None = None
 or_none (Some thing) = thing
 

@@ -2,16 +2,20 @@
 //! outside. The definitions in `specs/` are those that the reference machine and every store speak of.
 #![tactic(auto)]
 
+mod act;
 mod call;
 mod fault;
 mod shared_text;
 mod store;
 #[cfg(test)]
 mod tests;
+mod thing;
 mod value;
 
+pub use act::{Act, Make, Reply};
 pub use call::{Answer, Call, End};
 pub use fault::Fault;
 pub use shared_text::SharedText;
 pub use store::OneStore;
+pub use thing::{Field, Thing};
 pub use value::{Id, Ref, Sort, Value};

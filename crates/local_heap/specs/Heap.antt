@@ -1,0 +1,46 @@
+-- What a contract sees of a private heap.
+use Rattle.std.specs.Prelude.{◌≡◌, List, Option, Some, None, slice_get}
+use Rattle.rb_model.specs.declared.value.Id.{Id}
+use Rattle.rb_model.specs.declared.act.Make.{Make}
+use Rattle.rb_model.specs.declared.act.Make.TheVariants as make
+use Rattle.rb_model.specs.Acts.{Act, Reply}
+use Rattle.rb_model.specs.Things.{Thing, becomes, gives}
+use Rattle.rb_model.specs.Private.{Private, changed, held}
+use Rattle.shape_core.specs.Path.{Path}
+use Rattle.shape_core.specs.Shape.{Shape, root_of}
+use Rattle.local_heap.specs.Paths.{shape_behind}
+
+-- The private store, the shape of each object in it by serial number, and the shapes of the shape store.
+pub record Heap : Type 0 where
+  pub private : Private
+  pub shaped : List (Option Shape)
+  pub shapes : List Shape
+
+abbrev pub or_root : Option (Option Shape) → Shape
+or_root None = root_of 0
+or_root (Some None) = root_of 0
+or_root (Some (Some shape)) = shape
+
+-- the shape of an object that is held
+abbrev pub shape_of : Heap → Id → Shape
+shape_of h id = or_root (slice_get h.shaped id.serial)
+
+-- and its path
+abbrev pub path_of : Heap → Id → Path
+path_of h id = (shape_of h id).path
+
+-- the shape of a thing that is made
+abbrev pub shape_made : Make → Shape
+shape_made (make.Object class) = root_of class
+
+-- the shape of an object behind an act on it
+abbrev pub shape_then : Heap → Id → Act → Shape
+shape_then h id act = shape_behind (shape_of h id) act
+
+-- a reply is what the thing of an id gives
+abbrev pub Gives : Private → Id → Act → Reply → Type 0
+Gives h id act reply = (thing : Thing) → held h id ≡ Some thing → reply ≡ gives thing act
+
+-- a private store becomes another by an act on the thing of an id
+abbrev pub Becomes : Private → Id → Act → Private → Type 0
+Becomes h id act new = (thing : Thing) → held h id ≡ Some thing → new ≡ changed h id (becomes thing act)
