@@ -9,6 +9,7 @@ pub mod Repeating
 pub mod Knowing
 pub mod UsesMore
 pub mod CrowdMore
+pub mod Sorting
 pub mod Holding
 pub mod Reversed
 pub mod Noting

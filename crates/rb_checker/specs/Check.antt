@@ -10,7 +10,7 @@ use Rattle.rb_checker.specs.Fault.{first_of}
 use Rattle.rb_checker.specs.Around.{placed}
 use Rattle.rb_checker.specs.Events.{events_in, bodies_from}
 use Rattle.rb_checker.specs.Twice.{params_twice, repeated_in}
-use Rattle.rb_checker.specs.Crowd.{fields_in, globals_in, crowded, classes_crowded, max_fields, max_globals}
+use Rattle.rb_checker.specs.Crowd.{fields_in, globals_in, by_place, crowded, classes_crowded, max_fields, max_globals}
 use Rattle.rb_checker.specs.Locals.{uses_in}
 use Rattle.rb_checker.specs.Settled.{unsettled}
 use Rattle.rb_checker.specs.Misplaced.{misplaced_in}
@@ -37,7 +37,7 @@ faults program =
     ++ (flat_map (λ (events : List Event). params_twice (uses_in events)) (texts program)
     ++ (flat_map (λ (events : List Event). unsettled (placed [] events)) (texts program)
     ++ (flat_map (class_fields program) program.classes
-    ++ (crowded max_globals (globals_in (flat_map (λ (events : List Event). events) (texts program)))
+    ++ (crowded max_globals (by_place (globals_in (flat_map (λ (events : List Event). events) (texts program))))
     ++ classes_crowded program.classes)))))
 
 -- the fault of a program that counts

@@ -39,6 +39,16 @@ fields_in events = flat_map (λ (e : Event). field_use e.sight e.at) events
 abbrev pub globals_in : List Event → Uses
 globals_in events = flat_map (λ (e : Event). global_use e.sight e.at) events
 
+-- a use put among uses that stand in the order of the text
+abbrev pub with_use : NameId × Span → Uses → Uses
+with_use u [] = u ∷ []
+with_use u (v ∷ vs) = if nat_le u.1.from v.1.from then u ∷ v ∷ vs else v ∷ with_use u vs
+
+-- uses in the order of the text
+abbrev pub by_place : Uses → Uses
+by_place [] = []
+by_place (u ∷ us) = with_use u (by_place us)
+
 -- A fault where a name first stands with as many others before it as there may be. These stand before the uses.
 abbrev pub crowded_behind : ℕ → List NameId → Uses → List CheckFault
 crowded_behind limit before [] = []

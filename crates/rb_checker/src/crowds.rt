@@ -67,6 +67,13 @@ pub(crate) fn add_globals(
     Ok(())
 }
 
+/// Puts uses in the order of the text.
+pub(crate) fn sort_by_place(uses: &mut Vec<(NameId, Span)>) -> Result<(), AllocError>
+    ensures { OnOk result (uses.new.items ≡ spec.by_place uses.old.items) }
+{
+    uses.sort_by_key(|place| place.1.from)
+}
+
 /// The names that were seen, and how many more there may be.
 #[derive(Drop)]
 struct Crowd {

@@ -9,7 +9,7 @@ ghost use Rattle.rb_checker.specs.Scripts.{script_faults, script_events};
 ghost use Rattle.rb_checker.specs.declared.fault.CheckFault.{CheckFault as Broken};
 
 use crate::bodies::Bodies;
-use crate::crowds::{MAX_GLOBALS, crowded, crowded_class};
+use crate::crowds::{MAX_GLOBALS, crowded, crowded_class, sort_by_place};
 use crate::fault::CheckFault;
 use crate::first::first_of_two;
 use crate::found::Found;
@@ -71,6 +71,7 @@ fn find_fault(alloc: Global, program: &Program) -> Result<Option<CheckFault>, Al
     let mut variables = Variables::none(alloc);
     let found = found_in_texts(alloc, program, &mut variables)?;
     let repeated = find_repeated(alloc, program)?;
+    sort_by_place(&mut variables.globals)?;
     let globals = crowded(alloc, MAX_GLOBALS, variables.globals.as_slice())?;
     let classes = crowded_class(program.classes.as_slice());
     let crowds = first_of_two(found.fields, first_of_two(globals, classes));

@@ -4,7 +4,7 @@ use Rattle.rb_checker.specs.declared.event.Event.{Event}
 use Rattle.rb_checker.specs.declared.found.Found.{Found}
 use Rattle.rb_checker.specs.Around.{placed}
 use Rattle.rb_checker.specs.Check.{texts, class_fields}
-use Rattle.rb_checker.specs.Crowd.{globals_in, crowded, max_globals, classes_crowded}
+use Rattle.rb_checker.specs.Crowd.{globals_in, by_place, crowded, max_globals, classes_crowded}
 use Rattle.rb_checker.specs.Fault.{first_of}
 use Rattle.rb_checker.specs.Locals.{uses_in}
 use Rattle.rb_checker.specs.Misplaced.{misplaced_in}
@@ -22,11 +22,13 @@ returns c =
     let of_params = flat_map (λ (es : List Event). params_twice (uses_in es)) (texts p) in
     let of_captures = flat_map (λ (es : List Event). unsettled (placed [] es)) (texts p) in
     let of_fields = flat_map (class_fields p) p.classes in
-    let of_globals = crowded max_globals (globals_in (flat_map (λ (es : List Event). es) (texts p))) in
+    let of_globals = crowded max_globals (by_place (globals_in (flat_map (λ (es : List Event). es) (texts p)))) in
     let of_classes = classes_crowded p.classes in
     let is_globals = c.in_ok-globals.ensures
-    ∙ ap (λ us. first_of (crowded max_globals us)) (c.as_slice.ensures.value ∙ c.in_ok-found.ensures.globals ∙ ap (λ us. us ++ globals_in (script_events p)) c.none-variables.ensures.globals)
-    ∙ ap (λ es. first_of (crowded max_globals (globals_in es))) (events_are p) in
+    ∙ ap (λ us. first_of (crowded max_globals us))
+    (c.as_slice.ensures.value ∙ c.in_ok-sort_by_place.ensures
+    ∙ ap by_place (c.in_ok-found.ensures.globals ∙ ap (λ us. us ++ globals_in (script_events p)) c.none-variables.ensures.globals))
+    ∙ ap (λ es. first_of (crowded max_globals (by_place (globals_in es)))) (events_are p) in
     let is_classes = c.crowded_class-classes.ensures ∙ ap (λ cs. first_of (classes_crowded cs)) c.as_slice-2.ensures in
     let last = first_of_both of_globals of_classes (of_globals ++ of_classes) c.in_ok-globals.globals c.crowded_class-classes.result c.first_of_two.result refl is_globals is_classes c.first_of_two.ensures in
     let crowds = first_of_both of_fields (of_globals ++ of_classes) (of_fields ++ (of_globals ++ of_classes)) c.in_ok-found.found.fields c.first_of_two.result c.first_of_two-crowds.result refl

@@ -7,7 +7,7 @@ use std::test::Fail;
 /// A source in rows: what it begins with, what stands in each line before and behind its number, what it ends with, how many
 /// lines there are, and what is found. The numbers count from 100.
 #[rattlefmt::skip]
-const ROWS: [(&str, &str, &str, &str, u32, &str); 19] = [
+const ROWS: [(&str, &str, &str, &str, u32, &str); 24] = [
     ("class A; def f\n", "@f", "", "end; end", 32, "kept"),
     ("class A; def f\n", "@f", "", "end; end", 33, "TooManyFields 207"),
     ("class A; def f\n", "@f", "", "end; end", 40, "TooManyFields 207"),
@@ -23,6 +23,12 @@ const ROWS: [(&str, &str, &str, &str, u32, &str); 19] = [
     ("", "$g", "", "", 300, "TooManyFields 1536"),
     ("", "$g", "", "$g105", 256, "kept"),
     ("def f; $a; end\n", "$g", "", "", 256, "TooManyFields 1545"),
+    // They count in the order of the text, wherever a definition stands.
+    ("", "$g", "", "def f; $a; end", 256, "TooManyFields 1543"),
+    ("", "$g", "", "class A; def f; $g100; $a; end; end", 256, "TooManyFields 1559"),
+    ("puts $z\n", "$g", "", "def f; $a; end", 255, "TooManyFields 1545"),
+    ("", "$g", "", "$y\ndef f; $a; end\n$z", 255, "TooManyFields 1540"),
+    ("def f; $a; end\n", "$g", "", "class A; def g; $b; end; end", 255, "TooManyFields 1561"),
     ("", "class C", "; end", "", 256, "kept"),
     ("", "class C", "; end", "", 257, "TooManyClasses 4102"),
     ("", "class C", "; end", "", 300, "TooManyClasses 4102"),
