@@ -25,6 +25,7 @@ pub enum IntegerAnswer {
 }
 
 /// The result, where it fits 64 bits.
+#[inline(always)]
 fn fitted(found: Option<i64>) -> IntegerAnswer
     ensures { spec.answer_of result ≡ spec.if_fitted found }
 {
@@ -35,6 +36,7 @@ fn fitted(found: Option<i64>) -> IntegerAnswer
 }
 
 /// The truth of a comparison.
+#[inline(always)]
 fn truth_of(holds: bool) -> IntegerAnswer
     ensures { spec.answer_of result ≡ Gives (truth holds) }
 {
@@ -46,6 +48,7 @@ fn truth_of(holds: bool) -> IntegerAnswer
 }
 
 /// The quotient, rounded toward minus infinity.
+#[inline(always)]
 fn quotient(m: i64, n: i64) -> IntegerAnswer
     ensures { spec.answer_of result ≡ unless_zero quotient m n }
 {
@@ -63,6 +66,7 @@ fn quotient(m: i64, n: i64) -> IntegerAnswer
 }
 
 /// What is left of the dividend, which has the sign of the divisor.
+#[inline(always)]
 fn modulo(m: i64, n: i64) -> IntegerAnswer
     ensures { spec.answer_of result ≡ unless_zero modulo m n }
 {
@@ -80,6 +84,7 @@ fn modulo(m: i64, n: i64) -> IntegerAnswer
 }
 
 /// Whether one integer and another make an operation by a method.
+#[inline(always)]
 pub fn is_operation(method: Builtin) -> bool
     ensures { result ≡ spec.is_operation method }
 {
@@ -99,7 +104,7 @@ pub fn is_operation(method: Builtin) -> bool
 }
 
 /// What an operation gives.
-#[inline]
+#[inline(always)]
 fn operation(method: Builtin, m: i64, n: i64) -> IntegerAnswer
     ensures { spec.answer_of result ≡ spec.operated method m n }
 {
@@ -119,7 +124,7 @@ fn operation(method: Builtin, m: i64, n: i64) -> IntegerAnswer
 }
 
 /// What an operation on two integers gives.
-#[inline]
+#[inline(always)]
 pub fn integer_operation(method: Builtin, m: i64, n: i64) -> IntegerAnswer
     ensures answer { spec.answer_of result ≡ spec.operated method m n }
     // Where the method is an operation, that is what the table says of the call.

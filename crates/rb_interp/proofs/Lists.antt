@@ -1,5 +1,5 @@
 -- Lists by their places, and rooms of slots.
-use Rattle.std.proofs.Common.{◌≡◌, ℕ, zero, suc, ◌+◌, ◌<◌, ◌≤◌, Bool, true, false, List, [], ◌∷◌, ◌++◌, length, map, drop, take, get_or, Option, Some, None, refl, sym, ap, ◌∙◌, add-one, arith}
+use Rattle.std.proofs.Common.{◌≡◌, ℕ, zero, suc, ◌+◌, ◌-◌, ◌<◌, ◌≤◌, Bool, true, false, List, [], ◌∷◌, ◌++◌, length, map, drop, take, get_or, Option, Some, None, refl, sym, ap, ◌∙◌, add-one, arith}
 use Rattle.std.proofs.Math.Seq.{drop-cons}
 use Rattle.std.proofs.lemmas.Bool.Decides.{nat_tests}
 use Rattle.std.specs.Prelude.{◌&&◌, slice_get, slice_set, nat_le, ◌==◌}
@@ -129,6 +129,15 @@ pub there : {A : Type 0} (xs : List A) (i : ℕ) → i < length xs → (x : A) �
 there [] i h = absurd (omega (arith, h))
 there (x ∷ xs) zero h = (x, refl)
 there (x ∷ xs) (suc i) h = there xs i (omega (arith, h))
+
+-- an item, as a list of one
+one_item : {A : Type 0} (xs : List A) (i : ℕ) (v : A) → slice_get xs i ≡ Some v → take 1 (drop i xs) ≡ v ∷ []
+one_item [] i v h = absurd (cc)
+one_item (x ∷ xs) zero v h = let e : x ≡ v = cc in rw e refl
+one_item (x ∷ xs) (suc i) v h = one_item xs i v h
+
+pub alone_at : {A : Type 0} (xs : List A) (i : ℕ) (v : A) → slice_get xs i ≡ Some v → take (i + 1 - i) (drop i xs) ≡ v ∷ []
+alone_at xs i v h = let e : i + 1 - i ≡ 1 = omega arith in rw e (one_item xs i v h)
 
 pub two : (a b : Bool) → a ≡ true → b ≡ true → (a && b) ≡ true
 two true b h q = q

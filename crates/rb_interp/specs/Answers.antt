@@ -1,11 +1,12 @@
 -- What the parts of the walk that call nothing of it answer.
-use Rattle.std.specs.Prelude.{◌≡◌, ◌⊎◌, ◌≤◌, ◌<◌, ◌-◌, ℕ, ℤ, int_lt, true, false, List, [], ◌∷◌, length, slice_set, Option, Some, None}
+use Rattle.std.specs.Prelude.{◌≡◌, ◌⊎◌, ◌≤◌, ◌<◌, ◌-◌, ℕ, ℤ, int_lt, true, false, List, [], ◌∷◌, length, slice_get, slice_set, Option, Some, None}
 use Rattle.rb_tree.specs.declared.span.Span.{Span}
 use Rattle.rb_tree.specs.declared.span.NameId.{NameId}
 use Rattle.rb_tree.specs.declared.node.AssignOp.{AssignOp}
 use Rattle.rb_tree.specs.declared.node.AssignOp.TheVariants as op
 use Rattle.rb_model.specs.Values.{Value as Val, Nil, Int, plain}
 use Rattle.rb_model.specs.declared.value.Value.{Value as Held}
+use Rattle.rb_model.specs.declared.value.Value.TheVariants as held
 use Rattle.rb_model.specs.declared.fault.Fault.TheVariants.{ArgumentCount}
 use Rattle.rb_model.specs.Ends.{Raised, Memory}
 use Rattle.rb_model.specs.Log.{Log}
@@ -24,8 +25,6 @@ use Rattle.rb_render.specs.declared.show.Form.TheVariants as form
 use Rattle.rb_code.specs.declared.code.Code.{Code}
 use Rattle.rb_code.specs.Erase.{erase}
 use Rattle.rb_code.specs.Resolved.{fits}
-use Rattle.rb_interp.specs.declared.came.Came.{Came as Registers}
-use Rattle.rb_interp.specs.declared.came.Came.TheVariants as came
 use Rattle.rb_interp.specs.Outcome.{Outcome, Gave, Over, Came}
 use Rattle.rb_interp.specs.Carries.{scope_of}
 
@@ -44,23 +43,29 @@ pub data Writes (slot : ℕ) (v : Val) (old new : List Held) : Outcome → Type 
   wrote : (w : Held) → plain w ≡ v → new ≡ slice_set old slot w → Writes slot v old new (Gave v)
   wanted : new ≡ old → Writes slot v old new (Over Memory)
 
--- a leaf gives this integer in one step, which leaves the scope as it is
-abbrev pub IsSmall : Code → List Held → ℤ → Type 0
-IsSmall code room n =
+-- a value stands in a slot
+abbrev pub Passed : ℕ → Val → List Held → List Held → Type 0
+Passed slot v old new = (w : Held) × (plain w ≡ v) × (new ≡ slice_set old slot w)
+
+-- a leaf gives this value in one step, which leaves the scope as it is
+abbrev pub IsHeld : Code → List Held → Val → Type 0
+IsHeld code room v =
     (S : Script) (N : ℕ) (names : List NameId) (size depth left : ℕ) (start : State) (h : Private) (log : Log) (k : List Cont) (me : Val)
     → fits S code names size ≡ true → length names ≤ length room → 0 < left → depth < 1000
-    → At S 0 N start log h (On (Eval (erase code)) k (scope_of me names room) depth left) → At S 0 N start log h (On (Give (Int n)) k (scope_of me names room) depth (left - 1))
+    → At S 0 N start log h (On (Eval (erase code)) k (scope_of me names room) depth left) → At S 0 N start log h (On (Give v) k (scope_of me names room) depth (left - 1))
+
+-- and this integer
+abbrev pub IsSmall : Code → List Held → ℤ → Type 0
+IsSmall code room n = IsHeld code room (Int n)
+
+-- a leaf gives the only one of these values so
+abbrev pub IsHeldAlone : Code → List Held → List Val → Type 0
+IsHeldAlone code room vs = (v : Val) × (vs ≡ v ∷ []) × IsHeld code room v
 
 -- an operation over two leaves gives this answer in two steps, which leave the scope as it is
 abbrev pub IsQuick : Option Builtin → (left right : Code) → List Held → Answer → Type 0
 IsQuick method left right room answer =
     (m : ℤ) × (n : ℤ) × IsSmall left room m × IsSmall right room n
-    × ((texts : List (List ℕ)) (name : List ℕ) → builtin_of name ≡ method → deed texts (Int m) name (Int n ∷ []) None ≡ answer)
-
--- an operation over an integer that came and a leaf gives this answer in one step, which leaves the scope as it is
-abbrev pub IsQuickRight : Option Builtin → Registers → Code → List Held → Answer → Type 0
-IsQuickRight method left right room answer =
-    (m : ℤ) × (n : ℤ) × (left ≡ came.Int m) × IsSmall right room n
     × ((texts : List (List ℕ)) (name : List ℕ) → builtin_of name ≡ method → deed texts (Int m) name (Int n ∷ []) None ≡ answer)
 
 -- the built-in method of an assignment's operator; none for the two that decide
@@ -77,6 +82,13 @@ method_of op.AndThen = None
 abbrev pub only_value : List Val → Val
 only_value (v ∷ []) = v
 only_value vs = Nil
+
+-- the operator of an assignment makes this integer of the one in a slot and a leaf, and it stands in the slot
+abbrev pub IsUpdated : ℕ → AssignOp → Code → List Held → List Held → ℤ → Type 0
+IsUpdated slot op value old new k =
+    (b : Builtin) × (m : ℤ) × (n : ℤ) × (method_of op ≡ Some b) × (slice_get old slot ≡ Some (held.Int m)) × IsSmall value old n
+    × ((texts : List (List ℕ)) (name : List ℕ) → builtin_of name ≡ Some b → deed texts (Int m) name (Int n ∷ []) None ≡ Gives (Int k))
+    × (new ≡ slice_set old slot (held.Int k))
 
 -- what a call that shows values gives
 abbrev pub shown_value : Form → List Val → Val

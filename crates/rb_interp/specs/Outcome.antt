@@ -11,6 +11,8 @@ use Rattle.rb_machine.specs.Control.{State, On, Cont, Give, Leave as Leaving, Ex
 use Rattle.rb_machine.specs.Call.{ended}
 use Rattle.rb_machine.specs.Move.{Show, move, left_in}
 use Rattle.rb_machine.specs.Follows.{At}
+use Rattle.rb_interp.specs.declared.came.Cut.{Cut}
+use Rattle.rb_interp.specs.declared.came.Cut.TheVariants as cut
 use Rattle.rb_interp.specs.declared.came.Came.{Came as Registers}
 use Rattle.rb_interp.specs.declared.came.Came.TheVariants as came
 use Rattle.rb_interp.specs.declared.came.Leave.{Leave}
@@ -21,6 +23,12 @@ pub data Outcome : Type 0 where
   Gave : (value : Val) → Outcome
   Left : (exit : Exit) → Outcome
   Over : (how : End) → Outcome
+
+-- the end of a thread that is cut
+abbrev pub end_by : Cut → End
+end_by cut.Steps = ending.Steps
+end_by cut.Memory = ending.Memory
+end_by cut.Sink = ending.Sink
 
 -- no value came
 abbrev pub is_left : Registers → Bool

@@ -1,7 +1,8 @@
 // How the evaluation of a node comes out.
 
 ghost use Rattle.std.specs.Prelude.{◌≡◌};
-ghost use Rattle.rb_interp.specs.Outcome.{is_left};
+ghost use Rattle.rb_model.specs.Ends.{over};
+ghost use Rattle.rb_interp.specs.Outcome.{end_by, is_left};
 
 use rb_model::End;
 
@@ -27,6 +28,25 @@ pub enum Leave {
     Return,
     /// The thread ends.
     Over(End),
+}
+
+/// Why the thread ends where no fault is raised.
+#[derive(Clone, Copy)]
+pub enum Cut {
+    Steps,
+    Memory,
+    Sink,
+}
+
+/// The end of a thread that is cut.
+pub(crate) fn end_by(cut: Cut) -> End
+    ensures { over result ≡ end_by cut }
+{
+    match cut {
+        Cut::Steps => End::Steps,
+        Cut::Memory => End::Memory,
+        Cut::Sink => End::Sink,
+    }
 }
 
 /// Whether no value came.

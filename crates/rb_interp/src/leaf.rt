@@ -1,17 +1,18 @@
 // Leaves, and operations on integers, which call nothing of the walk.
 
-ghost use Rattle.std.specs.Prelude.{◌≡◌, ℕ, List, [], ◌∷◌, slice_get, Some, None, IfSome};
+ghost use Rattle.std.specs.Prelude.{◌≡◌, ℕ, List, [], ◌∷◌, length, map, slice_get, Some, None, IfSome};
 ghost use Rattle.rb_tree.specs.declared.node.Node.{out-Node};
 ghost use Rattle.rb_tree.specs.Place.{place};
 ghost use Rattle.rb_model.specs.Values.{Int, plain, truthy};
+ghost use Rattle.rb_model.specs.declared.value.Value.{Value as Held};
 ghost use Rattle.rb_model.specs.declared.value.Value.TheVariants as held;
 ghost use Rattle.rb_machine.specs.Methods.{deed};
 ghost use Rattle.rb_builtin.specs.Names.{builtin_of};
 ghost use Rattle.rb_builtin.specs.Integers as integers;
 ghost use Rattle.rb_code.specs.Erase.{erase};
-ghost use Rattle.rb_interp.specs.Answers.{IsSmall, IsQuick, IsQuickRight, method_of};
+ghost use Rattle.rb_interp.specs.Answers.{IsHeld, IsHeldAlone, IsSmall, IsQuick, IsUpdated, method_of};
 
-use crate::came::Came;
+use crate::slots::put;
 use rb_builtin::{Builtin, IntegerAnswer, integer_operation, is_operation};
 use rb_code::Code;
 use rb_model::Value;
@@ -61,6 +62,7 @@ pub(crate) fn place_of(code: &Code) -> Span
 }
 
 /// The integer in a slot.
+#[inline(always)]
 pub(crate) fn integer_at(room: &[Value], slot: u32) -> Option<i64>
     ensures { IfSome result (λ n. slice_get room.now slot ≡ Some (held.Int n)) }
 {
@@ -71,17 +73,62 @@ pub(crate) fn integer_at(room: &[Value], slot: u32) -> Option<i64>
 }
 
 /// An integer that a leaf has.
+#[inline(always)]
 pub(crate) fn small(code: &Code, room: &[Value]) -> Option<i64>
     ensures { IfSome result (λ n. IsSmall code.now room.now n) }
 {
+    if let Code::Int(n, _) = code {
+        return Some(*n);
+    }
+    if let Code::Local(slot, _, _) = code {
+        return integer_at(room, *slot);
+    }
+    None
+}
+
+/// The value that a local has.
+#[inline(always)]
+pub(crate) fn held_at<'r>(code: &Code, room: &'r [Value]) -> Option<&'r Value>
+    ensures { IfSome result (λ v. IsHeld code.now room.now (plain v.now)) }
+{
     match code {
-        Code::Int(n, _) => Some(*n),
-        Code::Local(slot, _, _) => integer_at(room, *slot),
+        Code::Local(slot, _, _) => value_at(room, *slot),
         _ => None,
     }
 }
 
+/// The value in a slot.
+#[inline(always)]
+fn value_at(room: &[Value], slot: u32) -> Option<&Value>
+    ensures { IfSome result (λ v. slice_get room.now slot ≡ Some v.now) }
+{
+    room.get(slot as usize)
+}
+
+/// The value that a local has, as a list of one.
+#[inline(always)]
+pub(crate) fn held_alone<'r>(code: &Code, room: &'r [Value]) -> Option<&'r [Value]>
+    ensures { IfSome result (λ vs. IsHeldAlone code.now room.now (map plain vs.now)) }
+{
+    match code {
+        Code::Local(slot, _, _) => alone(room, *slot as usize),
+        _ => None,
+    }
+}
+
+/// The value in a slot, as a list of one.
+#[inline(always)]
+fn alone(room: &[Value], slot: usize) -> Option<&[Value]>
+    ensures { IfSome result (λ vs. (v : Held) × (slice_get room.now slot ≡ Some v) × (vs.now ≡ v ∷ [])) }
+{
+    if slot >= room.len() {
+        return None;
+    }
+    Some(&room[slot..slot + 1])
+}
+
 /// What an operation on two integers gives, where this is one.
+#[inline(always)]
 pub(crate) fn operation_by(method: Option<Builtin>, m: i64, n: i64) -> Option<IntegerAnswer>
     ensures { IfSome result (λ answer. (texts : List (List ℕ)) (name : List ℕ) → builtin_of name ≡ method → deed texts (Int m) name (Int n ∷ []) None ≡ integers.answer_of answer) }
 {
@@ -110,6 +157,7 @@ pub(crate) fn operation_on(
 }
 
 /// What an operation over two leaves gives, where they are integers and this is one.
+#[inline(always)]
 pub(crate) fn quick(
     method: Option<Builtin>,
     left: &Code,
@@ -123,23 +171,27 @@ pub(crate) fn quick(
     operation_by(method, m, n)
 }
 
-/// What an operation over a value that came and a leaf gives, where they are integers and this is one.
-pub(crate) fn quick_right(
-    method: Option<Builtin>,
-    left: Came,
-    right: &Code,
-    room: &[Value],
-) -> Option<IntegerAnswer>
-    ensures { IfSome result (λ answer. IsQuickRight method left right.now room.now (integers.answer_of answer)) }
+/// Writes into a slot what an operator makes of its integer and a leaf that is one, where that is an integer.
+#[inline(always)]
+pub(crate) fn quick_update(slot: u32, op: AssignOp, value: &Code, room: &mut [Value]) -> Option<i64>
+    ensures room { length room.new ≡ length room.old }
+    ensures some { IfSome result (λ k. IsUpdated slot op value.now room.old room.new k) }
+    ensures none { result ≡ None → room.new ≡ room.old }
 {
-    let Came::Int(m) = left else {
-        return None;
-    };
-    let n = small(right, room)?;
-    operation_by(method, m, n)
+    let method = method_of(op)?;
+    let m = integer_at(room, slot)?;
+    let n = small(value, room)?;
+    match operation_by(Some(method), m, n)? {
+        IntegerAnswer::Int(k) => {
+            put(room, slot as usize, k);
+            Some(k)
+        }
+        _ => None,
+    }
 }
 
 /// The built-in method of an assignment's operator; none for the two that decide.
+#[inline(always)]
 pub(crate) fn method_of(op: AssignOp) -> Option<Builtin>
     ensures { result ≡ method_of op }
 {

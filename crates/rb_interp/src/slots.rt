@@ -1,6 +1,6 @@
 // Slots of a frame.
 
-ghost use Rattle.std.specs.Prelude.{◌≡◌, ◌≤◌, ◌<◌, ◌+◌, ℕ, Some, length, take, drop, slice_get};
+ghost use Rattle.std.specs.Prelude.{◌≡◌, ◌≤◌, ◌<◌, ◌+◌, ℕ, Some, length, take, drop, slice_get, slice_set};
 ghost use Rattle.rb_model.specs.declared.value.Value.TheVariants as held;
 ghost use Rattle.rb_interp.specs.Slots.{first_of_block};
 
@@ -16,6 +16,18 @@ pub(crate) fn clear(room: &mut [Value], from: usize, to: usize)
 {
     'slots: for slot in from..to {
         room[slot] = Value::Nil;
+    }
+}
+
+/// Writes an integer into a slot.
+#[inline(always)]
+pub(crate) fn put(room: &mut [Value], slot: usize, n: i64)
+    requires { slot < length room.old }
+    ensures { room.new ≡ slice_set room.old slot (held.Int n) }
+{
+    match &mut room[slot] {
+        Value::Int(cell) => *cell = n,
+        cell => *cell = Value::Int(n),
     }
 }
 

@@ -16,7 +16,7 @@ ghost use Rattle.rb_machine.specs.Scopes.{Script, fresh, text_of};
 ghost use Rattle.rb_machine.specs.Follows.{At, Follows};
 ghost use Rattle.rb_machine.specs.Alone.{opening};
 ghost use Rattle.rb_code.specs.Stands.{StandsFor};
-ghost use Rattle.rb_machine.specs.Control.{State, Cont, On, Then, Eval, Give, Following, Looping, Turning, Passing, Joining, Step, ReceiverOf, ReceiverToStore, RightOfAnd, RightOfOr, Negate, Choose, ReturnOf, IndexedBy, MemberOf, ReadOf, RightOf, WriteTo, ByName, OfLocal, OfAttribute, Counting};
+ghost use Rattle.rb_machine.specs.Control.{State, Cont, On, Then, Eval, Give, Following, Looping, Turning, Passing, Joining, Step, ReceiverOf, ReceiverToStore, RightOfAnd, RightOfOr, Negate, Choose, ReturnOf, IndexedBy, MemberOf, ReadOf, RightOf, WriteTo, Argument, OnReceiver, ByName, OfLocal, OfAttribute, Counting};
 ghost use Rattle.rb_machine.specs.Begin.{begin, begin_return};
 ghost use Rattle.rb_machine.specs.Call.{read_place};
 ghost use Rattle.rb_machine.specs.Methods.{Loops, deed};
@@ -25,16 +25,19 @@ ghost use Rattle.rb_builtin.specs.Names.{builtin_of};
 ghost use Rattle.rb_builtin.specs.Integers as integers;
 ghost use Rattle.rb_code.specs.Erase.{erase, erase_block, erase_piece};
 ghost use Rattle.rb_code.specs.Resolved.{fits, block_fits, piece_fits, every, if_some, form_takes};
-ghost use Rattle.rb_interp.specs.Outcome.{is_left, value_of, outcome, Gave, Over, Came as Comes};
+ghost use Rattle.rb_interp.specs.Outcome.{end_by, is_left, value_of, outcome, Gave, Over, Came as Comes};
 ghost use Rattle.rb_interp.specs.Carries.{Carries, Keeps, scope_of, Passes, Shows, both, at_slot, numbered, unanswered, unwritten, called, printing, Assigns, goes_on, loop_exit, call_exit};
-ghost use Rattle.rb_interp.specs.Answers.{OrMemory, Writes, Settles, outcome_of, shown_value, only_value};
+ghost use Rattle.rb_interp.specs.Answers.{OrMemory, Passed, Writes, Settles, outcome_of, shown_value, only_value};
 
 use crate::bytes::{add_bytes, add_value};
-use crate::came::{Came, Leave, is_left};
+use crate::came::{Came, Cut, Leave, end_by, is_left};
 use crate::ending::{close, end_of};
-use crate::leaf::{is_true, method_of, operation_on, place_of, quick, quick_right};
+use crate::leaf::{
+    held_alone, held_at, is_true, method_of, operation_by, operation_on, place_of, quick,
+    quick_update,
+};
 use crate::rounds::{Rounds, count_of, rounds_of};
-use crate::slots::{clear, passed, start_block};
+use crate::slots::{clear, passed, put, start_block};
 use rb_builtin::{Builtin, Deed, IntegerAnswer, deed_of};
 use rb_code::{Code, CodeBlock, CodePiece, CodeScript};
 use rb_model::{Answer, Call, End, Fault, OneStore, SharedText, Value};
@@ -102,6 +105,7 @@ impl<'p, O: OneStore + Drop> Walker<'p, O> {
     }
 
     /// Gives a value.
+    #[inline(never)]
     fn give(&mut self, value: Value) -> Came
         ensures gives { outcome result self.new.value self.new.leave ≡ Gave (plain value) }
         ensures base { self.new.base ≡ self.old.base }
@@ -121,19 +125,21 @@ impl<'p, O: OneStore + Drop> Walker<'p, O> {
         }
     }
 
-    /// The thread ends.
-    fn over(&mut self, end: End) -> Came
-        ensures gives { outcome result self.new.value self.new.leave ≡ Over (over end) }
+    /// The thread is cut.
+    #[inline(never)]
+    fn over(&mut self, cut: Cut) -> Came
+        ensures gives { outcome result self.new.value self.new.leave ≡ Over (end_by cut) }
         ensures base { self.new.base ≡ self.old.base }
         ensures left { self.new.left ≡ self.old.left }
         ensures context { self.new.context ≡ self.old.context }
         ensures store { self.new.store ≡ self.old.store }
     {
-        self.leave = Leave::Over(end);
+        self.leave = Leave::Over(end_by(cut));
         Came::Left
     }
 
     /// The thread ends with a fault.
+    #[inline(never)]
     fn raise(&mut self, fault: Fault, at: Span) -> Came
         ensures gives { outcome result self.new.value self.new.leave ≡ Over (Raised fault at) }
         ensures base { self.new.base ≡ self.old.base }
@@ -141,10 +147,12 @@ impl<'p, O: OneStore + Drop> Walker<'p, O> {
         ensures context { self.new.context ≡ self.old.context }
         ensures store { self.new.store ≡ self.old.store }
     {
-        self.over(End::Raised(fault, at))
+        self.leave = Leave::Over(End::Raised(fault, at));
+        Came::Left
     }
 
     /// Gives the value of a slot.
+    #[inline(always)]
     fn read(&mut self, slot: u32, room: &[Value]) -> Came
         ensures gives { (v : Held) → slice_get room.now slot ≡ Some v → OrMemory (Gave (plain v)) (outcome result self.new.value self.new.leave) }
         ensures base { self.new.base ≡ self.old.base }
@@ -157,14 +165,27 @@ impl<'p, O: OneStore + Drop> Walker<'p, O> {
             Some(Value::False) => Came::False,
             Some(Value::True) => Came::True,
             Some(Value::Int(n)) => Came::Int(*n),
-            Some(value) => match value.share() {
-                Ok(value) => self.give(value),
-                Err(_) => self.over(End::Memory),
-            },
+            Some(value) => self.read_shared(value),
+        }
+    }
+
+    /// Gives a value that another place has as well.
+    #[inline(never)]
+    fn read_shared(&mut self, value: &Value) -> Came
+        ensures gives { OrMemory (Gave (plain value.now)) (outcome result self.new.value self.new.leave) }
+        ensures base { self.new.base ≡ self.old.base }
+        ensures left { self.new.left ≡ self.old.left }
+        ensures context { self.new.context ≡ self.old.context }
+        ensures store { self.new.store ≡ self.old.store }
+    {
+        match value.share() {
+            Ok(value) => self.give(value),
+            Err(_) => self.over(Cut::Memory),
         }
     }
 
     /// Writes the value that came into a slot, and gives it on.
+    #[inline(always)]
     fn write(&mut self, slot: u32, came: Came, room: &mut [Value]) -> Came
         requires came { is_left came ≡ false }
         ensures written { Writes slot (value_of came self.old.value) room.old room.new (outcome result self.new.value self.new.leave) }
@@ -174,12 +195,34 @@ impl<'p, O: OneStore + Drop> Walker<'p, O> {
         ensures store { self.new.store ≡ self.old.store }
     {
         if slot as usize >= room.len() {
-            return self.over(End::Memory);
+            return self.over(Cut::Memory);
+        }
+        match came {
+            Came::Int(n) => {
+                put(room, slot as usize, n);
+                came
+            }
+            _ => self.write_any(slot, came, room),
+        }
+    }
+
+    /// Writes any value that came into a slot, and gives it on.
+    #[inline(never)]
+    fn write_any(&mut self, slot: u32, came: Came, room: &mut [Value]) -> Came
+        requires came { is_left came ≡ false }
+        ensures written { Writes slot (value_of came self.old.value) room.old room.new (outcome result self.new.value self.new.leave) }
+        ensures base { self.new.base ≡ self.old.base }
+        ensures left { self.new.left ≡ self.old.left }
+        ensures context { self.new.context ≡ self.old.context }
+        ensures store { self.new.store ≡ self.old.store }
+    {
+        if slot as usize >= room.len() {
+            return self.over(Cut::Memory);
         }
         match came {
             Came::Other => {
                 let Ok(copy) = self.value.share() else {
-                    return self.over(End::Memory);
+                    return self.over(Cut::Memory);
                 };
                 room[slot as usize] = copy;
                 Came::Other
@@ -192,6 +235,7 @@ impl<'p, O: OneStore + Drop> Walker<'p, O> {
     }
 
     /// What an operation on two integers gives.
+    #[inline(always)]
     fn answer(&mut self, answer: IntegerAnswer, at: Span) -> Came
         ensures gives { outcome result self.new.value self.new.leave ≡ outcome_of (integers.answer_of answer) at }
         ensures base { self.new.base ≡ self.old.base }
@@ -234,7 +278,7 @@ impl<'p, O: OneStore + Drop> Walker<'p, O> {
             Ok(Deed::Give(value)) => self.give(value),
             Ok(Deed::Raise(fault)) => self.raise(fault, at),
             Ok(Deed::Walk(_)) => self.raise(Fault::ArgumentCount, at),
-            Err(_) => self.over(End::Memory),
+            Err(_) => self.over(Cut::Memory),
         }
     }
 
@@ -251,21 +295,21 @@ impl<'p, O: OneStore + Drop> Walker<'p, O> {
         let bytes = match render(self.context.alloc, self.context.names, form, args) {
             Ok(bytes) => bytes,
             Err(RenderFault::TooLong) => return self.raise(Fault::TextTooLong, at),
-            Err(RenderFault::Memory) => return self.over(End::Memory),
+            Err(RenderFault::Memory) => return self.over(Cut::Memory),
         };
         if bytes.is_empty() {
             return Came::Nil;
         }
         let Ok(text) = SharedText::from_vec(self.context.alloc, bytes) else {
-            return self.over(End::Memory);
+            return self.over(Cut::Memory);
         };
         match self
             .store
             .call(self.context.steps - self.left, &Call::Print(text))
         {
             Answer::Done => Came::Nil,
-            Answer::SinkFailed => self.over(End::Sink),
-            Answer::Memory => self.over(End::Memory),
+            Answer::SinkFailed => self.over(Cut::Sink),
+            Answer::Memory => self.over(Cut::Memory),
         }
     }
 
@@ -294,10 +338,7 @@ impl<'p, O: OneStore + Drop> Walker<'p, O> {
         let [value] = args else {
             return Came::Nil;
         };
-        match value.share() {
-            Ok(value) => self.give(value),
-            Err(_) => self.over(End::Memory),
-        }
+        self.read_shared(value)
     }
 
     /// Evaluates a node.
@@ -315,7 +356,7 @@ impl<'p, O: OneStore + Drop> Walker<'p, O> {
         ensures came { Carries self.old.context.script.now self.old.context.names.now self.old.context.steps (λ S. fits S code.now) (λ S k sc d n. On (Eval (erase code.now)) k sc d n) self.old.base depth self.old.left self.new.left room.old room.new (O.log self.old.store) (O.log self.new.store) (outcome result self.new.value self.new.leave) }
     {
         if self.left == 0 {
-            return self.over(End::Steps);
+            return self.over(Cut::Steps);
         }
         if depth >= MAX_DEPTH {
             return self.raise(Fault::TooDeep, place_of(code));
@@ -342,13 +383,241 @@ impl<'p, O: OneStore + Drop> Walker<'p, O> {
             Code::False(_) => Came::False,
             Code::True(_) => Came::True,
             Code::Int(n, _) => Came::Int(*n),
-            Code::Sym(name, _) => self.give(Value::Sym(*name)),
-            Code::Str(pieces, at) => self.text(pieces.as_slice(), *at, depth, room),
             Code::Local(slot, _, _) => self.read(*slot, room),
+            Code::SetLocal(_, _, _, _) => self.begin_set(code, depth, room),
+            Code::UpdateLocal(_, _, _, _, _) => self.begin_update(code, depth, room),
+            Code::Operate(_, _, _, _, _) => self.begin_operate(code, depth, room),
+            Code::Send(_, _, _, _, _) => self.begin_send(code, depth, room),
+            Code::Function(_, _, _, _) => self.begin_function(code, depth, room),
+            Code::If(_, _, _, _) => self.begin_choice(code, depth, room),
+            _ => self.begin_other(code, depth, room),
+        }
+    }
+
+    /// An assignment to a local whose step is counted.
+    #[cycle(walk)]
+    #[inline(never)]
+    fn begin_set(&mut self, code: &'p Code, depth: u32, room: &mut [Value]) -> Came
+        requires unended { has_end (O.log self.old.store).entries ≡ false }
+        requires steps { self.old.left ≤ self.old.context.steps }
+        ensures base { self.new.base ≡ self.old.base }
+        ensures context { self.new.context ≡ self.old.context }
+        ensures room { length room.new ≡ length room.old }
+        ensures less { self.new.left ≤ self.old.left }
+        ensures unended { has_end (O.log self.new.store).entries ≡ false }
+        ensures kept { Keeps self.old.context.script.now self.old.context.names.now (λ S. fits S code.now) self.old.base room.old room.new }
+        ensures came { Carries self.old.context.script.now self.old.context.names.now self.old.context.steps (λ S. fits S code.now) (λ S k sc d n. begin S (out-Node (erase code.now)) k sc d n) self.old.base depth self.old.left self.new.left room.old room.new (O.log self.old.store) (O.log self.new.store) (outcome result self.new.value self.new.leave) }
+    {
+        match code {
             Code::SetLocal(slot, _, value, _) => self.set_local(*slot, value.get(), depth, room),
+            _ => self.over(Cut::Memory),
+        }
+    }
+
+    /// An assignment with an operator to a local. Over an integer and a leaf that is one it calls nothing of the walk.
+    #[cycle(walk)]
+    #[inline(never)]
+    fn begin_update(&mut self, code: &'p Code, depth: u32, room: &mut [Value]) -> Came
+        requires unended { has_end (O.log self.old.store).entries ≡ false }
+        requires steps { self.old.left ≤ self.old.context.steps }
+        ensures base { self.new.base ≡ self.old.base }
+        ensures context { self.new.context ≡ self.old.context }
+        ensures room { length room.new ≡ length room.old }
+        ensures less { self.new.left ≤ self.old.left }
+        ensures unended { has_end (O.log self.new.store).entries ≡ false }
+        ensures kept { Keeps self.old.context.script.now self.old.context.names.now (λ S. fits S code.now) self.old.base room.old room.new }
+        ensures came { Carries self.old.context.script.now self.old.context.names.now self.old.context.steps (λ S. fits S code.now) (λ S k sc d n. begin S (out-Node (erase code.now)) k sc d n) self.old.base depth self.old.left self.new.left room.old room.new (O.log self.old.store) (O.log self.new.store) (outcome result self.new.value self.new.leave) }
+    {
+        match code {
+            Code::UpdateLocal(slot, _, op, value, _) => {
+                if self.left > 0 && depth < MAX_DEPTH {
+                    if let Some(n) = quick_update(*slot, *op, value.get(), room) {
+                        self.left -= 1;
+                        return Came::Int(n);
+                    }
+                }
+                self.begin_slow_update(code, depth, room)
+            }
+            _ => self.over(Cut::Memory),
+        }
+    }
+
+    /// Any assignment with an operator to a local.
+    #[cycle(walk)]
+    #[inline(never)]
+    fn begin_slow_update(&mut self, code: &'p Code, depth: u32, room: &mut [Value]) -> Came
+        requires unended { has_end (O.log self.old.store).entries ≡ false }
+        requires steps { self.old.left ≤ self.old.context.steps }
+        ensures base { self.new.base ≡ self.old.base }
+        ensures context { self.new.context ≡ self.old.context }
+        ensures room { length room.new ≡ length room.old }
+        ensures less { self.new.left ≤ self.old.left }
+        ensures unended { has_end (O.log self.new.store).entries ≡ false }
+        ensures kept { Keeps self.old.context.script.now self.old.context.names.now (λ S. fits S code.now) self.old.base room.old room.new }
+        ensures came { Carries self.old.context.script.now self.old.context.names.now self.old.context.steps (λ S. fits S code.now) (λ S k sc d n. begin S (out-Node (erase code.now)) k sc d n) self.old.base depth self.old.left self.new.left room.old room.new (O.log self.old.store) (O.log self.new.store) (outcome result self.new.value self.new.leave) }
+    {
+        match code {
             Code::UpdateLocal(slot, _, op, value, at) => {
                 self.update_local(*slot, *op, value.get(), *at, depth, room)
             }
+            _ => self.over(Cut::Memory),
+        }
+    }
+
+    /// A call with one argument. Over two leaves that are integers it calls nothing of the walk.
+    #[cycle(walk)]
+    #[inline(never)]
+    fn begin_operate(&mut self, code: &'p Code, depth: u32, room: &mut [Value]) -> Came
+        requires unended { has_end (O.log self.old.store).entries ≡ false }
+        requires steps { self.old.left ≤ self.old.context.steps }
+        ensures base { self.new.base ≡ self.old.base }
+        ensures context { self.new.context ≡ self.old.context }
+        ensures room { length room.new ≡ length room.old }
+        ensures less { self.new.left ≤ self.old.left }
+        ensures unended { has_end (O.log self.new.store).entries ≡ false }
+        ensures kept { Keeps self.old.context.script.now self.old.context.names.now (λ S. fits S code.now) self.old.base room.old room.new }
+        ensures came { Carries self.old.context.script.now self.old.context.names.now self.old.context.steps (λ S. fits S code.now) (λ S k sc d n. begin S (out-Node (erase code.now)) k sc d n) self.old.base depth self.old.left self.new.left room.old room.new (O.log self.old.store) (O.log self.new.store) (outcome result self.new.value self.new.leave) }
+    {
+        match code {
+            Code::Operate(method, _, left, right, at) => {
+                if self.left > 1 && depth < MAX_DEPTH {
+                    if let Some(answer) = quick(*method, left.get(), right.get(), room) {
+                        self.left -= 2;
+                        return self.answer(answer, *at);
+                    }
+                }
+                self.begin_slow_operate(code, depth, room)
+            }
+            _ => self.over(Cut::Memory),
+        }
+    }
+
+    /// Any call with one argument. Over two locals it takes no values out of their slots.
+    #[cycle(walk)]
+    #[inline(never)]
+    fn begin_slow_operate(&mut self, code: &'p Code, depth: u32, room: &mut [Value]) -> Came
+        requires unended { has_end (O.log self.old.store).entries ≡ false }
+        requires steps { self.old.left ≤ self.old.context.steps }
+        ensures base { self.new.base ≡ self.old.base }
+        ensures context { self.new.context ≡ self.old.context }
+        ensures room { length room.new ≡ length room.old }
+        ensures less { self.new.left ≤ self.old.left }
+        ensures unended { has_end (O.log self.new.store).entries ≡ false }
+        ensures kept { Keeps self.old.context.script.now self.old.context.names.now (λ S. fits S code.now) self.old.base room.old room.new }
+        ensures came { Carries self.old.context.script.now self.old.context.names.now self.old.context.steps (λ S. fits S code.now) (λ S k sc d n. begin S (out-Node (erase code.now)) k sc d n) self.old.base depth self.old.left self.new.left room.old room.new (O.log self.old.store) (O.log self.new.store) (outcome result self.new.value self.new.leave) }
+    {
+        match code {
+            Code::Operate(method, _, left, right, at) => {
+                let left = left.get();
+                let right = right.get();
+                if self.left > 1 && depth < MAX_DEPTH {
+                    if let Some(receiver) = held_at(left, room) {
+                        if let Some(arg) = held_alone(right, room) {
+                            self.left -= 2;
+                            return self.call_method(receiver, *method, arg, *at);
+                        }
+                    }
+                }
+                self.operate(*method, left, right, *at, depth, room)
+            }
+            _ => self.over(Cut::Memory),
+        }
+    }
+
+    /// A call with a receiver, without a block. To a local without arguments it takes no value out of its slot.
+    #[cycle(walk)]
+    #[inline(never)]
+    fn begin_send(&mut self, code: &'p Code, depth: u32, room: &mut [Value]) -> Came
+        requires unended { has_end (O.log self.old.store).entries ≡ false }
+        requires steps { self.old.left ≤ self.old.context.steps }
+        ensures base { self.new.base ≡ self.old.base }
+        ensures context { self.new.context ≡ self.old.context }
+        ensures room { length room.new ≡ length room.old }
+        ensures less { self.new.left ≤ self.old.left }
+        ensures unended { has_end (O.log self.new.store).entries ≡ false }
+        ensures kept { Keeps self.old.context.script.now self.old.context.names.now (λ S. fits S code.now) self.old.base room.old room.new }
+        ensures came { Carries self.old.context.script.now self.old.context.names.now self.old.context.steps (λ S. fits S code.now) (λ S k sc d n. begin S (out-Node (erase code.now)) k sc d n) self.old.base depth self.old.left self.new.left room.old room.new (O.log self.old.store) (O.log self.new.store) (outcome result self.new.value self.new.leave) }
+    {
+        match code {
+            Code::Send(method, _, receiver, args, at) => {
+                let receiver = receiver.get();
+                if self.left > 0 && depth < MAX_DEPTH && args.is_empty() {
+                    if let Some(held) = held_at(receiver, room) {
+                        self.left -= 1;
+                        return self.call_method(held, *method, &[], *at);
+                    }
+                }
+                self.send(*method, receiver, args.as_slice(), *at, depth, room)
+            }
+            _ => self.over(Cut::Memory),
+        }
+    }
+
+    /// A call of a top-level method.
+    #[cycle(walk)]
+    #[inline(never)]
+    fn begin_function(&mut self, code: &'p Code, depth: u32, room: &mut [Value]) -> Came
+        requires unended { has_end (O.log self.old.store).entries ≡ false }
+        requires steps { self.old.left ≤ self.old.context.steps }
+        ensures base { self.new.base ≡ self.old.base }
+        ensures context { self.new.context ≡ self.old.context }
+        ensures room { length room.new ≡ length room.old }
+        ensures less { self.new.left ≤ self.old.left }
+        ensures unended { has_end (O.log self.new.store).entries ≡ false }
+        ensures kept { Keeps self.old.context.script.now self.old.context.names.now (λ S. fits S code.now) self.old.base room.old room.new }
+        ensures came { Carries self.old.context.script.now self.old.context.names.now self.old.context.steps (λ S. fits S code.now) (λ S k sc d n. begin S (out-Node (erase code.now)) k sc d n) self.old.base depth self.old.left self.new.left room.old room.new (O.log self.old.store) (O.log self.new.store) (outcome result self.new.value self.new.leave) }
+    {
+        match code {
+            Code::Function(number, _, args, at) => {
+                self.function(*number, args.as_slice(), *at, depth, room)
+            }
+            _ => self.over(Cut::Memory),
+        }
+    }
+
+    /// A choice between two bodies.
+    #[cycle(walk)]
+    #[inline(never)]
+    fn begin_choice(&mut self, code: &'p Code, depth: u32, room: &mut [Value]) -> Came
+        requires unended { has_end (O.log self.old.store).entries ≡ false }
+        requires steps { self.old.left ≤ self.old.context.steps }
+        ensures base { self.new.base ≡ self.old.base }
+        ensures context { self.new.context ≡ self.old.context }
+        ensures room { length room.new ≡ length room.old }
+        ensures less { self.new.left ≤ self.old.left }
+        ensures unended { has_end (O.log self.new.store).entries ≡ false }
+        ensures kept { Keeps self.old.context.script.now self.old.context.names.now (λ S. fits S code.now) self.old.base room.old room.new }
+        ensures came { Carries self.old.context.script.now self.old.context.names.now self.old.context.steps (λ S. fits S code.now) (λ S k sc d n. begin S (out-Node (erase code.now)) k sc d n) self.old.base depth self.old.left self.new.left room.old room.new (O.log self.old.store) (O.log self.new.store) (outcome result self.new.value self.new.leave) }
+    {
+        match code {
+            Code::If(condition, first, second, _) => self.choose(
+                condition.get(),
+                first.as_slice(),
+                second.as_slice(),
+                depth,
+                room,
+            ),
+            _ => self.over(Cut::Memory),
+        }
+    }
+
+    /// A node of the other kinds whose step is counted.
+    #[cycle(walk)]
+    #[inline(never)]
+    fn begin_other(&mut self, code: &'p Code, depth: u32, room: &mut [Value]) -> Came
+        requires unended { has_end (O.log self.old.store).entries ≡ false }
+        requires steps { self.old.left ≤ self.old.context.steps }
+        ensures base { self.new.base ≡ self.old.base }
+        ensures context { self.new.context ≡ self.old.context }
+        ensures room { length room.new ≡ length room.old }
+        ensures less { self.new.left ≤ self.old.left }
+        ensures unended { has_end (O.log self.new.store).entries ≡ false }
+        ensures kept { Keeps self.old.context.script.now self.old.context.names.now (λ S. fits S code.now) self.old.base room.old room.new }
+        ensures came { Carries self.old.context.script.now self.old.context.names.now self.old.context.steps (λ S. fits S code.now) (λ S k sc d n. begin S (out-Node (erase code.now)) k sc d n) self.old.base depth self.old.left self.new.left room.old room.new (O.log self.old.store) (O.log self.new.store) (outcome result self.new.value self.new.leave) }
+    {
+        match code {
+            Code::Sym(name, _) => self.give(Value::Sym(*name)),
+            Code::Str(pieces, at) => self.text(pieces.as_slice(), *at, depth, room),
             Code::UpdateElement(receiver, index, _, _, at) => {
                 self.read_element(receiver.get(), index.get(), *at, depth, room)
             }
@@ -364,12 +633,6 @@ impl<'p, O: OneStore + Drop> Walker<'p, O> {
             Code::Store(receiver, _, args, at) => {
                 self.store_by(receiver.get(), args.as_slice(), *at, depth, room)
             }
-            Code::Operate(method, _, left, right, at) => {
-                self.operate(*method, left.get(), right.get(), *at, depth, room)
-            }
-            Code::Send(method, _, receiver, args, at) => {
-                self.send(*method, receiver.get(), args.as_slice(), *at, depth, room)
-            }
             Code::Walk(method, _, receiver, args, block, at) => self.send_block(
                 *method,
                 receiver.get(),
@@ -379,20 +642,10 @@ impl<'p, O: OneStore + Drop> Walker<'p, O> {
                 depth,
                 room,
             ),
-            Code::Function(number, _, args, at) => {
-                self.function(*number, args.as_slice(), *at, depth, room)
-            }
             Code::Print(form, _, args, at) => self.print(*form, args.as_slice(), *at, depth, room),
             Code::And(first, second, _) => self.both(first.get(), second.get(), depth, room),
             Code::Or(first, second, _) => self.either(first.get(), second.get(), depth, room),
             Code::Not(value, _) => self.negate(value.get(), depth, room),
-            Code::If(condition, first, second, _) => self.choose(
-                condition.get(),
-                first.as_slice(),
-                second.as_slice(),
-                depth,
-                room,
-            ),
             Code::While(condition, body, _) => {
                 self.repeat(condition.get(), body.as_slice(), depth, room)
             }
@@ -405,6 +658,7 @@ impl<'p, O: OneStore + Drop> Walker<'p, O> {
                 self.leave = Leave::Next;
                 Came::Left
             }
+            _ => self.over(Cut::Memory),
         }
     }
 
@@ -430,6 +684,7 @@ impl<'p, O: OneStore + Drop> Walker<'p, O> {
 
     /// An assignment with an operator to a local.
     #[cycle(walk)]
+    #[inline(never)]
     fn update_local(
         &mut self,
         slot: u32,
@@ -476,8 +731,9 @@ impl<'p, O: OneStore + Drop> Walker<'p, O> {
         }
     }
 
-    /// What the operator of an assignment makes of the value that its target has. Over an integer and a leaf that is one it calls nothing of the walk.
+    /// What the operator of an assignment makes of the value that its target has.
     #[cycle(walk)]
+    #[inline(always)]
     fn combine(
         &mut self,
         current: Came,
@@ -498,13 +754,65 @@ impl<'p, O: OneStore + Drop> Walker<'p, O> {
         ensures kept { Keeps self.old.context.script.now self.old.context.names.now (λ S. fits S value.now) self.old.base room.old room.new }
         ensures came { Carries self.old.context.script.now self.old.context.names.now self.old.context.steps (λ S. fits S value.now) (λ S k sc d n. On (Eval (erase value.now)) (Then (RightOf (value_of current self.old.value) op at) ∷ k) sc d n) self.old.base depth self.old.left self.new.left room.old room.new (O.log self.old.store) (O.log self.new.store) (outcome result self.new.value self.new.leave) }
     {
-        let method = method_of(op);
-        if self.left > 0 && depth < MAX_DEPTH {
-            if let Some(answer) = quick_right(method, current, value, room) {
-                self.left -= 1;
-                return self.answer(answer, at);
-            }
+        match current {
+            Came::Int(m) => self.combine_integer(m, op, value, at, depth, room),
+            _ => self.combine_value(current, op, value, at, depth, room),
         }
+    }
+
+    /// What the operator of an assignment makes of an integer that its target has.
+    #[cycle(walk)]
+    #[inline(always)]
+    fn combine_integer(
+        &mut self,
+        m: i64,
+        op: AssignOp,
+        value: &'p Code,
+        at: Span,
+        depth: u32,
+        room: &mut [Value],
+    ) -> Came
+        requires unended { has_end (O.log self.old.store).entries ≡ false }
+        requires steps { self.old.left ≤ self.old.context.steps }
+        ensures base { self.new.base ≡ self.old.base }
+        ensures context { self.new.context ≡ self.old.context }
+        ensures room { length room.new ≡ length room.old }
+        ensures less { self.new.left ≤ self.old.left }
+        ensures unended { has_end (O.log self.new.store).entries ≡ false }
+        ensures kept { Keeps self.old.context.script.now self.old.context.names.now (λ S. fits S value.now) self.old.base room.old room.new }
+        ensures came { Carries self.old.context.script.now self.old.context.names.now self.old.context.steps (λ S. fits S value.now) (λ S k sc d n. On (Eval (erase value.now)) (Then (RightOf (Int m) op at) ∷ k) sc d n) self.old.base depth self.old.left self.new.left room.old room.new (O.log self.old.store) (O.log self.new.store) (outcome result self.new.value self.new.leave) }
+    {
+        let came = self.walk(value, depth, room);
+        if is_left(came) {
+            return came;
+        }
+        self.operated_by(method_of(op), m, came, at)
+    }
+
+    /// What the operator of an assignment makes of any value that its target has.
+    #[cycle(walk)]
+    #[inline(never)]
+    fn combine_value(
+        &mut self,
+        current: Came,
+        op: AssignOp,
+        value: &'p Code,
+        at: Span,
+        depth: u32,
+        room: &mut [Value],
+    ) -> Came
+        requires unended { has_end (O.log self.old.store).entries ≡ false }
+        requires steps { self.old.left ≤ self.old.context.steps }
+        requires came { is_left current ≡ false }
+        ensures base { self.new.base ≡ self.old.base }
+        ensures context { self.new.context ≡ self.old.context }
+        ensures room { length room.new ≡ length room.old }
+        ensures less { self.new.left ≤ self.old.left }
+        ensures unended { has_end (O.log self.new.store).entries ≡ false }
+        ensures kept { Keeps self.old.context.script.now self.old.context.names.now (λ S. fits S value.now) self.old.base room.old room.new }
+        ensures came { Carries self.old.context.script.now self.old.context.names.now self.old.context.steps (λ S. fits S value.now) (λ S k sc d n. On (Eval (erase value.now)) (Then (RightOf (value_of current self.old.value) op at) ∷ k) sc d n) self.old.base depth self.old.left self.new.left room.old room.new (O.log self.old.store) (O.log self.new.store) (outcome result self.new.value self.new.leave) }
+    {
+        let method = method_of(op);
         let receiver = self.take(current);
         let came = self.walk(value, depth, room);
         if is_left(came) {
@@ -514,7 +822,39 @@ impl<'p, O: OneStore + Drop> Walker<'p, O> {
         self.operated(method, &receiver, arg, at)
     }
 
+    /// A call of a method of an integer with one argument that came.
+    #[inline(always)]
+    fn operated_by(&mut self, method: Option<Builtin>, m: i64, came: Came, at: Span) -> Came
+        ensures gives { (name : List ℕ) → builtin_of name ≡ method → OrMemory (outcome_of (deed self.old.context.names.now (Int m) name (value_of came self.old.value ∷ []) None) at) (outcome result self.new.value self.new.leave) }
+        ensures base { self.new.base ≡ self.old.base }
+        ensures left { self.new.left ≡ self.old.left }
+        ensures context { self.new.context ≡ self.old.context }
+        ensures store { self.new.store ≡ self.old.store }
+    {
+        match came {
+            Came::Int(n) => match operation_by(method, m, n) {
+                Some(answer) => self.answer(answer, at),
+                None => self.operated_any(method, m, came, at),
+            },
+            _ => self.operated_any(method, m, came, at),
+        }
+    }
+
+    /// Any call of a method of an integer with one argument that came.
+    #[inline(never)]
+    fn operated_any(&mut self, method: Option<Builtin>, m: i64, came: Came, at: Span) -> Came
+        ensures gives { (name : List ℕ) → builtin_of name ≡ method → OrMemory (outcome_of (deed self.old.context.names.now (Int m) name (value_of came self.old.value ∷ []) None) at) (outcome result self.new.value self.new.leave) }
+        ensures base { self.new.base ≡ self.old.base }
+        ensures left { self.new.left ≡ self.old.left }
+        ensures context { self.new.context ≡ self.old.context }
+        ensures store { self.new.store ≡ self.old.store }
+    {
+        let arg = self.take(came);
+        self.operated(method, &Value::Int(m), arg, at)
+    }
+
     /// A call with one argument that is evaluated.
+    #[inline(never)]
     fn operated(&mut self, method: Option<Builtin>, receiver: &Value, arg: Value, at: Span) -> Came
         ensures gives { (name : List ℕ) → builtin_of name ≡ method → OrMemory (outcome_of (deed self.old.context.names.now (plain receiver.now) name (plain arg ∷ []) None) at) (outcome result self.new.value self.new.leave) }
         ensures base { self.new.base ≡ self.old.base }
@@ -661,7 +1001,7 @@ impl<'p, O: OneStore + Drop> Walker<'p, O> {
         self.raise(Fault::NoMethod, at)
     }
 
-    /// A call with one argument. Over two leaves that are integers it calls nothing of the walk.
+    /// A call with one argument: the receiver first.
     #[cycle(walk)]
     fn operate(
         &mut self,
@@ -682,16 +1022,68 @@ impl<'p, O: OneStore + Drop> Walker<'p, O> {
         ensures kept { (name : NameId) → Keeps self.old.context.script.now self.old.context.names.now (numbered method name (both (λ S. fits S left.now) (λ S. fits S right.now))) self.old.base room.old room.new }
         ensures came { (name : NameId) → Carries self.old.context.script.now self.old.context.names.now self.old.context.steps (numbered method name (both (λ S. fits S left.now) (λ S. fits S right.now))) (λ S k sc d n. On (Eval (erase left.now)) (Then (ReceiverOf (text_of S name) (erase right.now ∷ []) None at) ∷ k) sc d n) self.old.base depth self.old.left self.new.left room.old room.new (O.log self.old.store) (O.log self.new.store) (outcome result self.new.value self.new.leave) }
     {
-        if self.left > 1 && depth < MAX_DEPTH {
-            if let Some(answer) = quick(method, left, right, room) {
-                self.left -= 2;
-                return self.answer(answer, at);
-            }
-        }
         let came = self.walk(left, depth, room);
         if is_left(came) {
             return came;
         }
+        match came {
+            Came::Int(m) => self.operate_integer(m, method, right, at, depth, room),
+            _ => self.operate_value(came, method, right, at, depth, room),
+        }
+    }
+
+    /// The argument of a call whose receiver is an integer.
+    #[cycle(walk)]
+    #[inline(always)]
+    fn operate_integer(
+        &mut self,
+        m: i64,
+        method: Option<Builtin>,
+        right: &'p Code,
+        at: Span,
+        depth: u32,
+        room: &mut [Value],
+    ) -> Came
+        requires unended { has_end (O.log self.old.store).entries ≡ false }
+        requires steps { self.old.left ≤ self.old.context.steps }
+        ensures base { self.new.base ≡ self.old.base }
+        ensures context { self.new.context ≡ self.old.context }
+        ensures room { length room.new ≡ length room.old }
+        ensures less { self.new.left ≤ self.old.left }
+        ensures unended { has_end (O.log self.new.store).entries ≡ false }
+        ensures kept { (name : NameId) → Keeps self.old.context.script.now self.old.context.names.now (numbered method name (λ S. fits S right.now)) self.old.base room.old room.new }
+        ensures came { (name : NameId) → Carries self.old.context.script.now self.old.context.names.now self.old.context.steps (numbered method name (λ S. fits S right.now)) (λ S k sc d n. On (Eval (erase right.now)) (Then (Argument (OnReceiver (Int m) (text_of S name) None) [] [] at) ∷ k) sc d n) self.old.base depth self.old.left self.new.left room.old room.new (O.log self.old.store) (O.log self.new.store) (outcome result self.new.value self.new.leave) }
+    {
+        let came = self.walk(right, depth, room);
+        if is_left(came) {
+            return came;
+        }
+        self.operated_by(method, m, came, at)
+    }
+
+    /// The argument of a call whose receiver is any value.
+    #[cycle(walk)]
+    #[inline(never)]
+    fn operate_value(
+        &mut self,
+        came: Came,
+        method: Option<Builtin>,
+        right: &'p Code,
+        at: Span,
+        depth: u32,
+        room: &mut [Value],
+    ) -> Came
+        requires unended { has_end (O.log self.old.store).entries ≡ false }
+        requires steps { self.old.left ≤ self.old.context.steps }
+        requires came { is_left came ≡ false }
+        ensures base { self.new.base ≡ self.old.base }
+        ensures context { self.new.context ≡ self.old.context }
+        ensures room { length room.new ≡ length room.old }
+        ensures less { self.new.left ≤ self.old.left }
+        ensures unended { has_end (O.log self.new.store).entries ≡ false }
+        ensures kept { (name : NameId) → Keeps self.old.context.script.now self.old.context.names.now (numbered method name (λ S. fits S right.now)) self.old.base room.old room.new }
+        ensures came { (name : NameId) → Carries self.old.context.script.now self.old.context.names.now self.old.context.steps (numbered method name (λ S. fits S right.now)) (λ S k sc d n. On (Eval (erase right.now)) (Then (Argument (OnReceiver (value_of came self.old.value) (text_of S name) None) [] [] at) ∷ k) sc d n) self.old.base depth self.old.left self.new.left room.old room.new (O.log self.old.store) (O.log self.new.store) (outcome result self.new.value self.new.leave) }
+    {
         let receiver = self.take(came);
         let came = self.walk(right, depth, room);
         if is_left(came) {
@@ -703,6 +1095,7 @@ impl<'p, O: OneStore + Drop> Walker<'p, O> {
 
     /// A call with a receiver, without a block.
     #[cycle(walk)]
+    #[inline(never)]
     fn send(
         &mut self,
         method: Option<Builtin>,
@@ -786,7 +1179,7 @@ impl<'p, O: OneStore + Drop> Walker<'p, O> {
         ensures store { self.new.store ≡ self.old.store }
     {
         let Some(count) = count_of(params) else {
-            return Err(self.over(End::Memory));
+            return Err(self.over(Cut::Memory));
         };
         match deed_of(
             self.context.alloc,
@@ -802,7 +1195,7 @@ impl<'p, O: OneStore + Drop> Walker<'p, O> {
                 Ok(rounds) => Ok(rounds),
                 Err(answer) => Err(Came::Int(answer)),
             },
-            Err(_) => Err(self.over(End::Memory)),
+            Err(_) => Err(self.over(Cut::Memory)),
         }
     }
 
@@ -873,13 +1266,13 @@ impl<'p, O: OneStore + Drop> Walker<'p, O> {
         let from = block.from as usize;
         let count = block.count as usize;
         if room.len() < from || room.len() - from < count {
-            return self.over(End::Memory);
+            return self.over(Cut::Memory);
         }
         let takes = !block.params.is_empty();
         let mut next = first;
         'turns: loop {
             if self.left == 0 {
-                return self.over(End::Steps);
+                return self.over(Cut::Steps);
             }
             self.left -= 1;
             start_block(room, from, count, takes, next);
@@ -916,12 +1309,12 @@ impl<'p, O: OneStore + Drop> Walker<'p, O> {
     {
         let script = self.context.script;
         let Some(method) = script.functions.get(number as usize) else {
-            return self.over(End::Memory);
+            return self.over(Cut::Memory);
         };
         let before = self.base;
         let size = method.size as usize;
         if room.len() < before || room.len() - before < size {
-            return self.over(End::Memory);
+            return self.over(Cut::Memory);
         }
         let came = self.arguments(args, depth, room);
         self.base = before;
@@ -972,6 +1365,35 @@ impl<'p, O: OneStore + Drop> Walker<'p, O> {
         self.shown_value(form, passed(room, before, args.len()))
     }
 
+    /// Puts the value that came behind the frame.
+    #[inline(always)]
+    fn pass(&mut self, came: Came, room: &mut [Value])
+        requires within { self.old.base < length room.old }
+        ensures passed { Passed self.old.base (value_of came self.old.value) room.old room.new }
+        ensures base { self.new.base ≡ self.old.base }
+        ensures left { self.new.left ≡ self.old.left }
+        ensures context { self.new.context ≡ self.old.context }
+        ensures store { self.new.store ≡ self.old.store }
+    {
+        match came {
+            Came::Int(n) => put(room, self.base, n),
+            _ => self.pass_any(came, room),
+        }
+    }
+
+    /// Puts any value that came behind the frame.
+    #[inline(never)]
+    fn pass_any(&mut self, came: Came, room: &mut [Value])
+        requires within { self.old.base < length room.old }
+        ensures passed { Passed self.old.base (value_of came self.old.value) room.old room.new }
+        ensures base { self.new.base ≡ self.old.base }
+        ensures left { self.new.left ≡ self.old.left }
+        ensures context { self.new.context ≡ self.old.context }
+        ensures store { self.new.store ≡ self.old.store }
+    {
+        room[self.base] = self.take(came);
+    }
+
     /// The arguments, each behind the frame and in it from then on.
     #[cycle(walk)]
     fn arguments(&mut self, args: &'p [Code], depth: u32, room: &mut [Value]) -> Came
@@ -993,9 +1415,9 @@ impl<'p, O: OneStore + Drop> Walker<'p, O> {
                 return came;
             }
             if self.base >= room.len() {
-                return self.over(End::Memory);
+                return self.over(Cut::Memory);
             }
-            room[self.base] = self.take(came);
+            self.pass(came, room);
             self.base += 1;
         }
         Came::Nil
@@ -1019,7 +1441,7 @@ impl<'p, O: OneStore + Drop> Walker<'p, O> {
             match piece {
                 CodePiece::Text(text) => {
                     if let Err(_) = add_bytes(&mut bytes, text.as_slice()) {
-                        return self.over(End::Memory);
+                        return self.over(Cut::Memory);
                     }
                 }
                 CodePiece::Code(code) => {
@@ -1034,7 +1456,7 @@ impl<'p, O: OneStore + Drop> Walker<'p, O> {
                         self.context.names,
                         value,
                     ) {
-                        return self.over(End::Memory);
+                        return self.over(Cut::Memory);
                     }
                 }
             }
@@ -1044,7 +1466,7 @@ impl<'p, O: OneStore + Drop> Walker<'p, O> {
         }
         match SharedText::from_vec(self.context.alloc, bytes) {
             Ok(text) => self.give(Value::Str(text)),
-            Err(_) => self.over(End::Memory),
+            Err(_) => self.over(Cut::Memory),
         }
     }
 
@@ -1315,7 +1737,7 @@ impl<'p, O: OneStore + Drop> Walker<'p, O> {
         let script = self.context.script;
         let size = script.main_size as usize;
         if size > room.len() {
-            return self.over(End::Memory);
+            return self.over(Cut::Memory);
         }
         clear(room, 0, size);
         self.body(script.main.as_slice(), 0, room)

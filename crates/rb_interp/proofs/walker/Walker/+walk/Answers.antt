@@ -1,4 +1,7 @@
-use Rattle.rb_interp.specs.Carries.{goes_on, plainly, updating, scope_of, unwritten, printing}
+use Rattle.rb_machine.proofs.Down.{begin_left}
+use Rattle.rb_tree.specs.declared.node.Node.{out-Node}
+use Rattle.rb_interp.specs.Answers.{OrMemory, outcome_of}
+use Rattle.rb_interp.specs.Carries.{numbered, goes_on, plainly, updating, scope_of, unwritten, printing}
 use Rattle.rb_code.proofs.Slots.{slot_within}
 use Rattle.std.proofs.Common.{rules, to_z, of_z, w64, ◌≡◌, ap, sym, ◌∙◌, refl, ℕ, List, [], ◌∷◌, ◌++◌, take, drop, map, length, ◌+◌, ◌-◌, ◌<◌, ◌≤◌, Some, None, true, false, arith}
 use Rattle.std.proofs.lemmas.List.{drop_all}
@@ -10,14 +13,15 @@ use Rattle.rb_code.specs.Resolved.{fits, every, if_some, block_fits}
 use Rattle.rb_code.proofs.Showing.{shows-nil, shows-false, shows-true, shows-int, shows-sym, shows-local, shows-and, shows-or, shows-not, shows-if, shows-break, shows-next, shows-set_local, shows-while, shows-return, shows-str, shows-update_local, shows-update_element, shows-update_attribute, shows-store, shows-operate, shows-send, shows-walk, shows-function, shows-print}
 use Rattle.rb_code.proofs.Fitting.{fits-local, fits-and, fits-or, fits-not, fits-if, fits-set_local, fits-while, fits-return, fits-str, fits-update_local, fits-update_element, fits-update_attribute, fits-store, fits-operate, fits-send, fits-walk, fits-function, fits-print}
 use Rattle.rb_interp.specs.Outcome.{value_of, outcome}
-use Rattle.rb_interp.proofs.Moves.{test_true, test_false, on, same, begins, follows, counts, too_many, too_deep, left}
-use Rattle.rb_interp.proofs.Lists.{fst, snd, next_item, len_set, len_map, len_args, get_set, fst_two, nothing, front}
+use Rattle.rb_interp.proofs.Moves.{gives, test_true, test_false, on, same, begins, follows, counts, too_many, too_deep, left}
+use Rattle.rb_interp.proofs.Lists.{two, fst, snd, next_item, len_set, len_map, len_args, get_set, fst_two, nothing, front}
 use Rattle.rb_interp.proofs.Rooms.{sub, moved, every_item, lies, frame_back}
 use Rattle.rb_interp.proofs.Outcomes.{gave, given, comes, passes, gone, again, again_out, tested_again, tested_out, called, turn_too_many, turns_end}
 use Rattle.rb_interp.proofs.Steps.{and_goes, and_stops, or_goes, or_stops, negated, chosen_first, chosen_second, assigned, kept_write}
 use Rattle.rb_machine.specs.Scopes.{text_of}
 use Rattle.rb_builtin.specs.Names.{builtin_of}
 use Rattle.rb_builtin.proofs.Table.{same_is}
+use Rattle.rb_interp.proofs.Quick.{calls_held, calls_pair, updates}
 use Rattle.rb_interp.proofs.Calls.{calls, no_such}
 use Rattle.rb_interp.proofs.Places.{operator_number, or_else_stays, or_else_goes, and_then_stays, and_then_goes, operates, reads, left_unwritten, target_local, target_element, target_attribute}
 use mathlib.Core.Logic.{inl}
@@ -66,73 +70,73 @@ begin-returns-in-Int-clause-came g m c = λ S start h k me names size st e l a.
     let z : to_z w64 (of_z w64 c.in-Int.n) ≡ c.in-Int.n = search rules in
     rw z (begins _ _ k _ _ _ (shows-int c.args.code.now c.in-Int.n c.in-Int.field-1 c.in-Int.is) a)
 
-pub begin-returns-in-Sym-clause-came : goal.begin-returns-in-Sym-clause-came
-begin-returns-in-Sym-clause-came g m c = λ S start h k me names size st e l a.
+pub begin_other-returns-in-Sym-clause-came : goal.begin_other-returns-in-Sym-clause-came
+begin_other-returns-in-Sym-clause-came g m c = λ S start h k me names size st e l a.
     rw (c.give.ensures.gives, c.give.ensures.left, c.give.ensures.store) (begins _ _ k _ _ _ (shows-sym c.args.code.now c.in-Sym.name c.in-Sym.field-1 c.in-Sym.is) a)
 
-pub begin-returns-in-Break-clause-came : goal.begin-returns-in-Break-clause-came
-begin-returns-in-Break-clause-came g m c = λ S start h k me names size st e l a.
+pub begin_other-returns-in-Break-clause-came : goal.begin_other-returns-in-Break-clause-came
+begin_other-returns-in-Break-clause-came g m c = λ S start h k me names size st e l a.
     begins _ _ k _ _ _ (shows-break c.args.code.now c.in-Break.field-0 c.in-Break.is) a
 
-pub begin-returns-in-Next-clause-came : goal.begin-returns-in-Next-clause-came
-begin-returns-in-Next-clause-came g m c = λ S start h k me names size st e l a.
+pub begin_other-returns-in-Next-clause-came : goal.begin_other-returns-in-Next-clause-came
+begin_other-returns-in-Next-clause-came g m c = λ S start h k me names size st e l a.
     begins _ _ k _ _ _ (shows-next c.args.code.now c.in-Next.field-0 c.in-Next.is) a
 
-pub begin-returns-in-And-clause-kept : goal.begin-returns-in-And-clause-kept
-begin-returns-in-And-clause-kept g m c = λ S names size st e l i p q.
+pub begin_other-returns-in-And-clause-kept : goal.begin_other-returns-in-And-clause-kept
+begin_other-returns-in-And-clause-kept g m c = λ S names size st e l i p q.
     let x = c.in-And in
     let s = sym (ap (λ d. fits S d names size) x.is ∙ fits-and S names size x.first x.second x.field-2) ∙ l.fits in
     let under = sub _ l (rw (c.get-in-And.ensures, c.get-in-And-2.ensures) s) in
     c.both.ensures.kept S names size st e under i p q
 
-pub begin-returns-in-And-clause-came : goal.begin-returns-in-And-clause-came
-begin-returns-in-And-clause-came g m c = λ S start h k me names size st e l a.
+pub begin_other-returns-in-And-clause-came : goal.begin_other-returns-in-And-clause-came
+begin_other-returns-in-And-clause-came g m c = λ S start h k me names size st e l a.
     let x = c.in-And in
     let s = sym (ap (λ d. fits S d names size) x.is ∙ fits-and S names size x.first x.second x.field-2) ∙ l.fits in
     let under = sub _ l (rw (c.get-in-And.ensures, c.get-in-And-2.ensures) s) in
     c.both.ensures.came S start h k me names size st e under (rw (c.get-in-And.ensures, c.get-in-And-2.ensures) (begins _ _ k _ _ _ (shows-and c.args.code.now x.first x.second x.field-2 x.is) a))
 
-pub begin-returns-in-Or-clause-kept : goal.begin-returns-in-Or-clause-kept
-begin-returns-in-Or-clause-kept g m c = λ S names size st e l i p q.
+pub begin_other-returns-in-Or-clause-kept : goal.begin_other-returns-in-Or-clause-kept
+begin_other-returns-in-Or-clause-kept g m c = λ S names size st e l i p q.
     let x = c.in-Or in
     let s = sym (ap (λ d. fits S d names size) x.is ∙ fits-or S names size x.first x.second x.field-2) ∙ l.fits in
     let under = sub _ l (rw (c.get-in-Or.ensures, c.get-in-Or-2.ensures) s) in
     c.either.ensures.kept S names size st e under i p q
 
-pub begin-returns-in-Or-clause-came : goal.begin-returns-in-Or-clause-came
-begin-returns-in-Or-clause-came g m c = λ S start h k me names size st e l a.
+pub begin_other-returns-in-Or-clause-came : goal.begin_other-returns-in-Or-clause-came
+begin_other-returns-in-Or-clause-came g m c = λ S start h k me names size st e l a.
     let x = c.in-Or in
     let s = sym (ap (λ d. fits S d names size) x.is ∙ fits-or S names size x.first x.second x.field-2) ∙ l.fits in
     let under = sub _ l (rw (c.get-in-Or.ensures, c.get-in-Or-2.ensures) s) in
     c.either.ensures.came S start h k me names size st e under (rw (c.get-in-Or.ensures, c.get-in-Or-2.ensures) (begins _ _ k _ _ _ (shows-or c.args.code.now x.first x.second x.field-2 x.is) a))
 
-pub begin-returns-in-Not-clause-kept : goal.begin-returns-in-Not-clause-kept
-begin-returns-in-Not-clause-kept g m c = λ S names size st e l i p q.
+pub begin_other-returns-in-Not-clause-kept : goal.begin_other-returns-in-Not-clause-kept
+begin_other-returns-in-Not-clause-kept g m c = λ S names size st e l i p q.
     let x = c.in-Not in
     let s = sym (ap (λ d. fits S d names size) x.is ∙ fits-not S names size x.value x.field-1) ∙ l.fits in
     let under = sub _ l (rw c.get-in-Not.ensures s) in
     c.negate.ensures.kept S names size st e under i p q
 
-pub begin-returns-in-Not-clause-came : goal.begin-returns-in-Not-clause-came
-begin-returns-in-Not-clause-came g m c = λ S start h k me names size st e l a.
+pub begin_other-returns-in-Not-clause-came : goal.begin_other-returns-in-Not-clause-came
+begin_other-returns-in-Not-clause-came g m c = λ S start h k me names size st e l a.
     let x = c.in-Not in
     let s = sym (ap (λ d. fits S d names size) x.is ∙ fits-not S names size x.value x.field-1) ∙ l.fits in
     let under = sub _ l (rw c.get-in-Not.ensures s) in
     c.negate.ensures.came S start h k me names size st e under (rw c.get-in-Not.ensures (begins _ _ k _ _ _ (shows-not c.args.code.now x.value x.field-1 x.is) a))
 
-pub begin-returns-in-If-clause-kept : goal.begin-returns-in-If-clause-kept
-begin-returns-in-If-clause-kept g m c = λ S names size st e l i p q.
+pub begin_choice-returns-in-If-clause-kept : goal.begin_choice-returns-in-If-clause-kept
+begin_choice-returns-in-If-clause-kept g m c = λ S names size st e l i p q.
     let x = c.in-If in
     let s = sym (ap (λ d. fits S d names size) x.is ∙ fits-if S names size x.condition x.first x.second x.field-3) ∙ l.fits in
-    let under = sub _ l (rw (c.get-in-If.ensures, c.as_slice-in-If.ensures, c.as_slice-in-If-2.ensures) s) in
+    let under = sub _ l (rw (c.get.ensures, c.as_slice.ensures, c.as_slice-in-If.ensures) s) in
     c.choose.ensures.kept S names size st e under i p q
 
-pub begin-returns-in-If-clause-came : goal.begin-returns-in-If-clause-came
-begin-returns-in-If-clause-came g m c = λ S start h k me names size st e l a.
+pub begin_choice-returns-in-If-clause-came : goal.begin_choice-returns-in-If-clause-came
+begin_choice-returns-in-If-clause-came g m c = λ S start h k me names size st e l a.
     let x = c.in-If in
     let s = sym (ap (λ d. fits S d names size) x.is ∙ fits-if S names size x.condition x.first x.second x.field-3) ∙ l.fits in
-    let under = sub _ l (rw (c.get-in-If.ensures, c.as_slice-in-If.ensures, c.as_slice-in-If-2.ensures) s) in
-    c.choose.ensures.came S start h k me names size st e under (rw (c.get-in-If.ensures, c.as_slice-in-If.ensures, c.as_slice-in-If-2.ensures) (begins _ _ k _ _ _ (shows-if c.args.code.now x.condition x.first x.second x.field-3 x.is) a))
+    let under = sub _ l (rw (c.get.ensures, c.as_slice.ensures, c.as_slice-in-If.ensures) s) in
+    c.choose.ensures.came S start h k me names size st e under (rw (c.get.ensures, c.as_slice.ensures, c.as_slice-in-If.ensures) (begins _ _ k _ _ _ (shows-if c.args.code.now x.condition x.first x.second x.field-3 x.is) a))
 
 pub both-returns-then-is_left-clause-came : goal.both-returns-then-is_left-clause-came
 both-returns-then-is_left-clause-came g m c = λ S start h k me names size st e l a.
@@ -353,29 +357,29 @@ begin-returns-in-Local-clause-came g m c = λ S start h k me names size st e l a
     let r = c.read in
     rw (r.ensures.left, r.ensures.store) (reads S _ start h _ k c.args.depth _ x.field-1 names c.args.room.now x.slot me (outcome r.result r.new.self.value r.new.self.leave) len s r.ensures.gives b)
 
-pub begin-returns-in-SetLocal-clause-kept : goal.begin-returns-in-SetLocal-clause-kept
-begin-returns-in-SetLocal-clause-kept g m c = λ S names size st e l i p q.
+pub begin_set-returns-in-SetLocal-clause-kept : goal.begin_set-returns-in-SetLocal-clause-kept
+begin_set-returns-in-SetLocal-clause-kept g m c = λ S names size st e l i p q.
     let x = c.in-SetLocal in
     let s = sym (ap (λ d. fits S d names size) x.is ∙ fits-set_local S names size x.slot x.field-1 x.value x.field-3) ∙ l.fits in
     let under = sub _ l (rw c.get.ensures s) in
     c.set_local.ensures.kept x.field-1 S names size st e under i p q
 
-pub begin-returns-in-SetLocal-clause-came : goal.begin-returns-in-SetLocal-clause-came
-begin-returns-in-SetLocal-clause-came g m c = λ S start h k me names size st e l a.
+pub begin_set-returns-in-SetLocal-clause-came : goal.begin_set-returns-in-SetLocal-clause-came
+begin_set-returns-in-SetLocal-clause-came g m c = λ S start h k me names size st e l a.
     let x = c.in-SetLocal in
     let s = sym (ap (λ d. fits S d names size) x.is ∙ fits-set_local S names size x.slot x.field-1 x.value x.field-3) ∙ l.fits in
     let under = sub _ l (rw c.get.ensures s) in
     c.set_local.ensures.came x.field-1 (AssignTo x.field-1) plainly S start h k me names size st e under (rw c.get.ensures (begins _ _ k _ _ _ (shows-set_local c.args.code.now x.slot x.field-1 x.value x.field-3 x.is) a))
 
-pub begin-returns-in-While-clause-kept : goal.begin-returns-in-While-clause-kept
-begin-returns-in-While-clause-kept g m c = λ S names size st e l i p q.
+pub begin_other-returns-in-While-clause-kept : goal.begin_other-returns-in-While-clause-kept
+begin_other-returns-in-While-clause-kept g m c = λ S names size st e l i p q.
     let x = c.in-While in
     let s = sym (ap (λ d. fits S d names size) x.is ∙ fits-while S names size x.condition x.body x.field-2) ∙ l.fits in
     let under = sub _ l (rw (c.get-in-While.ensures, c.as_slice-in-While.ensures) s) in
     c.repeat.ensures.kept S names size st e under i p q
 
-pub begin-returns-in-While-clause-came : goal.begin-returns-in-While-clause-came
-begin-returns-in-While-clause-came g m c = λ S start h k me names size st e l a.
+pub begin_other-returns-in-While-clause-came : goal.begin_other-returns-in-While-clause-came
+begin_other-returns-in-While-clause-came g m c = λ S start h k me names size st e l a.
     let x = c.in-While in
     let s = sym (ap (λ d. fits S d names size) x.is ∙ fits-while S names size x.condition x.body x.field-2) ∙ l.fits in
     let under = sub _ l (rw (c.get-in-While.ensures, c.as_slice-in-While.ensures) s) in
@@ -574,129 +578,6 @@ refuse_value-returns-clause-came g m c = λ receiver name S start h k me names s
     let g1 = given w.result w.new.self.value w.new.self.leave (sym c.is_left.ensures ∙ c.if-is_left.false) e1 in
     let o = c.raise.ensures in
     rw (o.gives, o.left, o.store) (same (on _ g1 refl) (no_such S receiver (text_of S name ++ codes "=") (v ∷ []) None c.args.at (Then (Instead v) ∷ k) _ _ _ st.classes (fst _ _ l.fits)))
-
-pub operate-returns-then-is_left-clause-came : goal.operate-returns-then-is_left-clause-came
-operate-returns-then-is_left-clause-came g m c = λ name S start h k me names size st e l a.
-    let w = c.walk-came in
-    let e1 = w.ensures.came S start h (Then (ReceiverOf (text_of S name) (erase c.args.right.now ∷ []) None c.args.at) ∷ k) me names size st e (sub (fits S c.args.left.now) l (fst _ _ (snd _ _ l.fits))) a in
-    passes S _ start h w.result w.new.self.value w.new.self.leave _ (ReceiverOf (text_of S name) (erase c.args.right.now ∷ []) None c.args.at) k _ _ _ (sym c.is_left.ensures ∙ c.if-is_left.true) e1
-
-pub operate-returns-then-is_left-clause-kept : goal.operate-returns-then-is_left-clause-kept
-operate-returns-then-is_left-clause-kept g m c = λ name S names size st e l i p q.
-    c.walk-came.ensures.kept S names size st e (sub (fits S c.args.left.now) l (fst _ _ (snd _ _ l.fits))) i p q
-
-pub operate-returns-then-is_left-2-clause-came : goal.operate-returns-then-is_left-2-clause-came
-operate-returns-then-is_left-2-clause-came g m c = λ name S start h k me names size st e l a.
-    let w = c.walk-came in
-    let e1 = w.ensures.came S start h (Then (ReceiverOf (text_of S name) (erase c.args.right.now ∷ []) None c.args.at) ∷ k) me names size st e (sub (fits S c.args.left.now) l (fst _ _ (snd _ _ l.fits))) a in
-    let first = value_of w.result w.new.self.value in
-    let g1 = given w.result w.new.self.value w.new.self.leave (sym c.is_left.ensures ∙ c.if-is_left.false) e1 in
-    let t = c.take-receiver in
-    let u = c.walk-came-2 in
-    let under = moved _ _ (t.ensures.base ∙ w.ensures.base) w.ensures.room (sub (fits S c.args.right.now) l (snd _ _ (snd _ _ l.fits))) in
-    let f = rw (t.ensures.context, t.ensures.left, t.ensures.store, w.ensures.context) at u.ensures.came in
-    let e2 = f S start h (Then (Argument (OnReceiver first (text_of S name) None) [] [] c.args.at) ∷ k) me names size st e under (on _ (on _ g1 refl) refl) in
-    passes S _ start h u.result u.new.self.value u.new.self.leave _ (Argument (OnReceiver first (text_of S name) None) [] [] c.args.at) k _ _ _ (sym c.is_left-2.ensures ∙ c.if-is_left-2.true) e2
-
-pub operate-returns-then-is_left-2-clause-kept : goal.operate-returns-then-is_left-2-clause-kept
-operate-returns-then-is_left-2-clause-kept g m c = λ name S names size st e l i p q.
-    let w = c.walk-came in
-    let t = c.take-receiver in
-    let u = c.walk-came-2 in
-    let under = moved _ _ (t.ensures.base ∙ w.ensures.base) w.ensures.room (sub (fits S c.args.right.now) l (snd _ _ (snd _ _ l.fits))) in
-    let f = rw (t.ensures.context, w.ensures.context) at u.ensures.kept in
-    f S names size st e under i p (omega (arith, q, w.ensures.base, t.ensures.base)) ∙ w.ensures.kept S names size st e (sub (fits S c.args.left.now) l (fst _ _ (snd _ _ l.fits))) i p q
-
-pub operate-returns-clause-kept : goal.operate-returns-clause-kept
-operate-returns-clause-kept g m c = λ name S names size st e l i p q.
-    let w = c.walk-came in
-    let t = c.take-receiver in
-    let u = c.walk-came-2 in
-    let under = moved _ _ (t.ensures.base ∙ w.ensures.base) w.ensures.room (sub (fits S c.args.right.now) l (snd _ _ (snd _ _ l.fits))) in
-    let f = rw (t.ensures.context, w.ensures.context) at u.ensures.kept in
-    f S names size st e under i p (omega (arith, q, w.ensures.base, t.ensures.base)) ∙ w.ensures.kept S names size st e (sub (fits S c.args.left.now) l (fst _ _ (snd _ _ l.fits))) i p q
-
-pub operate-returns-clause-came : goal.operate-returns-clause-came
-operate-returns-clause-came g m c = λ name S start h k me names size st e l a.
-    let w = c.walk-came in
-    let e1 = w.ensures.came S start h (Then (ReceiverOf (text_of S name) (erase c.args.right.now ∷ []) None c.args.at) ∷ k) me names size st e (sub (fits S c.args.left.now) l (fst _ _ (snd _ _ l.fits))) a in
-    let first = value_of w.result w.new.self.value in
-    let g1 = given w.result w.new.self.value w.new.self.leave (sym c.is_left.ensures ∙ c.if-is_left.false) e1 in
-    let t = c.take-receiver in
-    let u = c.walk-came-2 in
-    let under = moved _ _ (t.ensures.base ∙ w.ensures.base) w.ensures.room (sub (fits S c.args.right.now) l (snd _ _ (snd _ _ l.fits))) in
-    let f = rw (t.ensures.context, t.ensures.left, t.ensures.store, w.ensures.context) at u.ensures.came in
-    let e2 = f S start h (Then (Argument (OnReceiver first (text_of S name) None) [] [] c.args.at) ∷ k) me names size st e under (on _ (on _ g1 refl) refl) in
-    let g2 = given u.result u.new.self.value u.new.self.leave (sym c.is_left-2.ensures ∙ c.if-is_left-2.false) e2 in
-    let y = c.take-arg in
-    let o = c.operated.ensures in
-    let number = same_is (builtin_of (text_of S name)) c.args.method (fst _ _ l.fits) in
-    let d = rw (y.ensures.context, u.ensures.context, t.ensures.context, w.ensures.context, sym e, t.ensures.value, y.ensures.value) at o.gives (text_of S name) number in
-    rw (o.left, o.store, y.ensures.left, y.ensures.store) (calls S _ start h _ first (text_of S name) (value_of u.result u.new.self.value ∷ []) c.args.at k _ _ _ _ st.classes d (on _ (on _ g2 refl) refl))
-
-pub operate-returns-in-Some-clause-came : goal.operate-returns-in-Some-clause-came
-operate-returns-in-Some-clause-came g m c = λ name S start h k me names size st e l a.
-    let len : length names ≤ length c.args.room.now = omega (arith, l.within, l.below, l.room) in
-    let is = c.in-Some.ensures in
-    let more = c.if-self-gt1.true in
-    let left = c.args.self.now.left in
-    let e1 = is.2 S _ names size c.args.depth left start h _ (Then (ReceiverOf (text_of S name) (erase c.args.right.now ∷ []) None c.args.at) ∷ k) me (fst _ _ (snd _ _ l.fits)) len (omega (arith, more)) c.if-depth-lt-MAX_DEPTH.true a in
-    let e2 = is.3 S _ names size c.args.depth (left - 1) start h _ (Then (Argument (OnReceiver (Int is.0) (text_of S name) None) [] [] c.args.at) ∷ k) me (snd _ _ (snd _ _ l.fits)) len (omega (arith, more)) c.if-depth-lt-MAX_DEPTH.true (on _ (on _ e1 refl) refl) in
-    let number = same_is (builtin_of (text_of S name)) c.args.method (fst _ _ l.fits) in
-    let twice : left - 2 ≡ left - 1 - 1 = omega arith in
-    let o = c.answer.ensures in
-    rw (o.gives, o.left, o.store, twice, sym (is.4 S.program.names (text_of S name) number)) (calls S _ start h _ (Int is.0) (text_of S name) (Int is.1 ∷ []) c.args.at k _ _ _ _ st.classes (inl refl) (on _ (on _ e2 refl) refl))
-
-pub combine-returns-in-Some-clause-came : goal.combine-returns-in-Some-clause-came
-combine-returns-in-Some-clause-came g m c = λ S start h k me names size st e l a.
-    let len : length names ≤ length c.args.room.now = omega (arith, l.within, l.below, l.room) in
-    let is = c.in-Some.ensures in
-    let left = c.args.self.now.left in
-    let v = ap (λ r. value_of r c.args.self.now.value) is.2 in
-    let e0 = same a (ap (λ v. On (Eval (erase c.args.value.now)) (Then (RightOf v c.args.op c.args.at) ∷ k) (scope_of me names c.args.room.now) c.args.depth left) v) in
-    let e1 = is.3 S _ names size c.args.depth left start h _ (Then (RightOf (Int is.0) c.args.op c.args.at) ∷ k) me l.fits len c.if-self-gt0.true c.if-depth-lt-MAX_DEPTH.true e0 in
-    let number = operator_number S c.args.op ∙ sym c.method_of-method.ensures in
-    let o = c.answer.ensures in
-    rw (o.gives, o.left, o.store, sym (is.4 S.program.names (operator S c.args.op) number)) (calls S _ start h _ (Int is.0) (operator S c.args.op) (Int is.1 ∷ []) c.args.at k _ _ _ _ st.classes (inl refl) (on _ e1 refl))
-
-pub combine-returns-then-is_left-clause-came : goal.combine-returns-then-is_left-clause-came
-combine-returns-then-is_left-clause-came g m c = λ S start h k me names size st e l a.
-    let t = c.take-receiver in
-    let w = c.walk-came in
-    let under = moved _ _ t.ensures.base refl (sub (fits S c.args.value.now) l l.fits) in
-    let f = rw (t.ensures.context, t.ensures.left, t.ensures.store) at w.ensures.came in
-    let e1 = f S start h (Then (RightOf (value_of c.args.current c.args.self.now.value) c.args.op c.args.at) ∷ k) me names size st e under a in
-    passes S _ start h w.result w.new.self.value w.new.self.leave _ (RightOf (value_of c.args.current c.args.self.now.value) c.args.op c.args.at) k _ _ _ (sym c.is_left.ensures ∙ c.if-is_left.true) e1
-
-pub combine-returns-clause-came : goal.combine-returns-clause-came
-combine-returns-clause-came g m c = λ S start h k me names size st e l a.
-    let t = c.take-receiver in
-    let w = c.walk-came in
-    let under = moved _ _ t.ensures.base refl (sub (fits S c.args.value.now) l l.fits) in
-    let f = rw (t.ensures.context, t.ensures.left, t.ensures.store) at w.ensures.came in
-    let e1 = f S start h (Then (RightOf (value_of c.args.current c.args.self.now.value) c.args.op c.args.at) ∷ k) me names size st e under a in
-    let g1 = given w.result w.new.self.value w.new.self.leave (sym c.is_left.ensures ∙ c.if-is_left.false) e1 in
-    let y = c.take-arg in
-    let o = c.operated.ensures in
-    let number = operator_number S c.args.op ∙ sym c.method_of-method.ensures in
-    let d = rw (y.ensures.context, w.ensures.context, t.ensures.context, sym e, t.ensures.value, y.ensures.value) at o.gives (operator S c.args.op) number in
-    rw (o.left, o.store, y.ensures.left, y.ensures.store) (calls S _ start h _ (value_of c.args.current c.args.self.now.value) (operator S c.args.op) (value_of w.result w.new.self.value ∷ []) c.args.at k _ _ _ _ st.classes d (on _ g1 refl))
-
-pub combine-returns-then-is_left-clause-kept : goal.combine-returns-then-is_left-clause-kept
-combine-returns-then-is_left-clause-kept g m c = λ S names size st e l i p q.
-    let t = c.take-receiver in
-    let w = c.walk-came in
-    let under = moved _ _ t.ensures.base refl (sub (fits S c.args.value.now) l l.fits) in
-    let f = rw t.ensures.context at w.ensures.kept in
-    f S names size st e under i p (omega (arith, q, t.ensures.base))
-
-pub combine-returns-clause-kept : goal.combine-returns-clause-kept
-combine-returns-clause-kept g m c = λ S names size st e l i p q.
-    let t = c.take-receiver in
-    let w = c.walk-came in
-    let under = moved _ _ t.ensures.base refl (sub (fits S c.args.value.now) l l.fits) in
-    let f = rw t.ensures.context at w.ensures.kept in
-    f S names size st e under i p (omega (arith, q, t.ensures.base))
 
 pub update_local-returns-then-is_left-clause-came : goal.update_local-returns-then-is_left-clause-came
 update_local-returns-then-is_left-clause-came g m c = λ name S start h k me names size st e l a.
@@ -950,48 +831,6 @@ arguments-returns-then-self-room-clause-came g m c = λ aim at S start h k me na
     let o = c.over.ensures in
     only_left _ (over_left c.over.result c.over.new.self.value c.over.new.self.leave _ o.gives) (rw (o.gives, o.left, o.store) (_, v, refl))
 
-pub arguments-each-preserved : goal.arguments-each-preserved
-arguments-each-preserved g m c =
-    let w = c.walk-came.ensures in
-    let t = c.take.ensures in
-    let old = c.each.invariant in
-    let long = len_set c.walk-came.new.room c.take.new.self.base c.take.result in
-    record {
-      base = omega (arith, t.base, w.base, old.base);
-      bound = λ r. omega (arith, long, t.base, c.if-self-room.false);
-      context = t.context ∙ (w.context ∙ old.context);
-      room = long ∙ (w.room ∙ old.room);
-      less = omega (arith, t.left, w.less, old.less);
-      unended = rw t.store w.unended;
-      kept = λ S names size st e l i p q.
-          let loop = c.each in
-          let inv = loop.invariant in
-          let w = c.walk-came in
-          let right = every_item S _ _ c.arg-item.result names size c.each-test.true c.arg-item.is l.fits in
-          let under = lies (fits S c.arg-item.result) names size loop.self.base (length loop.room) right l.within (omega (arith, l.below, inv.base)) (inv.bound l.room) in
-          let f = rw inv.context at w.ensures.kept in
-          get_set w.new.room c.take.new.self.base i _ (λ z. omega (arith, z, q, t.base, w.ensures.base, inv.base)) ∙ (f S names size st e under i p (omega (arith, q, inv.base)) ∙ inv.kept S names size st e l i p q);
-      came = λ aim at S start h k me names size st e l a.
-          let loop = c.each in
-          let inv = loop.invariant in
-          let w = c.walk-came in
-          let right = every_item S _ _ c.arg-item.result names size c.each-test.true c.arg-item.is l.fits in
-          let under = lies (fits S c.arg-item.result) names size loop.self.base (length loop.room) right l.within (omega (arith, l.below, inv.base)) (inv.bound l.room) in
-          let item = next_item _ _ c.arg-item.result c.each-test.true c.arg-item.is in
-          let rest = map erase (drop (loop.arg-index + 1) c.args.args.now) in
-          let step = Argument aim (map plain (take loop.arg-index (drop c.args.self.now.base loop.room))) rest at in
-          let h1 = on _ (passing _ (sym (ap (map erase) item)) (inv.came aim at S start h k me names size st e l a)) refl in
-          let f = rw inv.context at w.ensures.came in
-          let come = f S start h (Then step ∷ k) me names size st e under h1 in
-          let v = value_of w.result w.new.self.value in
-          let base = c.args.self.now.base in
-          let spot : c.take.new.self.base ≡ base + loop.arg-index = t.base ∙ (w.ensures.base ∙ inv.base) in
-          let within : base + loop.arg-index < length w.new.room = omega (arith, w.ensures.base, inv.base, c.if-self-room.false) in
-          let f2 = rw inv.context at w.ensures.kept in
-          let g1 = given w.result w.new.self.value w.new.self.leave (sym c.is_left.ensures ∙ c.if-is_left.false) come in
-          rw (t.left, t.store, spot) (joined me names base loop.arg-index loop.room w.new.room c.take.result v t.value (omega (arith, l.within, l.below)) within (λ j q. f2 S names size st e under (base + j) (omega (arith, l.below)) (omega (arith, q, inv.base))) g1);
-    }
-
 pub arguments-returns-clause-came : goal.arguments-returns-clause-came
 arguments-returns-clause-came g m c = λ aim at S start h k me names size st e l a.
     let inv = c.each.invariant in
@@ -1145,117 +984,89 @@ print-returns-clause-came g m c = λ name S start h k me names size st e l a.
     let m1 = rw (c.passed-2.ensures long) at o.gives in
     rw (o.left, z.ensures.left, o.store) (shown S _ start h _ _ k _ _ _ c.args.form values _ (m1 (rw (len_args r.new.room base count long) right.2)) g1)
 
-pub begin-returns-in-UpdateLocal-clause-kept : goal.begin-returns-in-UpdateLocal-clause-kept
-begin-returns-in-UpdateLocal-clause-kept g m c = λ S names size st e l i p q.
+pub begin_slow_update-returns-in-UpdateLocal-clause-kept : goal.begin_slow_update-returns-in-UpdateLocal-clause-kept
+begin_slow_update-returns-in-UpdateLocal-clause-kept g m c = λ S names size st e l i p q.
     let x = c.in-UpdateLocal in
     let s = sym (ap (λ d. fits S d names size) x.is ∙ fits-update_local S names size x.slot x.field-1 x.op x.value x.at) ∙ l.fits in
-    let under = sub _ l (rw c.get-in-UpdateLocal.ensures s) in
+    let under = sub _ l (rw c.get.ensures s) in
     c.update_local.ensures.kept x.field-1 S names size st e under i p q
 
-pub begin-returns-in-UpdateLocal-clause-came : goal.begin-returns-in-UpdateLocal-clause-came
-begin-returns-in-UpdateLocal-clause-came g m c = λ S start h k me names size st e l a.
+pub begin_slow_update-returns-in-UpdateLocal-clause-came : goal.begin_slow_update-returns-in-UpdateLocal-clause-came
+begin_slow_update-returns-in-UpdateLocal-clause-came g m c = λ S start h k me names size st e l a.
     let x = c.in-UpdateLocal in
     let s = sym (ap (λ d. fits S d names size) x.is ∙ fits-update_local S names size x.slot x.field-1 x.op x.value x.at) ∙ l.fits in
-    let under = sub _ l (rw c.get-in-UpdateLocal.ensures s) in
-    c.update_local.ensures.came x.field-1 S start h k me names size st e under (rw c.get-in-UpdateLocal.ensures (same (begins _ _ k _ _ _ (shows-update_local c.args.code.now x.slot x.field-1 x.op x.value x.at x.is) a) (target_local S x.field-1 x.op (erase x.value) x.at k (scope_of me names c.args.room.now) c.args.depth c.args.self.now.left)))
+    let under = sub _ l (rw c.get.ensures s) in
+    c.update_local.ensures.came x.field-1 S start h k me names size st e under (rw c.get.ensures (same (begins _ _ k _ _ _ (shows-update_local c.args.code.now x.slot x.field-1 x.op x.value x.at x.is) a) (target_local S x.field-1 x.op (erase x.value) x.at k (scope_of me names c.args.room.now) c.args.depth c.args.self.now.left)))
 
-pub begin-returns-in-UpdateElement-clause-kept : goal.begin-returns-in-UpdateElement-clause-kept
-begin-returns-in-UpdateElement-clause-kept g m c = λ S names size st e l i p q.
+pub begin_other-returns-in-UpdateElement-clause-kept : goal.begin_other-returns-in-UpdateElement-clause-kept
+begin_other-returns-in-UpdateElement-clause-kept g m c = λ S names size st e l i p q.
     let x = c.in-UpdateElement in
     let s = sym (ap (λ d. fits S d names size) x.is ∙ fits-update_element S names size x.receiver x.index x.field-2 x.field-3 x.at) ∙ l.fits in
     let both = fst_two (fits S x.receiver names size) (fits S x.index names size) (fits S x.field-3 names size) s in
-    let under = sub _ l (rw (c.get-in-UpdateElement.ensures, c.get-in-UpdateElement-2.ensures) both) in
+    let under = sub _ l (rw (c.get.ensures, c.get-in-UpdateElement.ensures) both) in
     c.read_element.ensures.kept x.field-2 (erase x.field-3) S names size st e under i p q
 
-pub begin-returns-in-UpdateElement-clause-came : goal.begin-returns-in-UpdateElement-clause-came
-begin-returns-in-UpdateElement-clause-came g m c = λ S start h k me names size st e l a.
+pub begin_other-returns-in-UpdateElement-clause-came : goal.begin_other-returns-in-UpdateElement-clause-came
+begin_other-returns-in-UpdateElement-clause-came g m c = λ S start h k me names size st e l a.
     let x = c.in-UpdateElement in
     let s = sym (ap (λ d. fits S d names size) x.is ∙ fits-update_element S names size x.receiver x.index x.field-2 x.field-3 x.at) ∙ l.fits in
     let both = fst_two (fits S x.receiver names size) (fits S x.index names size) (fits S x.field-3 names size) s in
-    let under = sub _ l (rw (c.get-in-UpdateElement.ensures, c.get-in-UpdateElement-2.ensures) both) in
-    c.read_element.ensures.came x.field-2 (erase x.field-3) S start h k me names size st e under (rw (c.get-in-UpdateElement.ensures, c.get-in-UpdateElement-2.ensures) (same (begins _ _ k _ _ _ (shows-update_element c.args.code.now x.receiver x.index x.field-2 x.field-3 x.at x.is) a) (target_element S (erase x.receiver) (erase x.index) x.field-2 (erase x.field-3) x.at k (scope_of me names c.args.room.now) c.args.depth c.args.self.now.left)))
+    let under = sub _ l (rw (c.get.ensures, c.get-in-UpdateElement.ensures) both) in
+    c.read_element.ensures.came x.field-2 (erase x.field-3) S start h k me names size st e under (rw (c.get.ensures, c.get-in-UpdateElement.ensures) (same (begins _ _ k _ _ _ (shows-update_element c.args.code.now x.receiver x.index x.field-2 x.field-3 x.at x.is) a) (target_element S (erase x.receiver) (erase x.index) x.field-2 (erase x.field-3) x.at k (scope_of me names c.args.room.now) c.args.depth c.args.self.now.left)))
 
-pub begin-returns-in-UpdateAttribute-clause-kept : goal.begin-returns-in-UpdateAttribute-clause-kept
-begin-returns-in-UpdateAttribute-clause-kept g m c = λ S names size st e l i p q.
+pub begin_other-returns-in-UpdateAttribute-clause-kept : goal.begin_other-returns-in-UpdateAttribute-clause-kept
+begin_other-returns-in-UpdateAttribute-clause-kept g m c = λ S names size st e l i p q.
     let x = c.in-UpdateAttribute in
     let s = sym (ap (λ d. fits S d names size) x.is ∙ fits-update_attribute S names size x.number x.field-1 x.receiver x.op x.value x.at) ∙ l.fits in
     let under = sub _ l (rw (c.get-in-UpdateAttribute.ensures, c.get-in-UpdateAttribute-2.ensures) s) in
     c.update_attribute.ensures.kept x.field-1 S names size st e under i p q
 
-pub begin-returns-in-UpdateAttribute-clause-came : goal.begin-returns-in-UpdateAttribute-clause-came
-begin-returns-in-UpdateAttribute-clause-came g m c = λ S start h k me names size st e l a.
+pub begin_other-returns-in-UpdateAttribute-clause-came : goal.begin_other-returns-in-UpdateAttribute-clause-came
+begin_other-returns-in-UpdateAttribute-clause-came g m c = λ S start h k me names size st e l a.
     let x = c.in-UpdateAttribute in
     let s = sym (ap (λ d. fits S d names size) x.is ∙ fits-update_attribute S names size x.number x.field-1 x.receiver x.op x.value x.at) ∙ l.fits in
     let under = sub _ l (rw (c.get-in-UpdateAttribute.ensures, c.get-in-UpdateAttribute-2.ensures) s) in
     c.update_attribute.ensures.came x.field-1 S start h k me names size st e under (rw (c.get-in-UpdateAttribute.ensures, c.get-in-UpdateAttribute-2.ensures) (same (begins _ _ k _ _ _ (shows-update_attribute c.args.code.now x.number x.field-1 x.receiver x.op x.value x.at x.is) a) (target_attribute S (erase x.receiver) x.field-1 x.op (erase x.value) x.at k (scope_of me names c.args.room.now) c.args.depth c.args.self.now.left)))
 
-pub begin-returns-in-Store-clause-kept : goal.begin-returns-in-Store-clause-kept
-begin-returns-in-Store-clause-kept g m c = λ S names size st e l i p q.
+pub begin_other-returns-in-Store-clause-kept : goal.begin_other-returns-in-Store-clause-kept
+begin_other-returns-in-Store-clause-kept g m c = λ S names size st e l i p q.
     let x = c.in-Store in
     let s = sym (ap (λ d. fits S d names size) x.is ∙ fits-store S names size x.receiver x.field-1 x.args x.at) ∙ l.fits in
     let under = sub _ l (rw (c.get-in-Store.ensures, c.as_slice-in-Store.ensures) s) in
     c.store_by.ensures.kept x.field-1 S names size st e under i p q
 
-pub begin-returns-in-Store-clause-came : goal.begin-returns-in-Store-clause-came
-begin-returns-in-Store-clause-came g m c = λ S start h k me names size st e l a.
+pub begin_other-returns-in-Store-clause-came : goal.begin_other-returns-in-Store-clause-came
+begin_other-returns-in-Store-clause-came g m c = λ S start h k me names size st e l a.
     let x = c.in-Store in
     let s = sym (ap (λ d. fits S d names size) x.is ∙ fits-store S names size x.receiver x.field-1 x.args x.at) ∙ l.fits in
     let under = sub _ l (rw (c.get-in-Store.ensures, c.as_slice-in-Store.ensures) s) in
     c.store_by.ensures.came x.field-1 S start h k me names size st e under (rw (c.get-in-Store.ensures, c.as_slice-in-Store.ensures) (begins _ _ k _ _ _ (shows-store c.args.code.now x.receiver x.field-1 x.args x.at x.is) a))
 
-pub begin-returns-in-Operate-clause-kept : goal.begin-returns-in-Operate-clause-kept
-begin-returns-in-Operate-clause-kept g m c = λ S names size st e l i p q.
-    let x = c.in-Operate in
-    let s = sym (ap (λ d. fits S d names size) x.is ∙ fits-operate S names size x.method x.field-1 x.left x.right x.at) ∙ l.fits in
-    let under = sub _ l (rw (c.get-in-Operate.ensures, c.get-in-Operate-2.ensures) s) in
-    c.operate.ensures.kept x.field-1 S names size st e under i p q
-
-pub begin-returns-in-Operate-clause-came : goal.begin-returns-in-Operate-clause-came
-begin-returns-in-Operate-clause-came g m c = λ S start h k me names size st e l a.
-    let x = c.in-Operate in
-    let s = sym (ap (λ d. fits S d names size) x.is ∙ fits-operate S names size x.method x.field-1 x.left x.right x.at) ∙ l.fits in
-    let under = sub _ l (rw (c.get-in-Operate.ensures, c.get-in-Operate-2.ensures) s) in
-    c.operate.ensures.came x.field-1 S start h k me names size st e under (rw (c.get-in-Operate.ensures, c.get-in-Operate-2.ensures) (begins _ _ k _ _ _ (shows-operate c.args.code.now x.method x.field-1 x.left x.right x.at x.is) a))
-
-pub begin-returns-in-Send-clause-kept : goal.begin-returns-in-Send-clause-kept
-begin-returns-in-Send-clause-kept g m c = λ S names size st e l i p q.
-    let x = c.in-Send in
-    let s = sym (ap (λ d. fits S d names size) x.is ∙ fits-send S names size x.method x.field-1 x.receiver x.args x.at) ∙ l.fits in
-    let under = sub _ l (rw (c.get-in-Send.ensures, c.as_slice-in-Send.ensures) s) in
-    c.send.ensures.kept x.field-1 S names size st e under i p q
-
-pub begin-returns-in-Send-clause-came : goal.begin-returns-in-Send-clause-came
-begin-returns-in-Send-clause-came g m c = λ S start h k me names size st e l a.
-    let x = c.in-Send in
-    let s = sym (ap (λ d. fits S d names size) x.is ∙ fits-send S names size x.method x.field-1 x.receiver x.args x.at) ∙ l.fits in
-    let under = sub _ l (rw (c.get-in-Send.ensures, c.as_slice-in-Send.ensures) s) in
-    c.send.ensures.came x.field-1 S start h k me names size st e under (rw (c.get-in-Send.ensures, c.as_slice-in-Send.ensures) (begins _ _ k _ _ _ (shows-send c.args.code.now x.method x.field-1 x.receiver x.args x.at x.is) a))
-
-pub begin-returns-in-Print-clause-kept : goal.begin-returns-in-Print-clause-kept
-begin-returns-in-Print-clause-kept g m c = λ S names size st e l i p q.
+pub begin_other-returns-in-Print-clause-kept : goal.begin_other-returns-in-Print-clause-kept
+begin_other-returns-in-Print-clause-kept g m c = λ S names size st e l i p q.
     let x = c.in-Print in
     let r = sym (ap (λ d. fits S d names size) x.is ∙ fits-print S names size x.form x.field-1 x.args x.at) ∙ l.fits in
     let s = rw (len_map (fits S) x.args) at r in
     let under = sub (printing x.form x.field-1 (length c.as_slice-in-Print.result.now) (λ S. every (map (fits S) c.as_slice-in-Print.result.now)) S) l (rw c.as_slice-in-Print.ensures s) in
     c.print.ensures.kept x.field-1 S names size st e under i p q
 
-pub begin-returns-in-Print-clause-came : goal.begin-returns-in-Print-clause-came
-begin-returns-in-Print-clause-came g m c = λ S start h k me names size st e l a.
+pub begin_other-returns-in-Print-clause-came : goal.begin_other-returns-in-Print-clause-came
+begin_other-returns-in-Print-clause-came g m c = λ S start h k me names size st e l a.
     let x = c.in-Print in
     let r = sym (ap (λ d. fits S d names size) x.is ∙ fits-print S names size x.form x.field-1 x.args x.at) ∙ l.fits in
     let s = rw (len_map (fits S) x.args) at r in
     let under = sub (printing x.form x.field-1 (length c.as_slice-in-Print.result.now) (λ S. every (map (fits S) c.as_slice-in-Print.result.now)) S) l (rw c.as_slice-in-Print.ensures s) in
     c.print.ensures.came x.field-1 S start h k me names size st e under (rw c.as_slice-in-Print.ensures (begins _ _ k _ _ _ (shows-print c.args.code.now x.form x.field-1 x.args x.at x.is) a))
 
-pub begin-returns-in-Return-clause-kept : goal.begin-returns-in-Return-clause-kept
-begin-returns-in-Return-clause-kept g m c = λ S names size st e l i p q.
+pub begin_other-returns-in-Return-clause-kept : goal.begin_other-returns-in-Return-clause-kept
+begin_other-returns-in-Return-clause-kept g m c = λ S names size st e l i p q.
     let x = c.in-Return in
     let s = sym (ap (λ d. fits S d names size) x.is ∙ fits-return S names size x.value x.field-1) ∙ l.fits in
     let under = sub _ l s in
     c.leave_method.ensures.kept S names size st e under i p q
 
-pub begin-returns-in-Return-clause-came : goal.begin-returns-in-Return-clause-came
-begin-returns-in-Return-clause-came g m c = λ S start h k me names size st e l a.
+pub begin_other-returns-in-Return-clause-came : goal.begin_other-returns-in-Return-clause-came
+begin_other-returns-in-Return-clause-came g m c = λ S start h k me names size st e l a.
     let x = c.in-Return in
     let s = sym (ap (λ d. fits S d names size) x.is ∙ fits-return S names size x.value x.field-1) ∙ l.fits in
     let under = sub _ l s in
@@ -1428,15 +1239,15 @@ text-returns-in-Err-from_vec-clause-came g m c = λ S start h k me names size st
     let o = c.over-in-Err-from_vec.ensures in
     rw (o.gives, o.left, o.store) (_, c.pieces.invariant.came S start h k me names size st e l a, refl)
 
-pub begin-returns-in-Str-clause-kept : goal.begin-returns-in-Str-clause-kept
-begin-returns-in-Str-clause-kept g m c = λ S names size st e l i p q.
+pub begin_other-returns-in-Str-clause-kept : goal.begin_other-returns-in-Str-clause-kept
+begin_other-returns-in-Str-clause-kept g m c = λ S names size st e l i p q.
     let x = c.in-Str in
     let s = sym (ap (λ d. fits S d names size) x.is ∙ fits-str S names size x.pieces x.at) ∙ l.fits in
     let under = sub _ l (rw c.as_slice.ensures s) in
     c.text.ensures.kept S names size st e under i p q
 
-pub begin-returns-in-Str-clause-came : goal.begin-returns-in-Str-clause-came
-begin-returns-in-Str-clause-came g m c = λ S start h k me names size st e l a.
+pub begin_other-returns-in-Str-clause-came : goal.begin_other-returns-in-Str-clause-came
+begin_other-returns-in-Str-clause-came g m c = λ S start h k me names size st e l a.
     let x = c.in-Str in
     let s = sym (ap (λ d. fits S d names size) x.is ∙ fits-str S names size x.pieces x.at) ∙ l.fits in
     let under = sub _ l (rw c.as_slice.ensures s) in
@@ -1794,30 +1605,455 @@ send_block-returns-clause-came g m c = λ name S start h k me names size st e l 
     let o = c.rounds.ensures in
     rw (o.left, o.store) (g1 (text_of S name) S start h (erase_block c.args.block.now) k (scope_of me names y.new.room) c.args.depth number table)
 
-pub begin-returns-in-Walk-clause-kept : goal.begin-returns-in-Walk-clause-kept
-begin-returns-in-Walk-clause-kept g m c = λ S names size st e l i p q.
+pub begin_other-returns-in-Walk-clause-kept : goal.begin_other-returns-in-Walk-clause-kept
+begin_other-returns-in-Walk-clause-kept g m c = λ S names size st e l i p q.
     let x = c.in-Walk in
     let s = sym (ap (λ d. fits S d names size) x.is ∙ fits-walk S names size x.method x.field-1 x.receiver x.args x.block x.at) ∙ l.fits in
     let under = sub _ l (rw (c.get-in-Walk.ensures, c.as_slice-in-Walk.ensures, c.get-in-Walk-2.ensures) s) in
     c.send_block.ensures.kept x.field-1 S names size st e under i p q
 
-pub begin-returns-in-Walk-clause-came : goal.begin-returns-in-Walk-clause-came
-begin-returns-in-Walk-clause-came g m c = λ S start h k me names size st e l a.
+pub begin_other-returns-in-Walk-clause-came : goal.begin_other-returns-in-Walk-clause-came
+begin_other-returns-in-Walk-clause-came g m c = λ S start h k me names size st e l a.
     let x = c.in-Walk in
     let s = sym (ap (λ d. fits S d names size) x.is ∙ fits-walk S names size x.method x.field-1 x.receiver x.args x.block x.at) ∙ l.fits in
     let under = sub _ l (rw (c.get-in-Walk.ensures, c.as_slice-in-Walk.ensures, c.get-in-Walk-2.ensures) s) in
     c.send_block.ensures.came x.field-1 S start h k me names size st e under (rw (c.get-in-Walk.ensures, c.as_slice-in-Walk.ensures, c.get-in-Walk-2.ensures) (begins _ _ k _ _ _ (shows-walk c.args.code.now x.method x.field-1 x.receiver x.args x.block x.at x.is) a))
 
-pub begin-returns-in-Function-clause-kept : goal.begin-returns-in-Function-clause-kept
-begin-returns-in-Function-clause-kept g m c = λ S names size st e l i p q.
+pub begin_function-returns-in-Function-clause-kept : goal.begin_function-returns-in-Function-clause-kept
+begin_function-returns-in-Function-clause-kept g m c = λ S names size st e l i p q.
     let x = c.in-Function in
     let s = sym (ap (λ d. fits S d names size) x.is ∙ fits-function S names size x.number x.field-1 x.args x.at) ∙ l.fits in
-    let under = sub _ l (rw c.as_slice-in-Function.ensures s) in
+    let under = sub _ l (rw c.as_slice.ensures s) in
     c.function.ensures.kept x.field-1 S names size st e under i p q
 
-pub begin-returns-in-Function-clause-came : goal.begin-returns-in-Function-clause-came
-begin-returns-in-Function-clause-came g m c = λ S start h k me names size st e l a.
+pub begin_function-returns-in-Function-clause-came : goal.begin_function-returns-in-Function-clause-came
+begin_function-returns-in-Function-clause-came g m c = λ S start h k me names size st e l a.
     let x = c.in-Function in
     let s = sym (ap (λ d. fits S d names size) x.is ∙ fits-function S names size x.number x.field-1 x.args x.at) ∙ l.fits in
-    let under = sub _ l (rw c.as_slice-in-Function.ensures s) in
-    c.function.ensures.came x.field-1 S start h k me names size st e under (rw c.as_slice-in-Function.ensures (begins _ _ k _ _ _ (shows-function c.args.code.now x.number x.field-1 x.args x.at x.is) a))
+    let under = sub _ l (rw c.as_slice.ensures s) in
+    c.function.ensures.came x.field-1 S start h k me names size st e under (rw c.as_slice.ensures (begins _ _ k _ _ _ (shows-function c.args.code.now x.number x.field-1 x.args x.at x.is) a))
+
+pub begin-returns-in-SetLocal-clause-kept : goal.begin-returns-in-SetLocal-clause-kept
+begin-returns-in-SetLocal-clause-kept g m c = c.begin_set.ensures.kept
+
+pub begin-returns-in-SetLocal-clause-came : goal.begin-returns-in-SetLocal-clause-came
+begin-returns-in-SetLocal-clause-came g m c = c.begin_set.ensures.came
+
+pub begin-returns-in-UpdateLocal-clause-kept : goal.begin-returns-in-UpdateLocal-clause-kept
+begin-returns-in-UpdateLocal-clause-kept g m c = c.begin_update.ensures.kept
+
+pub begin-returns-in-UpdateLocal-clause-came : goal.begin-returns-in-UpdateLocal-clause-came
+begin-returns-in-UpdateLocal-clause-came g m c = c.begin_update.ensures.came
+
+pub begin-returns-in-Operate-clause-kept : goal.begin-returns-in-Operate-clause-kept
+begin-returns-in-Operate-clause-kept g m c = c.begin_operate.ensures.kept
+
+pub begin-returns-in-Operate-clause-came : goal.begin-returns-in-Operate-clause-came
+begin-returns-in-Operate-clause-came g m c = c.begin_operate.ensures.came
+
+pub begin-returns-in-Send-clause-kept : goal.begin-returns-in-Send-clause-kept
+begin-returns-in-Send-clause-kept g m c = c.begin_send.ensures.kept
+
+pub begin-returns-in-Send-clause-came : goal.begin-returns-in-Send-clause-came
+begin-returns-in-Send-clause-came g m c = c.begin_send.ensures.came
+
+pub begin-returns-in-Function-clause-kept : goal.begin-returns-in-Function-clause-kept
+begin-returns-in-Function-clause-kept g m c = c.begin_function.ensures.kept
+
+pub begin-returns-in-Function-clause-came : goal.begin-returns-in-Function-clause-came
+begin-returns-in-Function-clause-came g m c = c.begin_function.ensures.came
+
+pub begin-returns-in-If-clause-kept : goal.begin-returns-in-If-clause-kept
+begin-returns-in-If-clause-kept g m c = c.begin_choice.ensures.kept
+
+pub begin-returns-in-If-clause-came : goal.begin-returns-in-If-clause-came
+begin-returns-in-If-clause-came g m c = c.begin_choice.ensures.came
+
+pub begin-returns-in_default-clause-kept : goal.begin-returns-in_default-clause-kept
+begin-returns-in_default-clause-kept g m c = c.begin_other.ensures.kept
+
+pub begin-returns-in_default-clause-came : goal.begin-returns-in_default-clause-came
+begin-returns-in_default-clause-came g m c = c.begin_other.ensures.came
+
+pub begin_set-returns-in_default-clause-came : goal.begin_set-returns-in_default-clause-came
+begin_set-returns-in_default-clause-came g m c = λ S start h k me names size st e l a.
+    let o = c.over.ensures in
+    rw (o.gives, o.left, o.store) (_, a, begin_left S (out-Node (erase c.args.code.now)) k (scope_of me names c.args.room.now) c.args.depth c.args.self.now.left)
+
+pub begin_update-returns-in_default-clause-came : goal.begin_update-returns-in_default-clause-came
+begin_update-returns-in_default-clause-came g m c = λ S start h k me names size st e l a.
+    let o = c.over.ensures in
+    rw (o.gives, o.left, o.store) (_, a, begin_left S (out-Node (erase c.args.code.now)) k (scope_of me names c.args.room.now) c.args.depth c.args.self.now.left)
+
+pub begin_slow_update-returns-in_default-clause-came : goal.begin_slow_update-returns-in_default-clause-came
+begin_slow_update-returns-in_default-clause-came g m c = λ S start h k me names size st e l a.
+    let o = c.over.ensures in
+    rw (o.gives, o.left, o.store) (_, a, begin_left S (out-Node (erase c.args.code.now)) k (scope_of me names c.args.room.now) c.args.depth c.args.self.now.left)
+
+pub begin_operate-returns-in_default-clause-came : goal.begin_operate-returns-in_default-clause-came
+begin_operate-returns-in_default-clause-came g m c = λ S start h k me names size st e l a.
+    let o = c.over.ensures in
+    rw (o.gives, o.left, o.store) (_, a, begin_left S (out-Node (erase c.args.code.now)) k (scope_of me names c.args.room.now) c.args.depth c.args.self.now.left)
+
+pub begin_slow_operate-returns-in_default-clause-came : goal.begin_slow_operate-returns-in_default-clause-came
+begin_slow_operate-returns-in_default-clause-came g m c = λ S start h k me names size st e l a.
+    let o = c.over.ensures in
+    rw (o.gives, o.left, o.store) (_, a, begin_left S (out-Node (erase c.args.code.now)) k (scope_of me names c.args.room.now) c.args.depth c.args.self.now.left)
+
+pub begin_send-returns-in_default-clause-came : goal.begin_send-returns-in_default-clause-came
+begin_send-returns-in_default-clause-came g m c = λ S start h k me names size st e l a.
+    let o = c.over.ensures in
+    rw (o.gives, o.left, o.store) (_, a, begin_left S (out-Node (erase c.args.code.now)) k (scope_of me names c.args.room.now) c.args.depth c.args.self.now.left)
+
+pub begin_function-returns-in_default-clause-came : goal.begin_function-returns-in_default-clause-came
+begin_function-returns-in_default-clause-came g m c = λ S start h k me names size st e l a.
+    let o = c.over.ensures in
+    rw (o.gives, o.left, o.store) (_, a, begin_left S (out-Node (erase c.args.code.now)) k (scope_of me names c.args.room.now) c.args.depth c.args.self.now.left)
+
+pub begin_choice-returns-in_default-clause-came : goal.begin_choice-returns-in_default-clause-came
+begin_choice-returns-in_default-clause-came g m c = λ S start h k me names size st e l a.
+    let o = c.over.ensures in
+    rw (o.gives, o.left, o.store) (_, a, begin_left S (out-Node (erase c.args.code.now)) k (scope_of me names c.args.room.now) c.args.depth c.args.self.now.left)
+
+pub begin_other-returns-in_default-clause-came : goal.begin_other-returns-in_default-clause-came
+begin_other-returns-in_default-clause-came g m c = λ S start h k me names size st e l a.
+    let o = c.over.ensures in
+    rw (o.gives, o.left, o.store) (_, a, begin_left S (out-Node (erase c.args.code.now)) k (scope_of me names c.args.room.now) c.args.depth c.args.self.now.left)
+
+pub begin_update-returns-in-Some-clause-kept : goal.begin_update-returns-in-Some-clause-kept
+begin_update-returns-in-Some-clause-kept g m c = λ S names size st e l i p q.
+    let x = c.in-UpdateLocal in
+    let s = sym (ap (λ d. fits S d names size) x.is ∙ fits-update_local S names size x.slot x.field-1 x.op x.value x.field-4) ∙ l.fits in
+    let is = c.in-Some.ensures.some in
+    let within = slot_within x.field-1 names x.slot (fst _ _ s) in
+    ap (λ r. slice_get r i) is.7 ∙ get_set c.args.room.now x.slot i _ (λ z. omega (arith, z, within, l.within, p))
+
+pub begin_update-returns-in-Some-clause-came : goal.begin_update-returns-in-Some-clause-came
+begin_update-returns-in-Some-clause-came g m c = λ S start h k me names size st e l a.
+    let x = c.in-UpdateLocal in
+    let s = sym (ap (λ d. fits S d names size) x.is ∙ fits-update_local S names size x.slot x.field-1 x.op x.value x.field-4) ∙ l.fits in
+    let right : fits S c.get.result.now names size ≡ true = rw c.get.ensures (snd _ _ s) in
+    let len : length names ≤ length c.args.room.now = omega (arith, l.within, l.below, l.room) in
+    let b = same (begins _ _ k _ _ _ (shows-update_local c.args.code.now x.slot x.field-1 x.op x.value x.field-4 x.is) a) (target_local S x.field-1 x.op (erase x.value) x.field-4 k (scope_of me names c.args.room.now) c.args.depth c.args.self.now.left) in
+    let z : to_z w64 (of_z w64 c.in-Some.n) ≡ c.in-Some.n = search rules in
+    rw z (updates S _ start h _ k me names size c.args.depth c.args.self.now.left c.args.room.now c.quick_update.new.room x.slot x.field-1 x.op c.get.result.now x.field-4 c.in-Some.n st.classes (fst _ _ s) right len c.if-self-gt0.true c.if-depth-lt-MAX_DEPTH.true c.in-Some.ensures.some (rw c.get.ensures b))
+
+pub begin_operate-returns-in-Some-clause-came : goal.begin_operate-returns-in-Some-clause-came
+begin_operate-returns-in-Some-clause-came g m c = λ S start h k me names size st e l a.
+    let x = c.in-Operate in
+    let s = sym (ap (λ d. fits S d names size) x.is ∙ fits-operate S names size x.method x.field-1 x.left x.right x.at) ∙ l.fits in
+    let first = c.get.result.now in
+    let second = c.get-then-depth-lt-MAX_DEPTH.result.now in
+    let fl : fits S first names size ≡ true = rw c.get.ensures (fst _ _ (snd _ _ s)) in
+    let fr : fits S second names size ≡ true = rw c.get-then-depth-lt-MAX_DEPTH.ensures (snd _ _ (snd _ _ s)) in
+    let len : length names ≤ length c.args.room.now = omega (arith, l.within, l.below, l.room) in
+    let is = c.in-Some.ensures in
+    let o = c.answer.ensures in
+    let number = same_is (builtin_of (text_of S x.field-1)) x.method (fst _ _ s) in
+    let b = begins _ _ k _ _ _ (shows-operate c.args.code.now x.method x.field-1 x.left x.right x.at x.is) a in
+    rw (o.gives, o.left, o.store, sym (is.4 S.program.names (text_of S x.field-1) number))
+    (calls_pair S _ start h _ k me names size c.args.depth c.args.self.now.left c.args.room.now x.field-1 first second x.at (Int is.0) (Int is.1) _ st.classes fl fr len c.if-self-gt1.true c.if-depth-lt-MAX_DEPTH.true is.2 is.3 (inl refl) (rw (c.get.ensures, c.get-then-depth-lt-MAX_DEPTH.ensures) b))
+
+pub begin_slow_operate-returns-in-Some-held_alone-clause-came : goal.begin_slow_operate-returns-in-Some-held_alone-clause-came
+begin_slow_operate-returns-in-Some-held_alone-clause-came g m c = λ S start h k me names size st e l a.
+    let x = c.in-Operate in
+    let s = sym (ap (λ d. fits S d names size) x.is ∙ fits-operate S names size x.method x.field-1 x.left x.right x.at) ∙ l.fits in
+    let first = c.get-left.result.now in
+    let second = c.get-right.result.now in
+    let fl : fits S first names size ≡ true = rw c.get-left.ensures (fst _ _ (snd _ _ s)) in
+    let fr : fits S second names size ≡ true = rw c.get-right.ensures (snd _ _ (snd _ _ s)) in
+    let len : length names ≤ length c.args.room.now = omega (arith, l.within, l.below, l.room) in
+    let vs = c.in-Some-held_alone.ensures in
+    let o = c.call_method.ensures in
+    let number = same_is (builtin_of (text_of S x.field-1)) x.method (fst _ _ s) in
+    let given = rw (sym e, vs.1) at (o.gives (text_of S x.field-1) number) in
+    let b = begins _ _ k _ _ _ (shows-operate c.args.code.now x.method x.field-1 x.left x.right x.at x.is) a in
+    rw (o.left, o.store)
+    (calls_pair S _ start h _ k me names size c.args.depth c.args.self.now.left c.args.room.now x.field-1 first second x.at (plain c.in-Some.receiver.now) vs.0 _ st.classes fl fr len c.if-self-gt1.true c.if-depth-lt-MAX_DEPTH.true c.in-Some.ensures vs.2 given (rw (c.get-left.ensures, c.get-right.ensures) b))
+
+pub begin_slow_operate-returns-after-self-gt1-clause-kept : goal.begin_slow_operate-returns-after-self-gt1-clause-kept
+begin_slow_operate-returns-after-self-gt1-clause-kept g m c = λ S names size st e l i p q.
+    let x = c.in-Operate in
+    let s = sym (ap (λ d. fits S d names size) x.is ∙ fits-operate S names size x.method x.field-1 x.left x.right x.at) ∙ l.fits in
+    let under = sub _ l (rw (c.get-left.ensures, c.get-right.ensures) s) in
+    c.operate.ensures.kept x.field-1 S names size st e under i p q
+
+pub begin_slow_operate-returns-after-self-gt1-clause-came : goal.begin_slow_operate-returns-after-self-gt1-clause-came
+begin_slow_operate-returns-after-self-gt1-clause-came g m c = λ S start h k me names size st e l a.
+    let x = c.in-Operate in
+    let s = sym (ap (λ d. fits S d names size) x.is ∙ fits-operate S names size x.method x.field-1 x.left x.right x.at) ∙ l.fits in
+    let under = sub _ l (rw (c.get-left.ensures, c.get-right.ensures) s) in
+    c.operate.ensures.came x.field-1 S start h k me names size st e under (rw (c.get-left.ensures, c.get-right.ensures) (begins _ _ k _ _ _ (shows-operate c.args.code.now x.method x.field-1 x.left x.right x.at x.is) a))
+
+pub begin_send-returns-in-Some-clause-came : goal.begin_send-returns-in-Some-clause-came
+begin_send-returns-in-Some-clause-came g m c = λ S start h k me names size st e l a.
+    let x = c.in-Send in
+    let s = sym (ap (λ d. fits S d names size) x.is ∙ fits-send S names size x.method x.field-1 x.receiver x.args x.at) ∙ l.fits in
+    let first = c.get-receiver.result.now in
+    let right : fits S first names size ≡ true = rw c.get-receiver.ensures (fst _ _ (snd _ _ s)) in
+    let len : length names ≤ length c.args.room.now = omega (arith, l.within, l.below, l.room) in
+    let none : x.args ≡ [] = c.if-is_empty.ensures.0 refl in
+    let o = c.call_method.ensures in
+    let number = same_is (builtin_of (text_of S x.field-1)) x.method (fst _ _ s) in
+    let given = rw (sym e) at (o.gives (text_of S x.field-1) number) in
+    let b = same (begins _ _ k _ _ _ (shows-send c.args.code.now x.method x.field-1 x.receiver x.args x.at x.is) a) (ap (λ args. On (Eval (erase x.receiver)) (Then (ReceiverOf (text_of S x.field-1) (map erase args) None x.at) ∷ k) (scope_of me names c.args.room.now) c.args.depth c.args.self.now.left) none) in
+    rw (o.left, o.store)
+    (calls_held S _ start h _ k me names size c.args.depth c.args.self.now.left c.args.room.now x.field-1 first x.at (plain c.in-Some.held.now) _ st.classes right len c.if-self-gt0.true c.if-depth-lt-MAX_DEPTH.true c.in-Some.ensures given (rw c.get-receiver.ensures b))
+
+pub begin_send-returns-after-self-gt0-clause-kept : goal.begin_send-returns-after-self-gt0-clause-kept
+begin_send-returns-after-self-gt0-clause-kept g m c = λ S names size st e l i p q.
+    let x = c.in-Send in
+    let s = sym (ap (λ d. fits S d names size) x.is ∙ fits-send S names size x.method x.field-1 x.receiver x.args x.at) ∙ l.fits in
+    let under = sub _ l (rw (c.get-receiver.ensures, c.as_slice.ensures) s) in
+    c.send.ensures.kept x.field-1 S names size st e under i p q
+
+pub begin_send-returns-after-self-gt0-clause-came : goal.begin_send-returns-after-self-gt0-clause-came
+begin_send-returns-after-self-gt0-clause-came g m c = λ S start h k me names size st e l a.
+    let x = c.in-Send in
+    let s = sym (ap (λ d. fits S d names size) x.is ∙ fits-send S names size x.method x.field-1 x.receiver x.args x.at) ∙ l.fits in
+    let under = sub _ l (rw (c.get-receiver.ensures, c.as_slice.ensures) s) in
+    c.send.ensures.came x.field-1 S start h k me names size st e under (rw (c.get-receiver.ensures, c.as_slice.ensures) (begins _ _ k _ _ _ (shows-send c.args.code.now x.method x.field-1 x.receiver x.args x.at x.is) a))
+
+pub operate-returns-then-is_left-clause-came : goal.operate-returns-then-is_left-clause-came
+operate-returns-then-is_left-clause-came g m c = λ name S start h k me names size st e l a.
+    let w = c.walk-came in
+    let e1 = w.ensures.came S start h (Then (ReceiverOf (text_of S name) (erase c.args.right.now ∷ []) None c.args.at) ∷ k) me names size st e (sub (fits S c.args.left.now) l (fst _ _ (snd _ _ l.fits))) a in
+    passes S _ start h w.result w.new.self.value w.new.self.leave _ (ReceiverOf (text_of S name) (erase c.args.right.now ∷ []) None c.args.at) k _ _ _ (sym c.is_left.ensures ∙ c.if-is_left.true) e1
+
+pub operate-returns-then-is_left-clause-kept : goal.operate-returns-then-is_left-clause-kept
+operate-returns-then-is_left-clause-kept g m c = λ name S names size st e l i p q.
+    c.walk-came.ensures.kept S names size st e (sub (fits S c.args.left.now) l (fst _ _ (snd _ _ l.fits))) i p q
+
+pub operate-returns-in-Int-clause-kept : goal.operate-returns-in-Int-clause-kept
+operate-returns-in-Int-clause-kept g m c = λ name S names size st e l i p q.
+    let w = c.walk-came in
+    let right = two _ (fits S c.args.right.now names size) (fst _ _ l.fits) (snd _ _ (snd _ _ l.fits)) in
+    let under = moved _ _ w.ensures.base w.ensures.room (sub (numbered c.args.method name (λ S. fits S c.args.right.now) S) l right) in
+    let f = rw w.ensures.context at c.operate_integer.ensures.kept in
+    f name S names size st e under i p (omega (arith, q, w.ensures.base)) ∙ w.ensures.kept S names size st e (sub (fits S c.args.left.now) l (fst _ _ (snd _ _ l.fits))) i p q
+
+pub operate-returns-in-Int-clause-came : goal.operate-returns-in-Int-clause-came
+operate-returns-in-Int-clause-came g m c = λ name S start h k me names size st e l a.
+    let w = c.walk-came in
+    let e1 = w.ensures.came S start h (Then (ReceiverOf (text_of S name) (erase c.args.right.now ∷ []) None c.args.at) ∷ k) me names size st e (sub (fits S c.args.left.now) l (fst _ _ (snd _ _ l.fits))) a in
+    let g1 = given w.result w.new.self.value w.new.self.leave (sym c.is_left.ensures ∙ c.if-is_left.false) e1 in
+    let z : to_z w64 (of_z w64 c.in-Int.m) ≡ c.in-Int.m = search rules in
+    let m = to_z w64 (of_z w64 c.in-Int.m) in
+    let v : value_of w.result w.new.self.value ≡ Int m = ap (λ r. value_of r w.new.self.value) c.in-Int.is ∙ ap Int (sym z) in
+    let g2 = gives (Int m) v g1 in
+    let right = two _ (fits S c.args.right.now names size) (fst _ _ l.fits) (snd _ _ (snd _ _ l.fits)) in
+    let under = moved _ _ w.ensures.base w.ensures.room (sub (numbered c.args.method name (λ S. fits S c.args.right.now) S) l right) in
+    let f = rw w.ensures.context at c.operate_integer.ensures.came in
+    f name S start h k me names size st e under (on _ (on _ g2 refl) refl)
+
+pub operate-returns-in_default-clause-kept : goal.operate-returns-in_default-clause-kept
+operate-returns-in_default-clause-kept g m c = λ name S names size st e l i p q.
+    let w = c.walk-came in
+    let right = two _ (fits S c.args.right.now names size) (fst _ _ l.fits) (snd _ _ (snd _ _ l.fits)) in
+    let under = moved _ _ w.ensures.base w.ensures.room (sub (numbered c.args.method name (λ S. fits S c.args.right.now) S) l right) in
+    let f = rw w.ensures.context at c.operate_value.ensures.kept in
+    f name S names size st e under i p (omega (arith, q, w.ensures.base)) ∙ w.ensures.kept S names size st e (sub (fits S c.args.left.now) l (fst _ _ (snd _ _ l.fits))) i p q
+
+pub operate-returns-in_default-clause-came : goal.operate-returns-in_default-clause-came
+operate-returns-in_default-clause-came g m c = λ name S start h k me names size st e l a.
+    let w = c.walk-came in
+    let e1 = w.ensures.came S start h (Then (ReceiverOf (text_of S name) (erase c.args.right.now ∷ []) None c.args.at) ∷ k) me names size st e (sub (fits S c.args.left.now) l (fst _ _ (snd _ _ l.fits))) a in
+    let g1 = given w.result w.new.self.value w.new.self.leave (sym c.is_left.ensures ∙ c.if-is_left.false) e1 in
+    let g2 = g1 in
+    let right = two _ (fits S c.args.right.now names size) (fst _ _ l.fits) (snd _ _ (snd _ _ l.fits)) in
+    let under = moved _ _ w.ensures.base w.ensures.room (sub (numbered c.args.method name (λ S. fits S c.args.right.now) S) l right) in
+    let f = rw w.ensures.context at c.operate_value.ensures.came in
+    f name S start h k me names size st e under (on _ (on _ g2 refl) refl)
+
+pub operate_integer-returns-then-is_left-clause-kept : goal.operate_integer-returns-then-is_left-clause-kept
+operate_integer-returns-then-is_left-clause-kept g m c = λ name S names size st e l i p q. c.walk-came.ensures.kept S names size st e (sub (fits S c.args.right.now) l (snd _ _ l.fits)) i p q
+
+pub operate_integer-returns-then-is_left-clause-came : goal.operate_integer-returns-then-is_left-clause-came
+operate_integer-returns-then-is_left-clause-came g m c = λ name S start h k me names size st e l a.
+    let w = c.walk-came in
+    let step = Argument (OnReceiver (Int c.args.m) (text_of S name) None) [] [] c.args.at in
+    let come = w.ensures.came S start h (Then step ∷ k) me names size st e (sub (fits S c.args.right.now) l (snd _ _ l.fits)) a in
+    passes S _ start h w.result w.new.self.value w.new.self.leave _ step k _ _ _ (sym c.is_left.ensures ∙ c.if-is_left.true) come
+
+pub operate_integer-returns-clause-kept : goal.operate_integer-returns-clause-kept
+operate_integer-returns-clause-kept g m c = λ name S names size st e l i p q. c.walk-came.ensures.kept S names size st e (sub (fits S c.args.right.now) l (snd _ _ l.fits)) i p q
+
+pub operate_integer-returns-clause-came : goal.operate_integer-returns-clause-came
+operate_integer-returns-clause-came g m c = λ name S start h k me names size st e l a.
+    let w = c.walk-came in
+    let step = Argument (OnReceiver (Int c.args.m) (text_of S name) None) [] [] c.args.at in
+    let come = w.ensures.came S start h (Then step ∷ k) me names size st e (sub (fits S c.args.right.now) l (snd _ _ l.fits)) a in
+    let none = sym c.is_left.ensures ∙ c.if-is_left.false in
+    let g1 = given w.result w.new.self.value w.new.self.leave none come in
+    let o = c.operated_by.ensures in
+    let number = same_is (builtin_of (text_of S name)) c.args.method (fst _ _ l.fits) in
+    let z : to_z w64 (of_z w64 c.args.m) ≡ c.args.m = search rules in
+    let d0 : OrMemory (outcome_of (deed w.new.self.context.names.now (Int (to_z w64 (of_z w64 c.args.m))) (text_of S name) (value_of w.result w.new.self.value ∷ []) None) c.args.at) (outcome c.operated_by.result c.operated_by.new.self.value c.operated_by.new.self.leave) = o.gives (text_of S name) number in
+    let d = rw (z, w.ensures.context, sym e) at d0 in
+    rw (o.left, o.store) (calls S _ start h _ (Int c.args.m) (text_of S name) (value_of w.result w.new.self.value ∷ []) c.args.at k _ _ _ _ st.classes d (on _ (on _ g1 refl) refl))
+
+pub operate_value-returns-then-is_left-clause-kept : goal.operate_value-returns-then-is_left-clause-kept
+operate_value-returns-then-is_left-clause-kept g m c = λ name S names size st e l i p q.
+    let t = c.take-receiver in
+    let w = c.walk-came in
+    let under = moved _ _ t.ensures.base refl (sub (fits S c.args.right.now) l (snd _ _ l.fits)) in
+    let f = rw t.ensures.context at w.ensures.kept in
+    f S names size st e under i p (omega (arith, q, t.ensures.base))
+
+pub operate_value-returns-then-is_left-clause-came : goal.operate_value-returns-then-is_left-clause-came
+operate_value-returns-then-is_left-clause-came g m c = λ name S start h k me names size st e l a.
+    let t = c.take-receiver in
+    let w = c.walk-came in
+    let step = Argument (OnReceiver (value_of c.args.came c.args.self.now.value) (text_of S name) None) [] [] c.args.at in
+    let under = moved _ _ t.ensures.base refl (sub (fits S c.args.right.now) l (snd _ _ l.fits)) in
+    let f = rw (t.ensures.context, t.ensures.left, t.ensures.store) at w.ensures.came in
+    let come = f S start h (Then step ∷ k) me names size st e under a in
+    passes S _ start h w.result w.new.self.value w.new.self.leave _ step k _ _ _ (sym c.is_left.ensures ∙ c.if-is_left.true) come
+
+pub operate_value-returns-clause-kept : goal.operate_value-returns-clause-kept
+operate_value-returns-clause-kept g m c = λ name S names size st e l i p q.
+    let t = c.take-receiver in
+    let w = c.walk-came in
+    let under = moved _ _ t.ensures.base refl (sub (fits S c.args.right.now) l (snd _ _ l.fits)) in
+    let f = rw t.ensures.context at w.ensures.kept in
+    f S names size st e under i p (omega (arith, q, t.ensures.base))
+
+pub operate_value-returns-clause-came : goal.operate_value-returns-clause-came
+operate_value-returns-clause-came g m c = λ name S start h k me names size st e l a.
+    let t = c.take-receiver in
+    let w = c.walk-came in
+    let first = value_of c.args.came c.args.self.now.value in
+    let step = Argument (OnReceiver (value_of c.args.came c.args.self.now.value) (text_of S name) None) [] [] c.args.at in
+    let under = moved _ _ t.ensures.base refl (sub (fits S c.args.right.now) l (snd _ _ l.fits)) in
+    let f = rw (t.ensures.context, t.ensures.left, t.ensures.store) at w.ensures.came in
+    let come = f S start h (Then step ∷ k) me names size st e under a in
+    let g1 = given w.result w.new.self.value w.new.self.leave (sym c.is_left.ensures ∙ c.if-is_left.false) come in
+    let y = c.take-arg in
+    let o = c.operated.ensures in
+    let number = same_is (builtin_of (text_of S name)) c.args.method (fst _ _ l.fits) in
+    let d = rw (y.ensures.context, w.ensures.context, t.ensures.context, sym e, t.ensures.value, y.ensures.value) at o.gives (text_of S name) number in
+    rw (o.left, o.store, y.ensures.left, y.ensures.store) (calls S _ start h _ first (text_of S name) (value_of w.result w.new.self.value ∷ []) c.args.at k _ _ _ _ st.classes d (on _ (on _ g1 refl) refl))
+
+pub combine-returns-in-Int-clause-kept : goal.combine-returns-in-Int-clause-kept
+combine-returns-in-Int-clause-kept g m c = c.combine_integer.ensures.kept
+
+pub combine-returns-in-Int-clause-came : goal.combine-returns-in-Int-clause-came
+combine-returns-in-Int-clause-came g m c = λ S start h k me names size st e l a.
+    let z : to_z w64 (of_z w64 c.in-Int.m) ≡ c.in-Int.m = search rules in
+    let v : value_of c.args.current c.args.self.now.value ≡ Int (to_z w64 (of_z w64 c.in-Int.m)) = ap (λ r. value_of r c.args.self.now.value) c.in-Int.is ∙ ap Int (sym z) in
+    c.combine_integer.ensures.came S start h k me names size st e l (same a (ap (λ v. On (Eval (erase c.args.value.now)) (Then (RightOf v c.args.op c.args.at) ∷ k) (scope_of me names c.args.room.now) c.args.depth c.args.self.now.left) v))
+
+pub combine-returns-in_default-clause-kept : goal.combine-returns-in_default-clause-kept
+combine-returns-in_default-clause-kept g m c = c.combine_value.ensures.kept
+
+pub combine-returns-in_default-clause-came : goal.combine-returns-in_default-clause-came
+combine-returns-in_default-clause-came g m c = c.combine_value.ensures.came
+
+pub combine_integer-returns-then-is_left-clause-kept : goal.combine_integer-returns-then-is_left-clause-kept
+combine_integer-returns-then-is_left-clause-kept g m c = c.walk-came.ensures.kept
+
+pub combine_integer-returns-then-is_left-clause-came : goal.combine_integer-returns-then-is_left-clause-came
+combine_integer-returns-then-is_left-clause-came g m c = λ S start h k me names size st e l a.
+    let w = c.walk-came in
+    let step = RightOf (Int c.args.m) c.args.op c.args.at in
+    let come = w.ensures.came S start h (Then step ∷ k) me names size st e l a in
+    passes S _ start h w.result w.new.self.value w.new.self.leave _ step k _ _ _ (sym c.is_left.ensures ∙ c.if-is_left.true) come
+
+pub combine_integer-returns-clause-kept : goal.combine_integer-returns-clause-kept
+combine_integer-returns-clause-kept g m c = c.walk-came.ensures.kept
+
+pub combine_integer-returns-clause-came : goal.combine_integer-returns-clause-came
+combine_integer-returns-clause-came g m c = λ S start h k me names size st e l a.
+    let w = c.walk-came in
+    let step = RightOf (Int c.args.m) c.args.op c.args.at in
+    let come = w.ensures.came S start h (Then step ∷ k) me names size st e l a in
+    let none = sym c.is_left.ensures ∙ c.if-is_left.false in
+    let g1 = given w.result w.new.self.value w.new.self.leave none come in
+    let o = c.operated_by.ensures in
+    let number = operator_number S c.args.op ∙ sym c.method_of.ensures in
+    let z : to_z w64 (of_z w64 c.args.m) ≡ c.args.m = search rules in
+    let d0 : OrMemory (outcome_of (deed w.new.self.context.names.now (Int (to_z w64 (of_z w64 c.args.m))) (operator S c.args.op) (value_of w.result w.new.self.value ∷ []) None) c.args.at) (outcome c.operated_by.result c.operated_by.new.self.value c.operated_by.new.self.leave) = o.gives (operator S c.args.op) number in
+    let d = rw (z, w.ensures.context, sym e) at d0 in
+    rw (o.left, o.store) (calls S _ start h _ (Int c.args.m) (operator S c.args.op) (value_of w.result w.new.self.value ∷ []) c.args.at k _ _ _ _ st.classes d (on _ g1 refl))
+
+pub combine_value-returns-then-is_left-clause-came : goal.combine_value-returns-then-is_left-clause-came
+combine_value-returns-then-is_left-clause-came g m c = λ S start h k me names size st e l a.
+    let t = c.take-receiver in
+    let w = c.walk-came in
+    let under = moved _ _ t.ensures.base refl (sub (fits S c.args.value.now) l l.fits) in
+    let f = rw (t.ensures.context, t.ensures.left, t.ensures.store) at w.ensures.came in
+    let e1 = f S start h (Then (RightOf (value_of c.args.current c.args.self.now.value) c.args.op c.args.at) ∷ k) me names size st e under a in
+    passes S _ start h w.result w.new.self.value w.new.self.leave _ (RightOf (value_of c.args.current c.args.self.now.value) c.args.op c.args.at) k _ _ _ (sym c.is_left.ensures ∙ c.if-is_left.true) e1
+
+pub combine_value-returns-clause-came : goal.combine_value-returns-clause-came
+combine_value-returns-clause-came g m c = λ S start h k me names size st e l a.
+    let t = c.take-receiver in
+    let w = c.walk-came in
+    let under = moved _ _ t.ensures.base refl (sub (fits S c.args.value.now) l l.fits) in
+    let f = rw (t.ensures.context, t.ensures.left, t.ensures.store) at w.ensures.came in
+    let e1 = f S start h (Then (RightOf (value_of c.args.current c.args.self.now.value) c.args.op c.args.at) ∷ k) me names size st e under a in
+    let g1 = given w.result w.new.self.value w.new.self.leave (sym c.is_left.ensures ∙ c.if-is_left.false) e1 in
+    let y = c.take-arg in
+    let o = c.operated.ensures in
+    let number = operator_number S c.args.op ∙ sym c.method_of-method.ensures in
+    let d = rw (y.ensures.context, w.ensures.context, t.ensures.context, sym e, t.ensures.value, y.ensures.value) at o.gives (operator S c.args.op) number in
+    rw (o.left, o.store, y.ensures.left, y.ensures.store) (calls S _ start h _ (value_of c.args.current c.args.self.now.value) (operator S c.args.op) (value_of w.result w.new.self.value ∷ []) c.args.at k _ _ _ _ st.classes d (on _ g1 refl))
+
+pub combine_value-returns-then-is_left-clause-kept : goal.combine_value-returns-then-is_left-clause-kept
+combine_value-returns-then-is_left-clause-kept g m c = λ S names size st e l i p q.
+    let t = c.take-receiver in
+    let w = c.walk-came in
+    let under = moved _ _ t.ensures.base refl (sub (fits S c.args.value.now) l l.fits) in
+    let f = rw t.ensures.context at w.ensures.kept in
+    f S names size st e under i p (omega (arith, q, t.ensures.base))
+
+pub combine_value-returns-clause-kept : goal.combine_value-returns-clause-kept
+combine_value-returns-clause-kept g m c = λ S names size st e l i p q.
+    let t = c.take-receiver in
+    let w = c.walk-came in
+    let under = moved _ _ t.ensures.base refl (sub (fits S c.args.value.now) l l.fits) in
+    let f = rw t.ensures.context at w.ensures.kept in
+    f S names size st e under i p (omega (arith, q, t.ensures.base))
+
+pub arguments-each-preserved : goal.arguments-each-preserved
+arguments-each-preserved g m c =
+    let w = c.walk-came.ensures in
+    let t = c.pass.ensures in
+    let p = t.passed in
+    let old = c.each.invariant in
+    let long : length c.pass.new.room ≡ length c.walk-came.new.room = ap length p.2 ∙ len_set c.walk-came.new.room c.walk-came.new.self.base p.0 in
+    record {
+      base = omega (arith, t.base, w.base, old.base);
+      bound = λ r. omega (arith, long, t.base, c.if-self-room.false);
+      context = t.context ∙ (w.context ∙ old.context);
+      room = long ∙ (w.room ∙ old.room);
+      less = omega (arith, t.left, w.less, old.less);
+      unended = rw t.store w.unended;
+      kept = λ S names size st e l i p q.
+          let loop = c.each in
+          let inv = loop.invariant in
+          let w = c.walk-came in
+          let right = every_item S _ _ c.arg-item.result names size c.each-test.true c.arg-item.is l.fits in
+          let under = lies (fits S c.arg-item.result) names size loop.self.base (length loop.room) right l.within (omega (arith, l.below, inv.base)) (inv.bound l.room) in
+          let f = rw inv.context at w.ensures.kept in
+          ap (λ r. slice_get r i) t.passed.2 ∙ (get_set w.new.room w.new.self.base i _ (λ z. omega (arith, z, q, w.ensures.base, inv.base)) ∙ (f S names size st e under i p (omega (arith, q, inv.base)) ∙ inv.kept S names size st e l i p q));
+      came = λ aim at S start h k me names size st e l a.
+          let loop = c.each in
+          let inv = loop.invariant in
+          let w = c.walk-came in
+          let right = every_item S _ _ c.arg-item.result names size c.each-test.true c.arg-item.is l.fits in
+          let under = lies (fits S c.arg-item.result) names size loop.self.base (length loop.room) right l.within (omega (arith, l.below, inv.base)) (inv.bound l.room) in
+          let item = next_item _ _ c.arg-item.result c.each-test.true c.arg-item.is in
+          let rest = map erase (drop (loop.arg-index + 1) c.args.args.now) in
+          let step = Argument aim (map plain (take loop.arg-index (drop c.args.self.now.base loop.room))) rest at in
+          let h1 = on _ (passing _ (sym (ap (map erase) item)) (inv.came aim at S start h k me names size st e l a)) refl in
+          let f = rw inv.context at w.ensures.came in
+          let come = f S start h (Then step ∷ k) me names size st e under h1 in
+          let v = value_of w.result w.new.self.value in
+          let base = c.args.self.now.base in
+          let spot : w.new.self.base ≡ base + loop.arg-index = w.ensures.base ∙ inv.base in
+          let within : base + loop.arg-index < length w.new.room = omega (arith, w.ensures.base, inv.base, c.if-self-room.false) in
+          let f2 = rw inv.context at w.ensures.kept in
+          let g1 = given w.result w.new.self.value w.new.self.leave (sym c.is_left.ensures ∙ c.if-is_left.false) come in
+          rw (t.left, t.store, t.passed.2, spot) (joined me names base loop.arg-index loop.room w.new.room t.passed.0 v t.passed.1 (omega (arith, l.within, l.below)) within (λ j q. f2 S names size st e under (base + j) (omega (arith, l.below)) (omega (arith, q, inv.base))) g1);
+    }

@@ -1,0 +1,11 @@
+# A loop of twenty million turns over three locals.
+i = 0
+sum = 0
+odd = 0
+while i < 20_000_000
+  sum += i * 3
+  odd = i - odd
+  i += 1
+end
+puts sum
+puts odd

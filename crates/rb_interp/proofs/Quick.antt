@@ -1,0 +1,78 @@
+-- What is done without a walk over the parts of a node.
+use Rattle.std.proofs.Common.{◌≡◌, ℕ, ◌-◌, ◌<◌, ◌≤◌, true, List, [], ◌∷◌, length, map, Some, None, refl, sym, ap, ◌∙◌, arith}
+use Rattle.std.specs.Prelude.{ℤ}
+use mathlib.Core.Logic.{inl}
+use Rattle.rb_tree.specs.declared.span.Span.{Span}
+use Rattle.rb_tree.specs.declared.span.NameId.{NameId}
+use Rattle.rb_tree.specs.declared.node.AssignOp.{AssignOp}
+use Rattle.rb_tree.specs.declared.node.AssignOp.TheVariants as op
+use Rattle.rb_model.specs.Values.{Value as Val, Int, plain}
+use Rattle.rb_model.specs.declared.value.Value.{Value as Held}
+use Rattle.rb_model.specs.declared.value.Value.TheVariants as held
+use Rattle.rb_model.specs.Log.{Log}
+use Rattle.rb_model.specs.Private.{Private}
+use Rattle.rb_machine.specs.Scopes.{Script, look, text_of}
+use Rattle.rb_machine.specs.Control.{State, On, Cont, Then, Eval, Give, ReceiverOf, Argument, OnReceiver, ReadOf, RightOf, WriteTo, OfLocal}
+use Rattle.rb_machine.specs.Call.{operator, read_place}
+use Rattle.rb_machine.specs.Methods.{deed}
+use Rattle.rb_machine.specs.Follows.{At}
+use Rattle.rb_builtin.specs.declared.builtin.Builtin.{Builtin}
+use Rattle.rb_builtin.specs.Names.{builtin_of}
+use Rattle.rb_builtin.proofs.Table.{same_is}
+use Rattle.rb_code.specs.declared.code.Code.{Code}
+use Rattle.rb_code.specs.Erase.{erase}
+use Rattle.rb_code.specs.Layout.{bound, has_slot}
+use Rattle.rb_code.specs.Resolved.{fits, every}
+use Rattle.rb_interp.specs.Outcome.{Outcome, Gave, Came}
+use Rattle.rb_interp.specs.Carries.{scope_of, both, numbered, at_slot, updating}
+use Rattle.rb_interp.specs.Answers.{OrMemory, IsHeld, IsUpdated, outcome_of, method_of, wrote}
+use Rattle.rb_interp.proofs.Lists.{fst, snd}
+use Rattle.rb_interp.proofs.Rooms.{read_room}
+use Rattle.rb_interp.proofs.Moves.{on, gives}
+use Rattle.rb_interp.proofs.Calls.{calls}
+use Rattle.rb_interp.proofs.Places.{operator_number, operates}
+use Rattle.rb_interp.proofs.Steps.{assigned}
+
+-- an operator that has a method decides nothing
+no_or : (o : AssignOp) (b : Builtin) → method_of o ≡ Some b → o ≡ op.OrElse → ⊥
+no_or o b h e = let n : method_of o ≡ None = ap method_of e in cc
+
+no_and : (o : AssignOp) (b : Builtin) → method_of o ≡ Some b → o ≡ op.AndThen → ⊥
+no_and o b h e = let n : method_of o ≡ None = ap method_of e in cc
+
+module _ (S : Script) (N : ℕ) (start : State) (h : Private) where
+  -- a call on a leaf without arguments
+  pub calls_held : (l : Log) (k : List Cont) (me : Val) (names : List NameId) (size d left : ℕ) (room : List Held) (name : NameId) (receiver : Code) (at : Span) (v : Val) (o : Outcome)
+      → S.program.classes ≡ [] → fits S receiver names size ≡ true → length names ≤ length room → 0 < left → d < 1000
+      → IsHeld receiver room v → OrMemory (outcome_of (deed S.program.names v (text_of S name) [] None) at) o
+      → At S 0 N start l h (On (Eval (erase receiver)) (Then (ReceiverOf (text_of S name) [] None at) ∷ k) (scope_of me names room) d left) → Came S N start l h o k (scope_of me names room) d (left - 1)
+  calls_held l k me names size d left room name receiver at v o cl f len more deep is m a =
+      let e1 = is S N names size d left start h l (Then (ReceiverOf (text_of S name) [] None at) ∷ k) me f len more deep a in
+      calls S N start h l v (text_of S name) [] at k (scope_of me names room) d (left - 1) o cl m (on _ (on _ e1 refl) refl)
+
+  -- a call with one argument over two leaves
+  pub calls_pair : (l : Log) (k : List Cont) (me : Val) (names : List NameId) (size d left : ℕ) (room : List Held) (name : NameId) (receiver arg : Code) (at : Span) (v w : Val) (o : Outcome)
+      → S.program.classes ≡ [] → fits S receiver names size ≡ true → fits S arg names size ≡ true → length names ≤ length room → 1 < left → d < 1000
+      → IsHeld receiver room v → IsHeld arg room w → OrMemory (outcome_of (deed S.program.names v (text_of S name) (w ∷ []) None) at) o
+      → At S 0 N start l h (On (Eval (erase receiver)) (Then (ReceiverOf (text_of S name) (erase arg ∷ []) None at) ∷ k) (scope_of me names room) d left) → Came S N start l h o k (scope_of me names room) d (left - 2)
+  calls_pair l k me names size d left room name receiver arg at v w o cl f g len more deep is js m a =
+      let e1 = is S N names size d left start h l (Then (ReceiverOf (text_of S name) (erase arg ∷ []) None at) ∷ k) me f len (omega (arith, more)) deep a in
+      let e2 = js S N names size d (left - 1) start h l (Then (Argument (OnReceiver v (text_of S name) None) [] [] at) ∷ k) me g len (omega (arith, more)) deep (on _ (on _ e1 refl) refl) in
+      let twice : left - 2 ≡ left - 1 - 1 = omega arith in
+      rw twice (calls S N start h l v (text_of S name) (w ∷ []) at k (scope_of me names room) d (left - 1 - 1) o cl m (on _ (on _ e2 refl) refl))
+
+  -- an assignment with an operator in place
+  pub updates : (l : Log) (k : List Cont) (me : Val) (names : List NameId) (size d left : ℕ) (room room' : List Held) (slot : ℕ) (name : NameId) (o : AssignOp) (value : Code) (at : Span) (i : ℤ)
+      → S.program.classes ≡ [] → has_slot name names slot ≡ true → fits S value names size ≡ true → length names ≤ length room → 0 < left → d < 1000
+      → IsUpdated slot o value room room' i
+      → At S 0 N start l h (read_place S (OfLocal name) o (erase value) at k (scope_of me names room) d left) → Came S N start l h (Gave (Int i)) k (scope_of me names room') d (left - 1)
+  updates l k me names size d left room room' slot name o value at i cl s f len more deep is a =
+      let m = is.1 in
+      let n = is.2 in
+      let waits = Then (WriteTo (OfLocal name) at) ∷ k in
+      let g1 = gives (Int m) (read_room name names room slot (held.Int m) len s is.4) a in
+      let g2 = operates S N start h (Int m) (OfLocal name) o (erase value) at (no_or o is.0 is.3) (no_and o is.0 is.3) g1 in
+      let g3 = is.5 S N names size d left start h l (Then (RightOf (Int m) o at) ∷ waits) me f len more deep g2 in
+      let given = is.6 S.program.names (operator S o) (operator_number S o ∙ is.3) in
+      let g4 = calls S N start h l (Int m) (operator S o) (Int n ∷ []) at waits (scope_of me names room) d (left - 1) (Gave (Int i)) cl (inl (sym (ap (λ a. outcome_of a at) given))) (on _ g3 refl) in
+      assigned name (WriteTo (OfLocal name) at) names slot room room' (Int i) me (Gave (Int i)) (updating at) len s (wrote (held.Int i) refl is.7) g4
