@@ -152,7 +152,7 @@ read_at cells i c d found read =
     cc
 
 -- the shape of the object at a serial number
-shaped_at : (shapes : List Shape) (cells : List Cell) (i : ℕ) (o : Object) → slice_get cells i ≡ Some (cell.Object o)
+pub shaped_at : (shapes : List Shape) (cells : List Cell) (i : ℕ) (o : Object) → slice_get cells i ≡ Some (cell.Object o)
     → or_root (slice_get (map (shaped_in shapes) cells) i) ≡ shape_in shapes o
 shaped_at shapes [] i o e = absurd (cc)
 shaped_at shapes (c ∷ cells) zero o e = let same : c ≡ cell.Object o = cc in ap (λ (x : Cell). or_root (Some (shaped_in shapes x))) same

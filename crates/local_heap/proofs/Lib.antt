@@ -6,3 +6,4 @@ pub mod Objects
 pub mod Cellwise
 pub mod Callers
 pub mod Walking
+pub mod Agreeing

@@ -5,7 +5,7 @@ ghost use Rattle.rb_model.specs.Private.{bare, entered, held, next_id};
 ghost use Rattle.rb_model.specs.Doing.{doing, said, made, seen, sort_of};
 ghost use Rattle.shape_core.specs.Shape.{Gains, root_of};
 ghost use Rattle.local_heap.specs.Memory.{MayWant};
-ghost use Rattle.local_heap.specs.Heap.{Gives, Becomes, shape_made, shape_then};
+ghost use Rattle.local_heap.specs.Heap.{AgreesAt, Becomes, Gives, shape_made, shape_then};
 
 use crate::object::Object;
 use crate::room::push_within;
@@ -166,5 +166,12 @@ impl<S: ShapeStore> LocalHeap<S> {
             Cell::Empty => Err(AllocError),
             Cell::Object(object) => object.told(self.alloc, &self.shapes, &self.table),
         }
+    }
+
+    /// A law, which runs nothing: the shape of each object says of it what its fields say.
+    pub fn shapes_agree(&self)
+        ensures { (id : Id) → AgreesAt self.now id }
+    {
+        let _ = &self.cells;
     }
 }
