@@ -4,7 +4,7 @@ use Rattle.std.specs.Prelude.{ℤ, slice_get, map, IfSome}
 use Rattle.std.specs.Borrow.{Bor}
 use Rattle.rb_tree.specs.declared.span.Span.{Span}
 use Rattle.rb_tree.specs.declared.span.NameId.{NameId}
-use Rattle.rb_model.specs.Values.{Int, plain}
+use Rattle.rb_model.specs.Values.{Value, Int, Str, plain}
 use Rattle.rb_model.specs.declared.value.Value.{Value as Held}
 use Rattle.rb_model.specs.declared.value.Value.TheVariants as held
 use Rattle.rb_machine.specs.Control.{Under}
@@ -19,6 +19,8 @@ use Rattle.rb_builtin.specs.declared.builtin.Builtin.{Builtin}
 use Rattle.rb_builtin.specs.declared.integer.IntegerAnswer.{IntegerAnswer}
 use Rattle.rb_builtin.specs.Names.{builtin_of}
 use Rattle.rb_builtin.specs.Integers.{answer_of}
+use Rattle.rb_builtin.specs.Deeds.{answer_by_number}
+use Rattle.rb_builtin.proofs.Table.{by_number}
 use Rattle.rb_interp.specs.Answers.{IsHeld, IsHeldAlone, IsSmall, IsQuick}
 use Rattle.rb_interp.proofs.Moves.{on, begins, counts, gives}
 use Rattle.rb_interp.proofs.Rooms.{read_room}
@@ -50,3 +52,10 @@ pub quick_if : (method : Option Builtin) (left right : Code) (room : List Held) 
     → IfSome o (λ answer. IsQuick method left right room (answer_of answer))
 quick_if method left right room None m n l r h = h
 quick_if method left right room (Some answer) m n l r h = (m, n, l, r, h)
+
+-- what a text answers
+pub text_if : (b : Builtin) (method : Option Builtin) (receiver : Value) (s : List ℕ) (args : List Value) (o : Option IntegerAnswer) → method ≡ Some b → receiver ≡ Str s
+    → IfSome o (λ answer. (texts : List (List ℕ)) → answer_by_number texts (Str s) b args None ≡ answer_of answer)
+    → IfSome o (λ answer. (texts : List (List ℕ)) (name : List ℕ) → builtin_of name ≡ method → deed texts receiver name args None ≡ answer_of answer)
+text_if b method receiver s args None e f h = h
+text_if b method receiver s args (Some answer) e f h = λ texts name n. ap (λ v. deed texts v name args None) f ∙ (sym (by_number texts (Str s) name b args None (n ∙ e)) ∙ h texts)

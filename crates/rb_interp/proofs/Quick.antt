@@ -1,32 +1,29 @@
 -- What is done without a walk over the parts of a node.
-use Rattle.std.proofs.Common.{◌≡◌, ℕ, ◌-◌, ◌<◌, ◌≤◌, true, List, [], ◌∷◌, length, map, Some, None, refl, sym, ap, ◌∙◌, arith}
+use Rattle.std.proofs.Common.{◌≡◌, ℕ, ◌-◌, ◌<◌, ◌≤◌, true, List, [], ◌∷◌, length, Some, None, refl, sym, ap, ◌∙◌, arith}
 use Rattle.std.specs.Prelude.{ℤ}
 use mathlib.Core.Logic.{inl}
 use Rattle.rb_tree.specs.declared.span.Span.{Span}
 use Rattle.rb_tree.specs.declared.span.NameId.{NameId}
 use Rattle.rb_tree.specs.declared.node.AssignOp.{AssignOp}
 use Rattle.rb_tree.specs.declared.node.AssignOp.TheVariants as op
-use Rattle.rb_model.specs.Values.{Value as Val, Int, plain}
+use Rattle.rb_model.specs.Values.{Value as Val, Int}
 use Rattle.rb_model.specs.declared.value.Value.{Value as Held}
 use Rattle.rb_model.specs.declared.value.Value.TheVariants as held
 use Rattle.rb_model.specs.Log.{Log}
 use Rattle.rb_model.specs.Private.{Private}
-use Rattle.rb_machine.specs.Scopes.{Script, look, text_of}
-use Rattle.rb_machine.specs.Control.{State, On, Cont, Then, Eval, Give, ReceiverOf, Argument, OnReceiver, ReadOf, RightOf, WriteTo, OfLocal}
+use Rattle.rb_machine.specs.Scopes.{Script, text_of}
+use Rattle.rb_machine.specs.Control.{State, On, Cont, Then, Eval, ReceiverOf, Argument, OnReceiver, RightOf, WriteTo, OfLocal}
 use Rattle.rb_machine.specs.Call.{operator, read_place}
 use Rattle.rb_machine.specs.Methods.{deed}
 use Rattle.rb_machine.specs.Follows.{At}
 use Rattle.rb_builtin.specs.declared.builtin.Builtin.{Builtin}
-use Rattle.rb_builtin.specs.Names.{builtin_of}
-use Rattle.rb_builtin.proofs.Table.{same_is}
 use Rattle.rb_code.specs.declared.code.Code.{Code}
 use Rattle.rb_code.specs.Erase.{erase}
-use Rattle.rb_code.specs.Layout.{bound, has_slot}
-use Rattle.rb_code.specs.Resolved.{fits, every}
+use Rattle.rb_code.specs.Layout.{has_slot}
+use Rattle.rb_code.specs.Resolved.{fits}
 use Rattle.rb_interp.specs.Outcome.{Outcome, Gave, Came}
-use Rattle.rb_interp.specs.Carries.{scope_of, both, numbered, at_slot, updating}
+use Rattle.rb_interp.specs.Carries.{scope_of, updating}
 use Rattle.rb_interp.specs.Answers.{OrMemory, IsHeld, IsUpdated, outcome_of, method_of, wrote}
-use Rattle.rb_interp.proofs.Lists.{fst, snd}
 use Rattle.rb_interp.proofs.Rooms.{read_room}
 use Rattle.rb_interp.proofs.Moves.{on, gives}
 use Rattle.rb_interp.proofs.Calls.{calls}

@@ -3,11 +3,13 @@
 ghost use Rattle.std.specs.Prelude.{◌≡◌, ℕ, List, [], ◌∷◌, length, map, slice_get, Some, None, IfSome};
 ghost use Rattle.rb_tree.specs.declared.node.Node.{out-Node};
 ghost use Rattle.rb_tree.specs.Place.{place};
-ghost use Rattle.rb_model.specs.Values.{Int, plain, truthy};
+ghost use Rattle.rb_model.specs.Values.{Int, Str, plain, truthy};
 ghost use Rattle.rb_model.specs.declared.value.Value.{Value as Held};
 ghost use Rattle.rb_model.specs.declared.value.Value.TheVariants as held;
 ghost use Rattle.rb_machine.specs.Methods.{deed};
+ghost use Rattle.rb_builtin.specs.declared.builtin.Builtin.TheVariants as builtin;
 ghost use Rattle.rb_builtin.specs.Names.{builtin_of};
+ghost use Rattle.rb_builtin.specs.Deeds.{answer_by_number};
 ghost use Rattle.rb_builtin.specs.Integers as integers;
 ghost use Rattle.rb_code.specs.Erase.{erase};
 ghost use Rattle.rb_interp.specs.Answers.{IsHeld, IsHeldAlone, IsSmall, IsQuick, IsUpdated, method_of};
@@ -15,7 +17,7 @@ ghost use Rattle.rb_interp.specs.Answers.{IsHeld, IsHeldAlone, IsSmall, IsQuick,
 use crate::slots::put;
 use rb_builtin::{Builtin, IntegerAnswer, integer_operation, is_operation};
 use rb_code::Code;
-use rb_model::Value;
+use rb_model::{SharedText, Value};
 use rb_tree::{AssignOp, Span};
 
 /// Whether a value is true: only nil and false are not.
@@ -154,6 +156,62 @@ pub(crate) fn operation_on(
         return None;
     };
     operation_by(method, *m, *n)
+}
+
+/// What a text answers to a method whose answer needs no memory, where this is one.
+#[inline(always)]
+pub(crate) fn text_answer(
+    method: Option<Builtin>,
+    receiver: &Value,
+    args: &[Value],
+) -> Option<IntegerAnswer>
+    ensures { IfSome result (λ answer. (texts : List (List ℕ)) (name : List ℕ) → builtin_of name ≡ method → deed texts (plain receiver.now) name (map plain args.now) None ≡ integers.answer_of answer) }
+{
+    let Value::Str(text) = receiver else {
+        return None;
+    };
+    match method {
+        Some(number) => text_answer_by(number, text, args),
+        None => None,
+    }
+}
+
+/// What a text answers to a method by its number, where that needs no memory.
+#[inline(always)]
+fn text_answer_by(method: Builtin, text: &SharedText, args: &[Value]) -> Option<IntegerAnswer>
+    ensures { IfSome result (λ answer. (texts : List (List ℕ)) → answer_by_number texts (Str text.now) method (map plain args.now) None ≡ integers.answer_of answer) }
+{
+    match method {
+        Builtin::Length => length_of(text, args),
+        Builtin::Equal => sameness_of(text, args),
+        _ => None,
+    }
+}
+
+/// The length of a text.
+#[inline(always)]
+fn length_of(text: &SharedText, args: &[Value]) -> Option<IntegerAnswer>
+    ensures { IfSome result (λ answer. (texts : List (List ℕ)) → answer_by_number texts (Str text.now) builtin.Length (map plain args.now) None ≡ integers.answer_of answer) }
+{
+    if !args.is_empty() {
+        return None;
+    }
+    Some(IntegerAnswer::Int(text.characters()))
+}
+
+/// Whether a text is another.
+#[inline(always)]
+fn sameness_of(text: &SharedText, args: &[Value]) -> Option<IntegerAnswer>
+    ensures { IfSome result (λ answer. (texts : List (List ℕ)) → answer_by_number texts (Str text.now) builtin.Equal (map plain args.now) None ≡ integers.answer_of answer) }
+{
+    let [Value::Str(other)] = args else {
+        return None;
+    };
+    if text.as_slice() == other.as_slice() {
+        Some(IntegerAnswer::True)
+    } else {
+        Some(IntegerAnswer::False)
+    }
 }
 
 /// What an operation over two leaves gives, where they are integers and this is one.

@@ -34,7 +34,7 @@ use crate::came::{Came, Cut, Leave, end_by, is_left};
 use crate::ending::{close, end_of};
 use crate::leaf::{
     held_alone, held_at, is_true, method_of, operation_by, operation_on, place_of, quick,
-    quick_update,
+    quick_update, small, text_answer,
 };
 use crate::rounds::{Rounds, count_of, rounds_of};
 use crate::slots::{clear, passed, put, start_block};
@@ -282,6 +282,27 @@ impl<'p, O: OneStore + Drop> Walker<'p, O> {
         }
     }
 
+    /// What a value answers to a method without a block, where it may be a text that answers without memory.
+    #[inline(always)]
+    fn call_held(
+        &mut self,
+        receiver: &Value,
+        method: Option<Builtin>,
+        args: &[Value],
+        at: Span,
+    ) -> Came
+        ensures gives { (name : List ℕ) → builtin_of name ≡ method → OrMemory (outcome_of (deed self.old.context.names.now (plain receiver.now) name (map plain args.now) None) at) (outcome result self.new.value self.new.leave) }
+        ensures base { self.new.base ≡ self.old.base }
+        ensures left { self.new.left ≡ self.old.left }
+        ensures context { self.new.context ≡ self.old.context }
+        ensures store { self.new.store ≡ self.old.store }
+    {
+        match text_answer(method, receiver, args) {
+            Some(answer) => self.answer(answer, at),
+            None => self.call_method(receiver, method, args, at),
+        }
+    }
+
     /// Shows bytes by one print, where there are any, and gives nil or a value.
     fn show(&mut self, form: Form, args: &[Value], at: Span) -> Came
         requires unended { has_end (O.log self.old.store).entries ≡ false }
@@ -363,6 +384,30 @@ impl<'p, O: OneStore + Drop> Walker<'p, O> {
         }
         self.left -= 1;
         self.begin(code, depth + 1, room)
+    }
+
+    /// Evaluates a node that may well be a leaf. Where it is an integer it calls nothing of the walk.
+    #[cycle(walk)]
+    #[inline(always)]
+    fn evaluate(&mut self, code: &'p Code, depth: u32, room: &mut [Value]) -> Came
+        requires unended { has_end (O.log self.old.store).entries ≡ false }
+        requires steps { self.old.left ≤ self.old.context.steps }
+        ensures counted { goes_on (outcome result self.new.value self.new.leave) ≡ true → self.new.left < self.old.left }
+        ensures base { self.new.base ≡ self.old.base }
+        ensures context { self.new.context ≡ self.old.context }
+        ensures room { length room.new ≡ length room.old }
+        ensures less { self.new.left ≤ self.old.left }
+        ensures unended { has_end (O.log self.new.store).entries ≡ false }
+        ensures kept { Keeps self.old.context.script.now self.old.context.names.now (λ S. fits S code.now) self.old.base room.old room.new }
+        ensures came { Carries self.old.context.script.now self.old.context.names.now self.old.context.steps (λ S. fits S code.now) (λ S k sc d n. On (Eval (erase code.now)) k sc d n) self.old.base depth self.old.left self.new.left room.old room.new (O.log self.old.store) (O.log self.new.store) (outcome result self.new.value self.new.leave) }
+    {
+        if self.left > 0 && depth < MAX_DEPTH {
+            if let Some(n) = small(code, room) {
+                self.left -= 1;
+                return Came::Int(n);
+            }
+        }
+        self.walk(code, depth, room)
     }
 
     /// A node whose step is counted.
@@ -514,7 +559,7 @@ impl<'p, O: OneStore + Drop> Walker<'p, O> {
                     if let Some(receiver) = held_at(left, room) {
                         if let Some(arg) = held_alone(right, room) {
                             self.left -= 2;
-                            return self.call_method(receiver, *method, arg, *at);
+                            return self.call_held(receiver, *method, arg, *at);
                         }
                     }
                 }
@@ -544,7 +589,7 @@ impl<'p, O: OneStore + Drop> Walker<'p, O> {
                 if self.left > 0 && depth < MAX_DEPTH && args.is_empty() {
                     if let Some(held) = held_at(receiver, room) {
                         self.left -= 1;
-                        return self.call_method(held, *method, &[], *at);
+                        return self.call_held(held, *method, &[], *at);
                     }
                 }
                 self.send(*method, receiver, args.as_slice(), *at, depth, room)
@@ -664,6 +709,7 @@ impl<'p, O: OneStore + Drop> Walker<'p, O> {
 
     /// An assignment to a local.
     #[cycle(walk)]
+    #[inline(always)]
     fn set_local(&mut self, slot: u32, value: &'p Code, depth: u32, room: &mut [Value]) -> Came
         requires unended { has_end (O.log self.old.store).entries ≡ false }
         requires steps { self.old.left ≤ self.old.context.steps }
@@ -684,7 +730,7 @@ impl<'p, O: OneStore + Drop> Walker<'p, O> {
 
     /// An assignment with an operator to a local.
     #[cycle(walk)]
-    #[inline(never)]
+    #[inline(always)]
     fn update_local(
         &mut self,
         slot: u32,
@@ -1054,7 +1100,7 @@ impl<'p, O: OneStore + Drop> Walker<'p, O> {
         ensures kept { (name : NameId) → Keeps self.old.context.script.now self.old.context.names.now (numbered method name (λ S. fits S right.now)) self.old.base room.old room.new }
         ensures came { (name : NameId) → Carries self.old.context.script.now self.old.context.names.now self.old.context.steps (numbered method name (λ S. fits S right.now)) (λ S k sc d n. On (Eval (erase right.now)) (Then (Argument (OnReceiver (Int m) (text_of S name) None) [] [] at) ∷ k) sc d n) self.old.base depth self.old.left self.new.left room.old room.new (O.log self.old.store) (O.log self.new.store) (outcome result self.new.value self.new.leave) }
     {
-        let came = self.walk(right, depth, room);
+        let came = self.evaluate(right, depth, room);
         if is_left(came) {
             return came;
         }
@@ -1410,7 +1456,7 @@ impl<'p, O: OneStore + Drop> Walker<'p, O> {
         ensures came { Passes self.old.context.script.now self.old.context.names.now self.old.context.steps args.now self.old.base depth self.old.left self.new.left room.old room.new (O.log self.old.store) (O.log self.new.store) result (outcome result self.new.value self.new.leave) }
     {
         'each: for arg in args {
-            let came = self.walk(arg, depth, room);
+            let came = self.evaluate(arg, depth, room);
             if is_left(came) {
                 return came;
             }

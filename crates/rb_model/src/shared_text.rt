@@ -40,7 +40,13 @@ impl Model for SharedText {
 fn count(bytes: &[u8]) -> u64
     ensures { result ≡ characters bytes.now }
 {
-    bytes.iter().filter(|byte| !is_inside(**byte)).count() as u64
+    let mut found = 0u64;
+    'bytes: for byte in bytes {
+        if !is_inside(*byte) {
+            found += 1;
+        }
+    }
+    found
 }
 
 /// Whether a byte stands inside a character, behind its first byte.

@@ -782,7 +782,7 @@ pub arguments-returns-then-is_left-clause-kept : goal.arguments-returns-then-is_
 arguments-returns-then-is_left-clause-kept g m c = λ S names size st e l i p q.
     let loop = c.each in
     let inv = loop.invariant in
-    let w = c.walk-came in
+    let w = c.evaluate-came in
     let right = every_item S _ _ c.arg-item.result names size c.each-test.true c.arg-item.is l.fits in
     let under = lies (fits S c.arg-item.result) names size loop.self.base (length loop.room) right l.within (omega (arith, l.below, inv.base)) (inv.bound l.room) in
     let f = rw inv.context at w.ensures.kept in
@@ -792,7 +792,7 @@ pub arguments-returns-then-self-room-clause-kept : goal.arguments-returns-then-s
 arguments-returns-then-self-room-clause-kept g m c = λ S names size st e l i p q.
     let loop = c.each in
     let inv = loop.invariant in
-    let w = c.walk-came in
+    let w = c.evaluate-came in
     let right = every_item S _ _ c.arg-item.result names size c.each-test.true c.arg-item.is l.fits in
     let under = lies (fits S c.arg-item.result) names size loop.self.base (length loop.room) right l.within (omega (arith, l.below, inv.base)) (inv.bound l.room) in
     let f = rw inv.context at w.ensures.kept in
@@ -802,7 +802,7 @@ pub arguments-returns-then-is_left-clause-came : goal.arguments-returns-then-is_
 arguments-returns-then-is_left-clause-came g m c = λ aim at S start h k me names size st e l a.
     let loop = c.each in
     let inv = loop.invariant in
-    let w = c.walk-came in
+    let w = c.evaluate-came in
     let right = every_item S _ _ c.arg-item.result names size c.each-test.true c.arg-item.is l.fits in
     let under = lies (fits S c.arg-item.result) names size loop.self.base (length loop.room) right l.within (omega (arith, l.below, inv.base)) (inv.bound l.room) in
     let item = next_item _ _ c.arg-item.result c.each-test.true c.arg-item.is in
@@ -818,7 +818,7 @@ pub arguments-returns-then-self-room-clause-came : goal.arguments-returns-then-s
 arguments-returns-then-self-room-clause-came g m c = λ aim at S start h k me names size st e l a.
     let loop = c.each in
     let inv = loop.invariant in
-    let w = c.walk-came in
+    let w = c.evaluate-came in
     let right = every_item S _ _ c.arg-item.result names size c.each-test.true c.arg-item.is l.fits in
     let under = lies (fits S c.arg-item.result) names size loop.self.base (length loop.room) right l.within (omega (arith, l.below, inv.base)) (inv.bound l.room) in
     let item = next_item _ _ c.arg-item.result c.each-test.true c.arg-item.is in
@@ -1764,7 +1764,7 @@ begin_slow_operate-returns-in-Some-held_alone-clause-came g m c = λ S start h k
     let fr : fits S second names size ≡ true = rw c.get-right.ensures (snd _ _ (snd _ _ s)) in
     let len : length names ≤ length c.args.room.now = omega (arith, l.within, l.below, l.room) in
     let vs = c.in-Some-held_alone.ensures in
-    let o = c.call_method.ensures in
+    let o = c.call_held.ensures in
     let number = same_is (builtin_of (text_of S x.field-1)) x.method (fst _ _ s) in
     let given = rw (sym e, vs.1) at (o.gives (text_of S x.field-1) number) in
     let b = begins _ _ k _ _ _ (shows-operate c.args.code.now x.method x.field-1 x.left x.right x.at x.is) a in
@@ -1793,7 +1793,7 @@ begin_send-returns-in-Some-clause-came g m c = λ S start h k me names size st e
     let right : fits S first names size ≡ true = rw c.get-receiver.ensures (fst _ _ (snd _ _ s)) in
     let len : length names ≤ length c.args.room.now = omega (arith, l.within, l.below, l.room) in
     let none : x.args ≡ [] = c.if-is_empty.ensures.0 refl in
-    let o = c.call_method.ensures in
+    let o = c.call_held.ensures in
     let number = same_is (builtin_of (text_of S x.field-1)) x.method (fst _ _ s) in
     let given = rw (sym e) at (o.gives (text_of S x.field-1) number) in
     let b = same (begins _ _ k _ _ _ (shows-send c.args.code.now x.method x.field-1 x.receiver x.args x.at x.is) a) (ap (λ args. On (Eval (erase x.receiver)) (Then (ReceiverOf (text_of S x.field-1) (map erase args) None x.at) ∷ k) (scope_of me names c.args.room.now) c.args.depth c.args.self.now.left) none) in
@@ -1866,21 +1866,21 @@ operate-returns-in_default-clause-came g m c = λ name S start h k me names size
     f name S start h k me names size st e under (on _ (on _ g2 refl) refl)
 
 pub operate_integer-returns-then-is_left-clause-kept : goal.operate_integer-returns-then-is_left-clause-kept
-operate_integer-returns-then-is_left-clause-kept g m c = λ name S names size st e l i p q. c.walk-came.ensures.kept S names size st e (sub (fits S c.args.right.now) l (snd _ _ l.fits)) i p q
+operate_integer-returns-then-is_left-clause-kept g m c = λ name S names size st e l i p q. c.evaluate-came.ensures.kept S names size st e (sub (fits S c.args.right.now) l (snd _ _ l.fits)) i p q
 
 pub operate_integer-returns-then-is_left-clause-came : goal.operate_integer-returns-then-is_left-clause-came
 operate_integer-returns-then-is_left-clause-came g m c = λ name S start h k me names size st e l a.
-    let w = c.walk-came in
+    let w = c.evaluate-came in
     let step = Argument (OnReceiver (Int c.args.m) (text_of S name) None) [] [] c.args.at in
     let come = w.ensures.came S start h (Then step ∷ k) me names size st e (sub (fits S c.args.right.now) l (snd _ _ l.fits)) a in
     passes S _ start h w.result w.new.self.value w.new.self.leave _ step k _ _ _ (sym c.is_left.ensures ∙ c.if-is_left.true) come
 
 pub operate_integer-returns-clause-kept : goal.operate_integer-returns-clause-kept
-operate_integer-returns-clause-kept g m c = λ name S names size st e l i p q. c.walk-came.ensures.kept S names size st e (sub (fits S c.args.right.now) l (snd _ _ l.fits)) i p q
+operate_integer-returns-clause-kept g m c = λ name S names size st e l i p q. c.evaluate-came.ensures.kept S names size st e (sub (fits S c.args.right.now) l (snd _ _ l.fits)) i p q
 
 pub operate_integer-returns-clause-came : goal.operate_integer-returns-clause-came
 operate_integer-returns-clause-came g m c = λ name S start h k me names size st e l a.
-    let w = c.walk-came in
+    let w = c.evaluate-came in
     let step = Argument (OnReceiver (Int c.args.m) (text_of S name) None) [] [] c.args.at in
     let come = w.ensures.came S start h (Then step ∷ k) me names size st e (sub (fits S c.args.right.now) l (snd _ _ l.fits)) a in
     let none = sym c.is_left.ensures ∙ c.if-is_left.false in
@@ -2017,11 +2017,11 @@ combine_value-returns-clause-kept g m c = λ S names size st e l i p q.
 
 pub arguments-each-preserved : goal.arguments-each-preserved
 arguments-each-preserved g m c =
-    let w = c.walk-came.ensures in
+    let w = c.evaluate-came.ensures in
     let t = c.pass.ensures in
     let p = t.passed in
     let old = c.each.invariant in
-    let long : length c.pass.new.room ≡ length c.walk-came.new.room = ap length p.2 ∙ len_set c.walk-came.new.room c.walk-came.new.self.base p.0 in
+    let long : length c.pass.new.room ≡ length c.evaluate-came.new.room = ap length p.2 ∙ len_set c.evaluate-came.new.room c.evaluate-came.new.self.base p.0 in
     record {
       base = omega (arith, t.base, w.base, old.base);
       bound = λ r. omega (arith, long, t.base, c.if-self-room.false);
@@ -2032,7 +2032,7 @@ arguments-each-preserved g m c =
       kept = λ S names size st e l i p q.
           let loop = c.each in
           let inv = loop.invariant in
-          let w = c.walk-came in
+          let w = c.evaluate-came in
           let right = every_item S _ _ c.arg-item.result names size c.each-test.true c.arg-item.is l.fits in
           let under = lies (fits S c.arg-item.result) names size loop.self.base (length loop.room) right l.within (omega (arith, l.below, inv.base)) (inv.bound l.room) in
           let f = rw inv.context at w.ensures.kept in
@@ -2040,7 +2040,7 @@ arguments-each-preserved g m c =
       came = λ aim at S start h k me names size st e l a.
           let loop = c.each in
           let inv = loop.invariant in
-          let w = c.walk-came in
+          let w = c.evaluate-came in
           let right = every_item S _ _ c.arg-item.result names size c.each-test.true c.arg-item.is l.fits in
           let under = lies (fits S c.arg-item.result) names size loop.self.base (length loop.room) right l.within (omega (arith, l.below, inv.base)) (inv.bound l.room) in
           let item = next_item _ _ c.arg-item.result c.each-test.true c.arg-item.is in
@@ -2057,3 +2057,9 @@ arguments-each-preserved g m c =
           let g1 = given w.result w.new.self.value w.new.self.leave (sym c.is_left.ensures ∙ c.if-is_left.false) come in
           rw (t.left, t.store, t.passed.2, spot) (joined me names base loop.arg-index loop.room w.new.room t.passed.0 v t.passed.1 (omega (arith, l.within, l.below)) within (λ j q. f2 S names size st e under (base + j) (omega (arith, l.below)) (omega (arith, q, inv.base))) g1);
     }
+
+pub evaluate-returns-in-Some-clause-came : goal.evaluate-returns-in-Some-clause-came
+evaluate-returns-in-Some-clause-came g m c = λ S start h k me names size st e l a.
+    let len : length names ≤ length c.args.room.now = omega (arith, l.within, l.below, l.room) in
+    let z : to_z w64 (of_z w64 c.in-Some.n) ≡ c.in-Some.n = search rules in
+    rw z (c.in-Some.ensures S _ names size c.args.depth c.args.self.now.left start h _ k me l.fits len c.if-self-gt0.true c.if-depth-lt-MAX_DEPTH.true a)

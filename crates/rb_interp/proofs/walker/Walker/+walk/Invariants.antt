@@ -26,10 +26,10 @@ abbrev pub decreases-operate : goal.decreases-operate
 decreases-operate g l = 12 * (1001 - l.depth) + 3
 
 abbrev pub decreases-send : goal.decreases-send
-decreases-send g l = 12 * (1001 - l.depth) + 2
+decreases-send g l = 12 * (1001 - l.depth) + 3
 
 abbrev pub decreases-store_by : goal.decreases-store_by
-decreases-store_by g l = 12 * (1001 - l.depth) + 2
+decreases-store_by g l = 12 * (1001 - l.depth) + 3
 
 abbrev pub decreases-send_block : goal.decreases-send_block
 decreases-send_block g l = 12 * (1001 - l.depth) + 4
@@ -41,7 +41,7 @@ abbrev pub decreases-function : goal.decreases-function
 decreases-function g l = 12 * (1001 - l.depth) + 3
 
 abbrev pub decreases-print : goal.decreases-print
-decreases-print g l = 12 * (1001 - l.depth) + 2
+decreases-print g l = 12 * (1001 - l.depth) + 3
 
 abbrev pub decreases-read_element : goal.decreases-read_element
 decreases-read_element g l = 12 * (1001 - l.depth) + 1
@@ -59,7 +59,7 @@ abbrev pub decreases-refuse_value : goal.decreases-refuse_value
 decreases-refuse_value g l = 12 * (1001 - l.depth) + 1
 
 abbrev pub decreases-arguments : goal.decreases-arguments
-decreases-arguments g l = 12 * (1001 - l.depth) + 1
+decreases-arguments g l = 12 * (1001 - l.depth) + 2
 
 abbrev pub decreases-text : goal.decreases-text
 decreases-text g l = 12 * (1001 - l.depth) + 1
@@ -104,7 +104,7 @@ abbrev pub decreases-begin_slow_operate : goal.decreases-begin_slow_operate
 decreases-begin_slow_operate g l = 12 * (1001 - l.depth) + 9
 
 abbrev pub decreases-begin_send : goal.decreases-begin_send
-decreases-begin_send g l = 12 * (1001 - l.depth) + 3
+decreases-begin_send g l = 12 * (1001 - l.depth) + 4
 
 abbrev pub decreases-begin_function : goal.decreases-begin_function
 decreases-begin_function g l = 12 * (1001 - l.depth) + 4
@@ -116,7 +116,7 @@ abbrev pub decreases-begin_other : goal.decreases-begin_other
 decreases-begin_other g l = 12 * (1001 - l.depth) + 5
 
 abbrev pub decreases-operate_integer : goal.decreases-operate_integer
-decreases-operate_integer g l = 12 * (1001 - l.depth) + 1
+decreases-operate_integer g l = 12 * (1001 - l.depth) + 2
 
 abbrev pub decreases-operate_value : goal.decreases-operate_value
 decreases-operate_value g l = 12 * (1001 - l.depth) + 1
@@ -126,6 +126,9 @@ decreases-combine_integer g l = 12 * (1001 - l.depth) + 1
 
 abbrev pub decreases-combine_value : goal.decreases-combine_value
 decreases-combine_value g l = 12 * (1001 - l.depth) + 1
+
+abbrev pub decreases-evaluate : goal.decreases-evaluate
+decreases-evaluate g l = 12 * (1001 - l.depth) + 1
 
 abbrev pub invariant-body-nodes : goal.invariant-body-nodes
 invariant-body-nodes g l =
