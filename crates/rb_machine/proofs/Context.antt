@@ -19,11 +19,11 @@ use Rattle.rb_model.specs.Acts.{Act, GetField, SetField, Reply}
 use Rattle.rb_model.specs.Acts as reply
 use Rattle.rb_model.specs.Ends as ending
 use Rattle.rb_machine.specs.Scopes.{Script, Text, Scope, text_of}
-use Rattle.rb_machine.specs.Control.{State, On, Cont, Then, Under, Test, Again, Turn, Frame, Step, AssignTo, FieldTo, GlobalTo, Rest, Choose, RightOfAnd, RightOfOr, Negate, ReturnOf, ReceiverOf, ReceiverToStore, Argument, Instead, Create, PieceOf, IndexedBy, MemberOf, IndexOf, ReadOf, RightOf, WriteTo}
-use Rattle.rb_machine.specs.Control.{Eval, Give, Leave, Following, Looping, Turning, Passing, Joining, Making, Calling, Showing, Ended, Exit, Break, Next, Return, Aim, OnReceiver, ByName, Storing, Place, OfLocal, OfField, OfGlobal, OfElement, OfAttribute}
+use Rattle.rb_machine.specs.Control.{State, On, Cont, Then, Under, Test, Again, Turn, Frame, Step, AssignTo, FieldTo, GlobalTo, Rest, Choose, RightOfAnd, RightOfOr, Negate, ReturnOf, ReceiverOf, ReceiverToStore, Argument, Instead, Create, Initialize, PieceOf, IndexedBy, MemberOf, IndexOf, ReadOf, RightOf, WriteTo}
+use Rattle.rb_machine.specs.Control.{Eval, Give, Leave, Following, Looping, Turning, Passing, Joining, Making, Calling, Showing, Ended, Exit, Break, Next, Return, Aim, OnReceiver, ByName, Storing, Creating, Place, OfLocal, OfField, OfGlobal, OfElement, OfAttribute}
 use Rattle.rb_machine.specs.Methods.{Answer, Gives, Raises, Loops, deed}
 use Rattle.rb_machine.specs.Texts.{max_bytes, shown, puts_text, print_text, p_text}
-use Rattle.rb_machine.specs.Call.{ask_of, named, texted, methods_of, params_of, invoked, top_level, own, last_value, enter, answered, invoke, operator, show, value_of_p, print, perform, read_place, decide, write_place}
+use Rattle.rb_machine.specs.Call.{ask_of, named, texted, methods_of, params_of, invoked, top_level, own, last_value, enter, answered, invoke, operator, show, value_of_p, print, perform, read_place, decide, write_place, create, class_from, initialized}
 use Rattle.rb_machine.specs.Begin.{begin, begin_call, begin_target, begin_return}
 use Rattle.rb_machine.specs.Give.{join, give_step, give, leave}
 use Rattle.rb_machine.specs.Move.{join_piece}
@@ -83,10 +83,20 @@ module _ (S : Script) where
   own_local (Some m) name args at r k sc d left = enter_local m sc.me args at r k sc d left
   own_local None name args at r k sc d left = top_level_local (named S name S.program.functions) name args at r k sc d left
 
+  create_local : (class : Option ℕ) (args : List Value) (at : Span) (r k : List Cont) (sc : Scope) (d left : ℕ) → create S class args at (k ++ r) sc d left ≡ onto r (create S class args at k sc d left)
+  create_local (Some class) args at r k sc d left = refl
+  create_local None args at r k sc d left = refl
+
+  initialized_local : (m : Option Method) (object : Value) (args : List Value) (at : Span) (r k : List Cont) (sc : Scope) (d left : ℕ) → initialized S m object args at (k ++ r) sc d left ≡ onto r (initialized S m object args at k sc d left)
+  initialized_local (Some m) object args at r k sc d left = enter_local m object args at r (Then (Instead object) ∷ k) sc d left
+  initialized_local None object [] at r k sc d left = refl
+  initialized_local None object (v ∷ vs) at r k sc d left = refl
+
   pub perform_local : (aim : Aim) (args : List Value) (at : Span) (r k : List Cont) (sc : Scope) (d left : ℕ) → perform S aim args at (k ++ r) sc d left ≡ onto r (perform S aim args at k sc d left)
   perform_local (OnReceiver v name block) args at r k sc d left = invoke_local v name args block at r k sc d left
   perform_local (ByName name) args at r k sc d left = own_local (named S name (methods_of S sc.me)) name args at r k sc d left
   perform_local (Storing v name) args at r k sc d left = invoke_local v name args None at r (Then (Instead (last_value S args)) ∷ k) sc d left
+  perform_local (Creating class) args at r k sc d left = create_local (class_from S 0 class S.program.classes) args at r k sc d left
 
   read_local : (place : Place) (o : AssignOp) (value : Node) (at : Span) (r k : List Cont) (sc : Scope) (d left : ℕ) → read_place S place o value at (k ++ r) sc d left ≡ onto r (read_place S place o value at k sc d left)
   read_local (OfLocal name) o value at r k sc d left = refl
@@ -133,6 +143,7 @@ module _ (S : Script) where
   give_step_local v (Argument aim done rest at) r k sc d left = refl
   give_step_local v (Instead w) r k sc d left = refl
   give_step_local v (Create thing) r k sc d left = refl
+  give_step_local v (Initialize args at) r k sc d left = initialized_local (texted S (codes "initialize") (methods_of S v)) v args at r k sc d left
   give_step_local v (PieceOf bytes pieces at) r k sc d left = join_local bytes (shown S.program.names v) pieces at r k sc d left
   give_step_local v (IndexedBy index o value at) r k sc d left = refl
   give_step_local v (MemberOf name o value at) r k sc d left = read_local (OfAttribute v name) o value at r k sc d left

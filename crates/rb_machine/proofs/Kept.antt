@@ -24,11 +24,11 @@ use Rattle.rb_model.specs.Values.{Value, Nil, False, True, Int, Sym, Str, To, tr
 use Rattle.rb_model.specs.Acts.{Act, GetField, SetField}
 use Rattle.rb_model.specs.Ends.{Steps}
 use Rattle.rb_machine.specs.Scopes.{Script, Text, Scope, Locals, text_of, found, assign, fresh, with_locals}
-use Rattle.rb_machine.specs.Control.{State, On, Cont, Then, Under, Test, Again, Turn, Frame, Step, AssignTo, FieldTo, GlobalTo, Rest, Choose, RightOfAnd, RightOfOr, Negate, ReturnOf, ReceiverOf, ReceiverToStore, Argument, Instead, Create, PieceOf, IndexedBy, MemberOf, IndexOf, ReadOf, RightOf, WriteTo}
-use Rattle.rb_machine.specs.Control.{Ended, Exit, Break, Next, Return, Aim, OnReceiver, ByName, Storing, Place, OfLocal, OfField, OfGlobal, OfElement, OfAttribute, Turns, Counting}
+use Rattle.rb_machine.specs.Control.{State, On, Cont, Then, Under, Test, Again, Turn, Frame, Step, AssignTo, FieldTo, GlobalTo, Rest, Choose, RightOfAnd, RightOfOr, Negate, ReturnOf, ReceiverOf, ReceiverToStore, Argument, Instead, Create, Initialize, PieceOf, IndexedBy, MemberOf, IndexOf, ReadOf, RightOf, WriteTo}
+use Rattle.rb_machine.specs.Control.{Ended, Exit, Break, Next, Return, Aim, OnReceiver, ByName, Storing, Creating, Place, OfLocal, OfField, OfGlobal, OfElement, OfAttribute, Turns, Counting}
 use Rattle.rb_machine.specs.Methods.{Answer, Gives, Raises, Loops, deed}
 use Rattle.rb_machine.specs.Texts.{max_bytes, shown, puts_text, print_text, p_text}
-use Rattle.rb_machine.specs.Call.{raised, ask_of, named, texted, methods_of, params_of, invoked, top_level, own, last_value, enter, answered, invoke, operator, show, value_of_p, print, perform, read_place, decide, write_place}
+use Rattle.rb_machine.specs.Call.{raised, ask_of, named, texted, methods_of, params_of, invoked, top_level, own, last_value, enter, answered, invoke, operator, show, value_of_p, print, perform, read_place, decide, write_place, create, class_from, initialized}
 use Rattle.rb_machine.specs.Begin.{begin, begin_call, begin_target, begin_return}
 use Rattle.rb_machine.specs.Give.{back, join, give_step, give, leave}
 use Rattle.rb_machine.specs.Move.{start_node, start_turn, turn, join_piece, max_depth, first_of_turn}
@@ -116,10 +116,20 @@ module _ (S : Script) where
   own_sound (Some m) name args at k sc d left h = enter_sound m sc.me args at k sc d left h
   own_sound None name args at k sc d left h = top_level_sound (named S name S.program.functions) name args at k sc d left h
 
+  create_sound : (class : Option ℕ) (args : List Value) (at : Span) (k : List Cont) (sc : Scope) (d left : ℕ) → Inside k sc → Sound (create S class args at k sc d left)
+  create_sound (Some class) args at k sc d left h = h
+  create_sound None args at k sc d left h = raised_sound _ at left
+
+  initialized_sound : (m : Option Method) (object : Value) (args : List Value) (at : Span) (k : List Cont) (sc : Scope) (d left : ℕ) → Inside k sc → Sound (initialized S m object args at k sc d left)
+  initialized_sound (Some m) object args at k sc d left h = enter_sound m object args at (Then (Instead object) ∷ k) sc d left h
+  initialized_sound None object [] at k sc d left h = h
+  initialized_sound None object (v ∷ vs) at k sc d left h = raised_sound _ at left
+
   pub perform_sound : (aim : Aim) (args : List Value) (at : Span) (k : List Cont) (sc : Scope) (d left : ℕ) → Inside k sc → Sound (perform S aim args at k sc d left)
   perform_sound (OnReceiver v name block) args at k sc d left h = invoke_sound v name args block at k sc d left h
   perform_sound (ByName name) args at k sc d left h = own_sound (named S name (methods_of S sc.me)) name args at k sc d left h
   perform_sound (Storing v name) args at k sc d left h = invoke_sound v name args None at (Then (Instead (last_value S args)) ∷ k) sc d left h
+  perform_sound (Creating class) args at k sc d left h = create_sound (class_from S 0 class S.program.classes) args at k sc d left h
 
   read_sound : (place : Place) (o : AssignOp) (value : Node) (at : Span) (k : List Cont) (sc : Scope) (d left : ℕ) → Inside k sc → Sound (read_place S place o value at k sc d left)
   read_sound (OfLocal name) o value at k sc d left h = h
@@ -169,6 +179,7 @@ module _ (S : Script) where
   give_step_sound v (Argument aim done rest at) k sc d left h = h
   give_step_sound v (Instead w) k sc d left h = h
   give_step_sound v (Create thing) k sc d left h = h
+  give_step_sound v (Initialize args at) k sc d left h = initialized_sound (texted S (codes "initialize") (methods_of S v)) v args at k sc d left h
   give_step_sound v (PieceOf bytes pieces at) k sc d left h = join_sound bytes (shown S.program.names v) pieces at k sc d left h
   give_step_sound v (IndexedBy index o value at) k sc d left h = h
   give_step_sound v (MemberOf name o value at) k sc d left h = read_sound (OfAttribute v name) o value at k sc d left h
@@ -227,7 +238,6 @@ module _ (S : Script) where
   begin_sound (node.Return value at) k sc d left h = begin_return_sound value k sc d left h
   begin_sound (node.Array items at) k sc d left h = raised_sound _ at left
   begin_sound (node.Hash pairs at) k sc d left h = raised_sound _ at left
-  begin_sound (node.New class args at) k sc d left h = raised_sound _ at left
   begin_sound (node.ThreadNew args body at) k sc d left h = raised_sound _ at left
   begin_sound other k sc d left h = h
 

@@ -16,3 +16,4 @@ pub mod Division
 pub mod Budgets
 pub mod Main
 pub mod Examples
+pub mod Making

@@ -13,11 +13,11 @@ use Rattle.rb_tree.specs.declared.node.Method.{Method}
 use Rattle.rb_model.specs.Values.{Value, Nil, False, True, Int, Sym, Str, To, truthy}
 use Rattle.rb_model.specs.Acts.{Act}
 use Rattle.rb_machine.specs.Scopes.{Script, Text, Scope, text_of}
-use Rattle.rb_machine.specs.Control.{State, On, Cont, Then, Under, Test, Again, Turn, Frame, Step, AssignTo, FieldTo, GlobalTo, Rest, Choose, RightOfAnd, RightOfOr, Negate, ReturnOf, ReceiverOf, ReceiverToStore, Argument, Instead, Create, PieceOf, IndexedBy, MemberOf, IndexOf, ReadOf, RightOf, WriteTo}
-use Rattle.rb_machine.specs.Control.{Eval, Give, Leave, Following, Looping, Turning, Passing, Joining, Making, Calling, Showing, Ended, Exit, Break, Next, Return, Aim, OnReceiver, ByName, Storing, Place, OfLocal, OfField, OfGlobal, OfElement, OfAttribute}
+use Rattle.rb_machine.specs.Control.{State, On, Cont, Then, Under, Test, Again, Turn, Frame, Step, AssignTo, FieldTo, GlobalTo, Rest, Choose, RightOfAnd, RightOfOr, Negate, ReturnOf, ReceiverOf, ReceiverToStore, Argument, Instead, Create, Initialize, PieceOf, IndexedBy, MemberOf, IndexOf, ReadOf, RightOf, WriteTo}
+use Rattle.rb_machine.specs.Control.{Eval, Give, Leave, Following, Looping, Turning, Passing, Joining, Making, Calling, Showing, Ended, Exit, Break, Next, Return, Aim, OnReceiver, ByName, Storing, Creating, Place, OfLocal, OfField, OfGlobal, OfElement, OfAttribute}
 use Rattle.rb_machine.specs.Methods.{Answer, Gives, Raises, Loops}
 use Rattle.rb_machine.specs.Texts.{max_bytes, shown, puts_text, print_text, p_text}
-use Rattle.rb_machine.specs.Call.{ask_of, named, texted, methods_of, invoked, top_level, own, last_value, enter, answered, invoke, show, value_of_p, print, perform, read_place, decide, write_place}
+use Rattle.rb_machine.specs.Call.{ask_of, named, texted, methods_of, invoked, top_level, own, last_value, enter, answered, invoke, show, value_of_p, print, perform, read_place, decide, write_place, create, class_from, initialized}
 use Rattle.rb_machine.specs.Give.{join, give_step, give, leave}
 use Rattle.rb_machine.specs.Move.{left_in}
 
@@ -27,10 +27,11 @@ step_weight (FieldTo name at) = 3
 step_weight (GlobalTo name at) = 3
 step_weight (Rest nodes) = 2
 step_weight (Choose first second) = 2
-step_weight (ReceiverOf name args block at) = 5
-step_weight (ReceiverToStore name args at) = 5
-step_weight (Argument aim done rest at) = 5
+step_weight (ReceiverOf name args block at) = 7
+step_weight (ReceiverToStore name args at) = 7
+step_weight (Argument aim done rest at) = 7
 step_weight (Create thing) = 2
+step_weight (Initialize args at) = 4
 step_weight (PieceOf bytes pieces at) = 2 + length pieces
 step_weight (MemberOf name o value at) = 4
 step_weight (IndexOf receiver o value at) = 4
@@ -61,7 +62,7 @@ size (On (Making thing) k sc d left) = 3 + weights k
 size (On (Calling thing act at) k sc d left) = 3 + weights k
 size (On (Showing bytes) k sc d left) = 3 + weights k
 size (On (Joining bytes pieces at) k sc d left) = 3 + length pieces + weights k
-size (On (Passing aim done rest at) k sc d left) = 6 + weights k
+size (On (Passing aim done rest at) k sc d left) = 8 + weights k
 
 -- no step is taken, and no more than this is left to do
 abbrev pub Within : ℕ → ℕ → State → Type 0
@@ -128,10 +129,20 @@ module _ (S : Script) where
   own_within (Some m) name args at k sc d left = wider left (4 + weights k) _ _ (omega arith) (enter_within m sc.me args at k sc d left)
   own_within None name args at k sc d left = top_level_within (named S name S.program.functions) name args at k sc d left
 
-  pub perform_within : (aim : Aim) (args : List Value) (at : Span) (k : List Cont) (sc : Scope) (d left : ℕ) → Within left (5 + weights k) (perform S aim args at k sc d left)
+  create_within : (class : Option ℕ) (args : List Value) (at : Span) (k : List Cont) (sc : Scope) (d left : ℕ) → Within left (7 + weights k) (create S class args at k sc d left)
+  create_within (Some class) args at k sc d left = (refl, omega arith)
+  create_within None args at k sc d left = (refl, omega arith)
+
+  initialized_within : (m : Option Method) (object : Value) (args : List Value) (at : Span) (k : List Cont) (sc : Scope) (d left : ℕ) → Within left (5 + weights k) (initialized S m object args at k sc d left)
+  initialized_within (Some m) object args at k sc d left = wider left _ _ _ (omega arith) (enter_within m object args at (Then (Instead object) ∷ k) sc d left)
+  initialized_within None object [] at k sc d left = (refl, omega arith)
+  initialized_within None object (v ∷ vs) at k sc d left = (refl, omega arith)
+
+  pub perform_within : (aim : Aim) (args : List Value) (at : Span) (k : List Cont) (sc : Scope) (d left : ℕ) → Within left (7 + weights k) (perform S aim args at k sc d left)
   perform_within (OnReceiver v name block) args at k sc d left = wider left (4 + weights k) _ _ (omega arith) (invoke_within v name args block at k sc d left)
-  perform_within (ByName name) args at k sc d left = own_within (named S name (methods_of S sc.me)) name args at k sc d left
+  perform_within (ByName name) args at k sc d left = wider left (5 + weights k) _ _ (omega arith) (own_within (named S name (methods_of S sc.me)) name args at k sc d left)
   perform_within (Storing v name) args at k sc d left = wider left _ _ _ (omega arith) (invoke_within v name args None at (Then (Instead (last_value S args)) ∷ k) sc d left)
+  perform_within (Creating class) args at k sc d left = create_within (class_from S 0 class S.program.classes) args at k sc d left
 
   pub read_within : (place : Place) (o : AssignOp) (value : Node) (at : Span) (k : List Cont) (sc : Scope) (d left : ℕ) → Within left (5 + weights k) (read_place S place o value at k sc d left)
   read_within (OfLocal name) o value at k sc d left = (refl, omega arith)
@@ -174,6 +185,7 @@ module _ (S : Script) where
   give_step_within v (Argument aim done rest at) k sc d left = (refl, omega arith)
   give_step_within v (Instead w) k sc d left = (refl, omega arith)
   give_step_within v (Create thing) k sc d left = (refl, omega arith)
+  give_step_within v (Initialize args at) k sc d left = initialized_within (texted S (codes "initialize") (methods_of S v)) v args at k sc d left
   give_step_within v (PieceOf bytes pieces at) k sc d left = wider left _ _ _ (omega arith) (join_within bytes (shown S.program.names v) pieces at k sc d left)
   give_step_within v (IndexedBy index o value at) k sc d left = (refl, omega arith)
   give_step_within v (MemberOf name o value at) k sc d left = read_within (OfAttribute v name) o value at k sc d left
@@ -208,6 +220,7 @@ module _ (S : Script) where
       weighs (Argument aim done rest at) = omega arith
       weighs (Instead w) = omega arith
       weighs (Create thing) = omega arith
+      weighs (Initialize args at) = omega arith
       weighs (PieceOf bytes pieces at) = omega arith
       weighs (IndexedBy index o value at) = omega arith
       weighs (MemberOf name o value at) = omega arith

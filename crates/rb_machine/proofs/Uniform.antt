@@ -19,11 +19,11 @@ use Rattle.rb_model.specs.Acts.{Act, GetField, SetField, Reply}
 use Rattle.rb_model.specs.Acts as reply
 use Rattle.rb_model.specs.Ends as ending
 use Rattle.rb_machine.specs.Scopes.{Script, Text, Scope, text_of}
-use Rattle.rb_machine.specs.Control.{State, On, Cont, Then, Under, Test, Again, Turn, Frame, Step, AssignTo, FieldTo, GlobalTo, Rest, Choose, RightOfAnd, RightOfOr, Negate, ReturnOf, ReceiverOf, ReceiverToStore, Argument, Instead, Create, PieceOf, IndexedBy, MemberOf, IndexOf, ReadOf, RightOf, WriteTo}
-use Rattle.rb_machine.specs.Control.{Eval, Give, Leave, Following, Looping, Turning, Passing, Joining, Making, Calling, Showing, Ended, Exit, Break, Next, Return, Aim, OnReceiver, ByName, Storing, Place, OfLocal, OfField, OfGlobal, OfElement, OfAttribute}
+use Rattle.rb_machine.specs.Control.{State, On, Cont, Then, Under, Test, Again, Turn, Frame, Step, AssignTo, FieldTo, GlobalTo, Rest, Choose, RightOfAnd, RightOfOr, Negate, ReturnOf, ReceiverOf, ReceiverToStore, Argument, Instead, Create, Initialize, PieceOf, IndexedBy, MemberOf, IndexOf, ReadOf, RightOf, WriteTo}
+use Rattle.rb_machine.specs.Control.{Eval, Give, Leave, Following, Looping, Turning, Passing, Joining, Making, Calling, Showing, Ended, Exit, Break, Next, Return, Aim, OnReceiver, ByName, Storing, Creating, Place, OfLocal, OfField, OfGlobal, OfElement, OfAttribute}
 use Rattle.rb_machine.specs.Methods.{Answer, Gives, Raises, Loops, deed}
 use Rattle.rb_machine.specs.Texts.{max_bytes, shown, puts_text, print_text, p_text}
-use Rattle.rb_machine.specs.Call.{ask_of, named, texted, methods_of, params_of, invoked, top_level, own, last_value, enter, answered, invoke, operator, show, value_of_p, print, perform, read_place, decide, write_place}
+use Rattle.rb_machine.specs.Call.{ask_of, named, texted, methods_of, params_of, invoked, top_level, own, last_value, enter, answered, invoke, operator, show, value_of_p, print, perform, read_place, decide, write_place, create, class_from, initialized}
 use Rattle.rb_machine.specs.Begin.{begin, begin_call, begin_target, begin_return}
 use Rattle.rb_machine.specs.Give.{join, give_step, give, leave}
 use Rattle.rb_machine.specs.Move.{join_piece, replied}
@@ -86,10 +86,20 @@ module _ (S : Script) where
   own_uniform (Some m) name args at k sc d j left = enter_uniform m sc.me args at k sc d j left
   own_uniform None name args at k sc d j left = top_level_uniform (named S name S.program.functions) name args at k sc d j left
 
+  create_uniform : (class : Option ℕ) (args : List Value) (at : Span) (k : List Cont) (sc : Scope) (d : ℕ) → Uniform (create S class args at k sc d)
+  create_uniform (Some class) args at k sc d j left = refl
+  create_uniform None args at k sc d j left = refl
+
+  initialized_uniform : (m : Option Method) (object : Value) (args : List Value) (at : Span) (k : List Cont) (sc : Scope) (d : ℕ) → Uniform (initialized S m object args at k sc d)
+  initialized_uniform (Some m) object args at k sc d j left = enter_uniform m object args at (Then (Instead object) ∷ k) sc d j left
+  initialized_uniform None object [] at k sc d j left = refl
+  initialized_uniform None object (v ∷ vs) at k sc d j left = refl
+
   pub perform_uniform : (aim : Aim) (args : List Value) (at : Span) (k : List Cont) (sc : Scope) (d : ℕ) → Uniform (perform S aim args at k sc d)
   perform_uniform (OnReceiver v name block) args at k sc d j left = invoke_uniform v name args block at k sc d j left
   perform_uniform (ByName name) args at k sc d j left = own_uniform (named S name (methods_of S sc.me)) name args at k sc d j left
   perform_uniform (Storing v name) args at k sc d j left = invoke_uniform v name args None at (Then (Instead (last_value S args)) ∷ k) sc d j left
+  perform_uniform (Creating class) args at k sc d j left = create_uniform (class_from S 0 class S.program.classes) args at k sc d j left
 
   read_uniform : (place : Place) (o : AssignOp) (value : Node) (at : Span) (k : List Cont) (sc : Scope) (d : ℕ) → Uniform (read_place S place o value at k sc d)
   read_uniform (OfLocal name) o value at k sc d j left = refl
@@ -136,6 +146,7 @@ module _ (S : Script) where
   give_step_uniform v (Argument aim done rest at) k sc d j left = refl
   give_step_uniform v (Instead w) k sc d j left = refl
   give_step_uniform v (Create thing) k sc d j left = refl
+  give_step_uniform v (Initialize args at) k sc d j left = initialized_uniform (texted S (codes "initialize") (methods_of S v)) v args at k sc d j left
   give_step_uniform v (PieceOf bytes pieces at) k sc d j left = join_uniform bytes (shown S.program.names v) pieces at k sc d j left
   give_step_uniform v (IndexedBy index o value at) k sc d j left = refl
   give_step_uniform v (MemberOf name o value at) k sc d j left = read_uniform (OfAttribute v name) o value at k sc d j left

@@ -13,7 +13,7 @@ use Rattle.rb_tree.specs.Layer.{NodeLayer}
 use Rattle.rb_model.specs.Values.{Nil, False, True, Int, Sym}
 use Rattle.rb_model.specs.Acts.{GetField}
 use Rattle.rb_machine.specs.Scopes.{Script, Scope, text_of, look}
-use Rattle.rb_machine.specs.Control.{State, On, Cont, Then, Eval, Give, Leave, Looping, Passing, Joining, Break, Next, Return, AssignTo, FieldTo, GlobalTo, Choose, RightOfAnd, RightOfOr, Negate, ReturnOf, ReceiverOf, ReceiverToStore, IndexedBy, MemberOf, ByName, OfLocal, OfField, OfGlobal}
+use Rattle.rb_machine.specs.Control.{State, On, Cont, Then, Eval, Give, Leave, Looping, Passing, Joining, Break, Next, Return, AssignTo, FieldTo, GlobalTo, Choose, RightOfAnd, RightOfOr, Negate, ReturnOf, ReceiverOf, ReceiverToStore, IndexedBy, MemberOf, ByName, Creating, OfLocal, OfField, OfGlobal}
 use Rattle.rb_machine.specs.Call.{ask, unbuilt, globals, own_field, read_place}
 
 module _ (S : Script) where
@@ -54,7 +54,7 @@ module _ (S : Script) where
   begin (node.Store receiver name args at) k sc d left = On (Eval receiver) (Then (ReceiverToStore (text_of S name) args at) ∷ k) sc d left
   begin (node.OpAssign target op value at) k sc d left = begin_target (out-Target target) op value at k sc d left
   begin (node.Call receiver name args block at) k sc d left = begin_call receiver name args block at k sc d left
-  begin (node.New class args at) k sc d left = unbuilt at left
+  begin (node.New class args at) k sc d left = On (Passing (Creating class) [] args at) k sc d left
   begin (node.ThreadNew args body at) k sc d left = unbuilt at left
   begin (node.And first second at) k sc d left = On (Eval first) (Then (RightOfAnd second) ∷ k) sc d left
   begin (node.Or first second at) k sc d left = On (Eval first) (Then (RightOfOr second) ∷ k) sc d left

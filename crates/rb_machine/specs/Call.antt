@@ -1,5 +1,5 @@
 -- Calls: which method is found, how its body begins, what a built-in one does, and what `puts`, `print` and `p` show.
-use Rattle.std.specs.Prelude.{ℕ, nat_eq, nat_lt, ◌==◌, if◌then◌else◌, List, [], ◌∷◌, ◌++◌, length, Option, Some, None, find, slice_get, codes}
+use Rattle.std.specs.Prelude.{ℕ, suc, nat_eq, nat_lt, ◌==◌, if◌then◌else◌, List, [], ◌∷◌, ◌++◌, length, Option, Some, None, find, slice_get, codes}
 use Rattle.std.specs.Option.{option_map}
 use Rattle.std.specs.Str.{bytes_eq}
 use Rattle.rb_tree.specs.declared.span.Span.{Span}
@@ -19,7 +19,7 @@ use Rattle.rb_model.specs.Acts.{Act, GetField, SetField}
 use Rattle.rb_model.specs.Ends.{End, Raised}
 use Rattle.rb_model.specs.Things as thing
 use Rattle.rb_machine.specs.Scopes.{Script, Text, Scope, text_of, look, assign, fresh, with_locals}
-use Rattle.rb_machine.specs.Control.{State, On, Cont, Then, Frame, Step, Eval, Give, Following, Turning, Calling, Showing, Ended, Aim, OnReceiver, ByName, Storing, Instead, Create, Place, OfLocal, OfField, OfGlobal, OfElement, OfAttribute, ReadOf, RightOf, WriteTo}
+use Rattle.rb_machine.specs.Control.{State, On, Cont, Then, Frame, Step, Eval, Give, Following, Turning, Making, Calling, Showing, Ended, Aim, OnReceiver, ByName, Storing, Creating, Instead, Create, Initialize, Place, OfLocal, OfField, OfGlobal, OfElement, OfAttribute, ReadOf, RightOf, WriteTo}
 use Rattle.rb_machine.specs.Texts.{max_bytes, puts_text, print_text, p_text}
 use Rattle.rb_machine.specs.Methods.{Answer, Gives, Raises, Loops, deed}
 
@@ -137,6 +137,27 @@ module _ (S : Script) where
   abbrev pub call_by_name : NameId → List Value → Span → List Cont → Scope → ℕ → ℕ → State
   call_by_name name args at k sc d left = own (named name (methods_of sc.me)) name args at k sc d left
 
+  -- ---- new objects
+
+  -- the number of the class of a name, counted from one that has this number
+  abbrev pub class_from : ℕ → NameId → List Class → Option ℕ
+  class_from n name [] = None
+  class_from n name (c ∷ cs) = if c.name.0 == name.0 then Some n else class_from (suc n) name cs
+
+  -- An object of a class has no instance variables yet. Where there is `initialize`, it is called, and its value is not used.
+  abbrev pub create : Option ℕ → List Value → Span → List Cont → Scope → ℕ → ℕ → State
+  create (Some class) args at k sc d left = On (Making (thing.Object class [])) (Then (Initialize args at) ∷ k) sc d left
+  create None args at k sc d left = unbuilt at left
+
+  -- a class without `initialize` takes no arguments
+  abbrev pub initialized : Option Method → Value → List Value → Span → List Cont → Scope → ℕ → ℕ → State
+  initialized (Some m) object args at k sc d left = enter m object args at (Then (Instead object) ∷ k) sc d left
+  initialized None object [] at k sc d left = On (Give object) k sc d left
+  initialized None object (v ∷ vs) at k sc d left = raised ArgumentCount at left
+
+  abbrev pub initialize : Value → List Value → Span → List Cont → Scope → ℕ → ℕ → State
+  initialize object args at k sc d left = initialized (texted (codes "initialize") (methods_of object)) object args at k sc d left
+
   -- the last of values
   abbrev pub last_value : List Value → Value
   last_value [] = Nil
@@ -148,6 +169,7 @@ module _ (S : Script) where
   perform (OnReceiver receiver name block) args at k sc d left = invoke receiver name args block at k sc d left
   perform (ByName name) args at k sc d left = call_by_name name args at k sc d left
   perform (Storing receiver name) args at k sc d left = invoke receiver name args None at (Then (Instead (last_value args)) ∷ k) sc d left
+  perform (Creating class) args at k sc d left = create (class_from 0 class S.program.classes) args at k sc d left
 
   -- ---- assignments with an operator
 

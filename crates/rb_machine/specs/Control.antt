@@ -18,12 +18,13 @@ pub data Exit : Type 0 where
   Next : Exit
   Return : (value : Value) → Exit
 
--- what arguments are evaluated for: the call of a method of a receiver, of a method by its name alone, or an assignment by a call,
--- whose value is the last argument
+-- what arguments are evaluated for: the call of a method of a receiver, of a method by its name alone, an assignment by a call,
+-- whose value is the last argument, or a new object of a class
 pub data Aim : Type 0 where
   OnReceiver : (receiver : Value) (name : Text) (block : Option Block) → Aim
   ByName : (name : NameId) → Aim
   Storing : (receiver : Value) (name : Text) → Aim
+  Creating : (class : NameId) → Aim
 
 -- what an assignment with an operator reads and writes, once its parts are evaluated
 pub data Place : Type 0 where
@@ -55,6 +56,8 @@ pub data Step : Type 0 where
   -- another value in its place
   Instead : (value : Value) → Step
   Create : (thing : Thing) → Step
+  -- the object is made, and `initialize` is called with these arguments
+  Initialize : (args : List Value) (at : Span) → Step
   PieceOf : (bytes : List ℕ) (pieces : List Piece) (at : Span) → Step
   -- an assignment with an operator: the receiver of its target, the index, the value that the target has, the right side, the value to write
   IndexedBy : (index : Node) (op : AssignOp) (value : Node) (at : Span) → Step

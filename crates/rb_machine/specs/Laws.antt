@@ -8,19 +8,20 @@ use Rattle.rb_tree.specs.declared.node.Node.TheOpen as node
 use Rattle.rb_tree.specs.declared.node.Block.{Block}
 use Rattle.rb_tree.specs.declared.node.Method.{Method}
 use Rattle.rb_tree.specs.declared.node.AssignOp.TheVariants.{OrElse, AndThen}
-use Rattle.rb_model.specs.declared.fault.Fault.TheVariants.{TooDeep, ZeroDivision}
+use Rattle.rb_model.specs.declared.fault.Fault.TheVariants.{TooDeep, ZeroDivision, ArgumentCount}
 use Rattle.rb_model.specs.Values.{Value, Nil, Int, Reference, truthy}
 use Rattle.rb_model.specs.Acts.{Act, Reply}
 use Rattle.rb_model.specs.Private.{Private, held}
+use Rattle.rb_model.specs.Things.{Object}
 use Rattle.rb_model.specs.Ends.{End, Steps, Raised}
 use Rattle.rb_model.specs.Ends as ending
 use Rattle.rb_model.specs.Log.{Call, Entry, Log, prints}
 use Rattle.rb_model.specs.Log as log
 use Rattle.rb_machine.specs.Scopes.{Script, Scope, Text, text_of, Locals, with_locals, found, look, assign, fresh}
-use Rattle.rb_machine.specs.Control.{Control, State, On, Eval, Give, Leave, Following, Looping, Turning, Passing, Break, Next, Return, Turns, Counting, Cont, Then, Under, Test, Again, Turn, Frame, Aim, OnReceiver, Place, Argument, ReceiverOf, RightOfAnd, RightOfOr, ReadOf, WriteTo, Ended}
+use Rattle.rb_machine.specs.Control.{Control, State, On, Eval, Give, Leave, Following, Looping, Turning, Passing, Break, Next, Return, Turns, Counting, Cont, Then, Under, Test, Again, Turn, Frame, Aim, OnReceiver, Creating, Place, Argument, Initialize, Instead, Making, ReceiverOf, RightOfAnd, RightOfOr, ReadOf, WriteTo, Ended}
 use Rattle.rb_machine.specs.Methods.{deed, integer, Raises, quotient, modulo}
-use Rattle.rb_machine.specs.Call.{perform}
-use Rattle.rb_machine.specs.Give.{back}
+use Rattle.rb_machine.specs.Call.{perform, class_from, texted, methods_of, raised}
+use Rattle.rb_machine.specs.Give.{back, give, leave}
 use Rattle.rb_machine.specs.Move.{Next as Coming, Go, Ask, Stop, move, replied, left_in, IsWant, max_depth}
 use Rattle.rb_machine.specs.Follows.{Follows}
 use Rattle.rb_machine.specs.Alone.{Runs, Alone, opening}
@@ -150,6 +151,34 @@ DivisionsAnswer = (names : List Text) (m n : ℤ)
     → (deed names (Int m) (codes "/") (Int (pos 0) ∷ []) None ≡ Raises ZeroDivision)
     × (deed names (Int m) (codes "%") (Int (pos 0) ∷ []) None ≡ Raises ZeroDivision)
     × ((n ≡ pos 0 → ⊥) → (deed names (Int m) (codes "/") (Int n ∷ []) None ≡ integer (quotient m n)) × (deed names (Int m) (codes "%") (Int n ∷ []) None ≡ integer (modulo m n)))
+
+-- ---- new objects
+
+-- once its arguments are evaluated, an object of the class is made, with no instance variables
+abbrev pub NewMakesAnObject : Type 0
+NewMakesAnObject = (S : Script) (class : NameId) (number : ℕ) (args : List Value) (at : Span) (k : List Cont) (sc : Scope) (d left : ℕ) → class_from S 0 class S.program.classes ≡ Some number
+    → move S (On (Passing (Creating class) args [] at) k sc d left) ≡ Go (On (Making (Object number [])) (Then (Initialize args at) ∷ k) sc d left)
+
+-- the method `initialize` of the class of an object
+abbrev pub initialize_of : Script → Value → Option Method
+initialize_of S object = texted S (codes "initialize") (methods_of S object)
+
+-- a class without `initialize` takes no arguments, and the object is the value of `new`
+abbrev pub WithoutInitialize : Type 0
+WithoutInitialize = (S : Script) (object : Value) (at : Span) (k : List Cont) (sc : Scope) (d left : ℕ) → initialize_of S object ≡ None
+    → (give S object (Then (Initialize [] at)) k sc d left ≡ On (Give object) k sc d left)
+    × ((v : Value) (vs : List Value) → give S object (Then (Initialize (v ∷ vs) at)) k sc d left ≡ raised ArgumentCount at left)
+
+-- Where there is one, it is called as a method of the object; and whatever it answers or returns, the object is the value of `new`.
+abbrev pub NewGivesTheObject : Type 0
+NewGivesTheObject = (S : Script) (object : Value) (m : Method) (args : List Value) (at : Span) (k : List Cont) (sc : Scope) (d left : ℕ) → initialize_of S object ≡ Some m → length args ≡ length m.params
+    → (give S object (Then (Initialize args at)) k sc d left
+    ≡ On (Following Nil m.body) (Frame sc ∷ Then (Instead object) ∷ k) (record { me = object; locals = fresh (S.method_names m) args }) d left)
+    × ((v : Value) (inner : Scope) (deep less : ℕ) → (give S v (Frame sc) (Then (Instead object) ∷ k) inner deep less ≡ On (Give v) (Then (Instead object) ∷ k) sc deep less)
+    × (leave (Return v) (Frame sc) (Then (Instead object) ∷ k) inner deep less ≡ On (Give v) (Then (Instead object) ∷ k) sc deep less)
+    × (give S v (Then (Instead object)) k sc deep less ≡ On (Give object) k sc deep less))
+
+-- ---- locals
 
 -- a block's own locals as an iteration begins that is given these values
 abbrev pub own_at : Script → Block → List Value → Locals

@@ -93,6 +93,13 @@ pub fn calls_in_turn()
     ensures turn { law.ArgumentsComeInTurn }
 {}
 
+/// `new` makes an object, calls `initialize` where there is one, and its value is the object.
+pub fn new_objects()
+    ensures made { law.NewMakesAnObject }
+    ensures without { law.WithoutInitialize }
+    ensures value { law.NewGivesTheObject }
+{}
+
 /// The right side of `||`, `||=`, `&&` and `&&=` is evaluated only where the left one does not decide.
 pub fn right_sides()
     ensures or { law.OrGoesOnWhereFalse }
