@@ -412,6 +412,7 @@ impl<'p, O: OneStore + Drop> Walker<'p, O> {
 
     /// A node whose step is counted.
     #[cycle(walk)]
+    #[inline(always)]
     fn begin(&mut self, code: &'p Code, depth: u32, room: &mut [Value]) -> Came
         requires unended { has_end (O.log self.old.store).entries ≡ false }
         requires steps { self.old.left ≤ self.old.context.steps }
@@ -1618,6 +1619,7 @@ impl<'p, O: OneStore + Drop> Walker<'p, O> {
 
     /// The statements of a body, one after another.
     #[cycle(walk)]
+    #[inline(always)]
     fn body(&mut self, nodes: &'p [Code], depth: u32, room: &mut [Value]) -> Came
         requires unended { has_end (O.log self.old.store).entries ≡ false }
         requires steps { self.old.left ≤ self.old.context.steps }
