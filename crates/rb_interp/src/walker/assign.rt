@@ -1,0 +1,398 @@
+// Assignments with operators, and operators on values.
+
+ghost use Rattle.std.specs.Prelude.{◌≡◌, ◌≤◌, ◌<◌, ℕ, false, List, [], ◌∷◌, length, Some, None};
+ghost use Rattle.rb_tree.specs.declared.node.Node.{Node as Tree};
+ghost use Rattle.rb_tree.specs.declared.node.AssignOp.{AssignOp as Op};
+ghost use Rattle.rb_tree.specs.declared.span.NameId.{NameId};
+ghost use Rattle.rb_model.specs.Values.{Value as Val, Int, plain};
+ghost use Rattle.rb_model.specs.Log.{has_end};
+ghost use Rattle.rb_machine.specs.Scopes.{text_of};
+ghost use Rattle.rb_machine.specs.Control.{On, Then, Eval, Give, Step, IndexedBy, MemberOf, ReadOf, RightOf, WriteTo, OfLocal, OfAttribute};
+ghost use Rattle.rb_machine.specs.Call.{read_place};
+ghost use Rattle.rb_machine.specs.Methods.{deed};
+ghost use Rattle.rb_builtin.specs.Names.{builtin_of};
+ghost use Rattle.rb_code.specs.Erase.{erase};
+ghost use Rattle.rb_code.specs.Resolved.{fits};
+ghost use Rattle.rb_interp.specs.Outcome.{is_left, value_of, outcome};
+ghost use Rattle.rb_interp.specs.Carries.{Carries, Keeps, both, at_slot, numbered, unwritten, Assigns};
+ghost use Rattle.rb_interp.specs.Answers.{OrMemory, outcome_of};
+
+use super::Walker;
+use crate::came::{Came, is_left};
+use crate::leaf::{method_of, operation_by, operation_on};
+use rb_builtin::Builtin;
+use rb_code::Code;
+use rb_model::{Fault, OneStore, Value};
+use rb_tree::{AssignOp, Span};
+
+impl<'p, O: OneStore + Drop> Walker<'p, O> {
+    /// An assignment to a local.
+    #[cycle(walk)]
+    #[inline(always)]
+    pub(super) fn set_local(
+        &mut self,
+        slot: u32,
+        value: &'p Code,
+        depth: u32,
+        room: &mut [Value],
+    ) -> Came
+        requires unended { has_end (O.log self.old.store).entries ≡ false }
+        requires steps { self.old.left ≤ self.old.context.steps }
+        ensures base { self.new.base ≡ self.old.base }
+        ensures context { self.new.context ≡ self.old.context }
+        ensures room { length room.new ≡ length room.old }
+        ensures less { self.new.left ≤ self.old.left }
+        ensures unended { has_end (O.log self.new.store).entries ≡ false }
+        ensures kept { (name : NameId) → Keeps self.old.context.script.now self.old.context.names.now (at_slot slot name (λ S. fits S value.now)) self.old.base room.old room.new }
+        ensures came { (name : NameId) (step : Step) → Assigns name step → Carries self.old.context.script.now self.old.context.names.now self.old.context.steps (at_slot slot name (λ S. fits S value.now)) (λ S k sc d n. On (Eval (erase value.now)) (Then step ∷ k) sc d n) self.old.base depth self.old.left self.new.left room.old room.new (O.log self.old.store) (O.log self.new.store) (outcome result self.new.value self.new.leave) }
+    {
+        let came = self.walk(value, depth, room);
+        if is_left(came) {
+            return came;
+        }
+        self.write(slot, came, room)
+    }
+
+    /// An assignment with an operator to a local.
+    #[cycle(walk)]
+    #[inline(always)]
+    pub(super) fn update_local(
+        &mut self,
+        slot: u32,
+        op: AssignOp,
+        value: &'p Code,
+        at: Span,
+        depth: u32,
+        room: &mut [Value],
+    ) -> Came
+        requires unended { has_end (O.log self.old.store).entries ≡ false }
+        requires steps { self.old.left ≤ self.old.context.steps }
+        ensures base { self.new.base ≡ self.old.base }
+        ensures context { self.new.context ≡ self.old.context }
+        ensures room { length room.new ≡ length room.old }
+        ensures less { self.new.left ≤ self.old.left }
+        ensures unended { has_end (O.log self.new.store).entries ≡ false }
+        ensures kept { (name : NameId) → Keeps self.old.context.script.now self.old.context.names.now (at_slot slot name (λ S. fits S value.now)) self.old.base room.old room.new }
+        ensures came { (name : NameId) → Carries self.old.context.script.now self.old.context.names.now self.old.context.steps (at_slot slot name (λ S. fits S value.now)) (λ S k sc d n. read_place S (OfLocal name) op (erase value.now) at k sc d n) self.old.base depth self.old.left self.new.left room.old room.new (O.log self.old.store) (O.log self.new.store) (outcome result self.new.value self.new.leave) }
+    {
+        let current = self.read(slot, room);
+        if is_left(current) {
+            return current;
+        }
+        match op {
+            AssignOp::OrElse => {
+                if self.is_true_now(current) {
+                    return current;
+                }
+                self.set_local(slot, value, depth, room)
+            }
+            AssignOp::AndThen => {
+                if !self.is_true_now(current) {
+                    return current;
+                }
+                self.set_local(slot, value, depth, room)
+            }
+            _ => {
+                let made = self.combine(current, op, value, at, depth, room);
+                if is_left(made) {
+                    return made;
+                }
+                self.write(slot, made, room)
+            }
+        }
+    }
+
+    /// What the operator of an assignment makes of the value that its target has.
+    #[cycle(walk)]
+    #[inline(always)]
+    pub(super) fn combine(
+        &mut self,
+        current: Came,
+        op: AssignOp,
+        value: &'p Code,
+        at: Span,
+        depth: u32,
+        room: &mut [Value],
+    ) -> Came
+        requires unended { has_end (O.log self.old.store).entries ≡ false }
+        requires steps { self.old.left ≤ self.old.context.steps }
+        requires came { is_left current ≡ false }
+        ensures base { self.new.base ≡ self.old.base }
+        ensures context { self.new.context ≡ self.old.context }
+        ensures room { length room.new ≡ length room.old }
+        ensures less { self.new.left ≤ self.old.left }
+        ensures unended { has_end (O.log self.new.store).entries ≡ false }
+        ensures kept { Keeps self.old.context.script.now self.old.context.names.now (λ S. fits S value.now) self.old.base room.old room.new }
+        ensures came { Carries self.old.context.script.now self.old.context.names.now self.old.context.steps (λ S. fits S value.now) (λ S k sc d n. On (Eval (erase value.now)) (Then (RightOf (value_of current self.old.value) op at) ∷ k) sc d n) self.old.base depth self.old.left self.new.left room.old room.new (O.log self.old.store) (O.log self.new.store) (outcome result self.new.value self.new.leave) }
+    {
+        match current {
+            Came::Int(m) => self.combine_integer(m, op, value, at, depth, room),
+            _ => self.combine_value(current, op, value, at, depth, room),
+        }
+    }
+
+    /// What the operator of an assignment makes of an integer that its target has.
+    #[cycle(walk)]
+    #[inline(always)]
+    pub(super) fn combine_integer(
+        &mut self,
+        m: i64,
+        op: AssignOp,
+        value: &'p Code,
+        at: Span,
+        depth: u32,
+        room: &mut [Value],
+    ) -> Came
+        requires unended { has_end (O.log self.old.store).entries ≡ false }
+        requires steps { self.old.left ≤ self.old.context.steps }
+        ensures base { self.new.base ≡ self.old.base }
+        ensures context { self.new.context ≡ self.old.context }
+        ensures room { length room.new ≡ length room.old }
+        ensures less { self.new.left ≤ self.old.left }
+        ensures unended { has_end (O.log self.new.store).entries ≡ false }
+        ensures kept { Keeps self.old.context.script.now self.old.context.names.now (λ S. fits S value.now) self.old.base room.old room.new }
+        ensures came { Carries self.old.context.script.now self.old.context.names.now self.old.context.steps (λ S. fits S value.now) (λ S k sc d n. On (Eval (erase value.now)) (Then (RightOf (Int m) op at) ∷ k) sc d n) self.old.base depth self.old.left self.new.left room.old room.new (O.log self.old.store) (O.log self.new.store) (outcome result self.new.value self.new.leave) }
+    {
+        let came = self.walk(value, depth, room);
+        if is_left(came) {
+            return came;
+        }
+        self.operated_by(method_of(op), m, came, at)
+    }
+
+    /// What the operator of an assignment makes of any value that its target has.
+    #[cycle(walk)]
+    #[inline(never)]
+    pub(super) fn combine_value(
+        &mut self,
+        current: Came,
+        op: AssignOp,
+        value: &'p Code,
+        at: Span,
+        depth: u32,
+        room: &mut [Value],
+    ) -> Came
+        requires unended { has_end (O.log self.old.store).entries ≡ false }
+        requires steps { self.old.left ≤ self.old.context.steps }
+        requires came { is_left current ≡ false }
+        ensures base { self.new.base ≡ self.old.base }
+        ensures context { self.new.context ≡ self.old.context }
+        ensures room { length room.new ≡ length room.old }
+        ensures less { self.new.left ≤ self.old.left }
+        ensures unended { has_end (O.log self.new.store).entries ≡ false }
+        ensures kept { Keeps self.old.context.script.now self.old.context.names.now (λ S. fits S value.now) self.old.base room.old room.new }
+        ensures came { Carries self.old.context.script.now self.old.context.names.now self.old.context.steps (λ S. fits S value.now) (λ S k sc d n. On (Eval (erase value.now)) (Then (RightOf (value_of current self.old.value) op at) ∷ k) sc d n) self.old.base depth self.old.left self.new.left room.old room.new (O.log self.old.store) (O.log self.new.store) (outcome result self.new.value self.new.leave) }
+    {
+        let method = method_of(op);
+        let receiver = self.take(current);
+        let came = self.walk(value, depth, room);
+        if is_left(came) {
+            return came;
+        }
+        let arg = self.take(came);
+        self.operated(method, &receiver, arg, at)
+    }
+
+    /// A call of a method of an integer with one argument that came.
+    #[inline(always)]
+    pub(super) fn operated_by(
+        &mut self,
+        method: Option<Builtin>,
+        m: i64,
+        came: Came,
+        at: Span,
+    ) -> Came
+        ensures gives { (name : List ℕ) → builtin_of name ≡ method → OrMemory (outcome_of (deed self.old.context.names.now (Int m) name (value_of came self.old.value ∷ []) None) at) (outcome result self.new.value self.new.leave) }
+        ensures base { self.new.base ≡ self.old.base }
+        ensures left { self.new.left ≡ self.old.left }
+        ensures context { self.new.context ≡ self.old.context }
+        ensures store { self.new.store ≡ self.old.store }
+    {
+        match came {
+            Came::Int(n) => match operation_by(method, m, n) {
+                Some(answer) => self.answer(answer, at),
+                None => self.operated_any(method, m, came, at),
+            },
+            _ => self.operated_any(method, m, came, at),
+        }
+    }
+
+    /// Any call of a method of an integer with one argument that came.
+    #[inline(never)]
+    pub(super) fn operated_any(
+        &mut self,
+        method: Option<Builtin>,
+        m: i64,
+        came: Came,
+        at: Span,
+    ) -> Came
+        ensures gives { (name : List ℕ) → builtin_of name ≡ method → OrMemory (outcome_of (deed self.old.context.names.now (Int m) name (value_of came self.old.value ∷ []) None) at) (outcome result self.new.value self.new.leave) }
+        ensures base { self.new.base ≡ self.old.base }
+        ensures left { self.new.left ≡ self.old.left }
+        ensures context { self.new.context ≡ self.old.context }
+        ensures store { self.new.store ≡ self.old.store }
+    {
+        let arg = self.take(came);
+        self.operated(method, &Value::Int(m), arg, at)
+    }
+
+    /// A call with one argument that is evaluated.
+    #[inline(never)]
+    pub(super) fn operated(
+        &mut self,
+        method: Option<Builtin>,
+        receiver: &Value,
+        arg: Value,
+        at: Span,
+    ) -> Came
+        ensures gives { (name : List ℕ) → builtin_of name ≡ method → OrMemory (outcome_of (deed self.old.context.names.now (plain receiver.now) name (plain arg ∷ []) None) at) (outcome result self.new.value self.new.leave) }
+        ensures base { self.new.base ≡ self.old.base }
+        ensures left { self.new.left ≡ self.old.left }
+        ensures context { self.new.context ≡ self.old.context }
+        ensures store { self.new.store ≡ self.old.store }
+    {
+        match operation_on(method, receiver, &arg) {
+            Some(answer) => self.answer(answer, at),
+            None => {
+                let args = [arg];
+                self.call_method(receiver, method, args.as_slice(), at)
+            }
+        }
+    }
+
+    /// An assignment with an operator to an element: no value that there is yet has elements.
+    #[cycle(walk)]
+    pub(super) fn read_element(
+        &mut self,
+        receiver: &'p Code,
+        index: &'p Code,
+        at: Span,
+        depth: u32,
+        room: &mut [Value],
+    ) -> Came
+        requires unended { has_end (O.log self.old.store).entries ≡ false }
+        requires steps { self.old.left ≤ self.old.context.steps }
+        ensures base { self.new.base ≡ self.old.base }
+        ensures context { self.new.context ≡ self.old.context }
+        ensures room { length room.new ≡ length room.old }
+        ensures less { self.new.left ≤ self.old.left }
+        ensures unended { has_end (O.log self.new.store).entries ≡ false }
+        ensures kept { (op : Op) (value : Tree) → Keeps self.old.context.script.now self.old.context.names.now (both (λ S. fits S receiver.now) (λ S. fits S index.now)) self.old.base room.old room.new }
+        ensures came { (op : Op) (value : Tree) → Carries self.old.context.script.now self.old.context.names.now self.old.context.steps (both (λ S. fits S receiver.now) (λ S. fits S index.now)) (λ S k sc d n. On (Eval (erase receiver.now)) (Then (IndexedBy (erase index.now) op value at) ∷ k) sc d n) self.old.base depth self.old.left self.new.left room.old room.new (O.log self.old.store) (O.log self.new.store) (outcome result self.new.value self.new.leave) }
+    {
+        let came = self.walk(receiver, depth, room);
+        if is_left(came) {
+            return came;
+        }
+        let came = self.walk(index, depth, room);
+        if is_left(came) {
+            return came;
+        }
+        self.raise(Fault::NoMethod, at)
+    }
+
+    /// An assignment with an operator to an attribute. No value that there is yet has an attribute that is written.
+    #[cycle(walk)]
+    pub(super) fn update_attribute(
+        &mut self,
+        number: Option<Builtin>,
+        receiver: &'p Code,
+        op: AssignOp,
+        value: &'p Code,
+        at: Span,
+        depth: u32,
+        room: &mut [Value],
+    ) -> Came
+        requires unended { has_end (O.log self.old.store).entries ≡ false }
+        requires steps { self.old.left ≤ self.old.context.steps }
+        ensures base { self.new.base ≡ self.old.base }
+        ensures context { self.new.context ≡ self.old.context }
+        ensures room { length room.new ≡ length room.old }
+        ensures less { self.new.left ≤ self.old.left }
+        ensures unended { has_end (O.log self.new.store).entries ≡ false }
+        ensures kept { (name : NameId) → Keeps self.old.context.script.now self.old.context.names.now (numbered number name (unwritten name (both (λ S. fits S receiver.now) (λ S. fits S value.now)))) self.old.base room.old room.new }
+        ensures came { (name : NameId) → Carries self.old.context.script.now self.old.context.names.now self.old.context.steps (numbered number name (unwritten name (both (λ S. fits S receiver.now) (λ S. fits S value.now)))) (λ S k sc d n. On (Eval (erase receiver.now)) (Then (MemberOf (text_of S name) op (erase value.now) at) ∷ k) sc d n) self.old.base depth self.old.left self.new.left room.old room.new (O.log self.old.store) (O.log self.new.store) (outcome result self.new.value self.new.leave) }
+    {
+        let came = self.walk(receiver, depth, room);
+        if is_left(came) {
+            return came;
+        }
+        let receiver = self.take(came);
+        let current = self.call_method(&receiver, number, &[], at);
+        if is_left(current) {
+            return current;
+        }
+        self.refuse_attribute(current, op, value, at, depth, room)
+    }
+
+    /// What is behind the reading of an attribute that no method writes: the value to be written is still evaluated, where there is one.
+    #[cycle(walk)]
+    pub(super) fn refuse_attribute(
+        &mut self,
+        current: Came,
+        op: AssignOp,
+        value: &'p Code,
+        at: Span,
+        depth: u32,
+        room: &mut [Value],
+    ) -> Came
+        requires unended { has_end (O.log self.old.store).entries ≡ false }
+        requires steps { self.old.left ≤ self.old.context.steps }
+        requires came { is_left current ≡ false }
+        ensures base { self.new.base ≡ self.old.base }
+        ensures context { self.new.context ≡ self.old.context }
+        ensures room { length room.new ≡ length room.old }
+        ensures less { self.new.left ≤ self.old.left }
+        ensures unended { has_end (O.log self.new.store).entries ≡ false }
+        ensures kept { Keeps self.old.context.script.now self.old.context.names.now (λ S. fits S value.now) self.old.base room.old room.new }
+        ensures came { (receiver : Val) (name : NameId) → Carries self.old.context.script.now self.old.context.names.now self.old.context.steps (unwritten name (λ S. fits S value.now)) (λ S k sc d n. On (Give (value_of current self.old.value)) (Then (ReadOf (OfAttribute receiver (text_of S name)) op (erase value.now) at) ∷ k) sc d n) self.old.base depth self.old.left self.new.left room.old room.new (O.log self.old.store) (O.log self.new.store) (outcome result self.new.value self.new.leave) }
+    {
+        match op {
+            AssignOp::OrElse => {
+                if self.is_true_now(current) {
+                    return current;
+                }
+                self.refuse_value(value, at, depth, room)
+            }
+            AssignOp::AndThen => {
+                if !self.is_true_now(current) {
+                    return current;
+                }
+                self.refuse_value(value, at, depth, room)
+            }
+            _ => {
+                let made = self.combine(current, op, value, at, depth, room);
+                if is_left(made) {
+                    return made;
+                }
+                self.raise(Fault::NoMethod, at)
+            }
+        }
+    }
+
+    /// A value that is to be written where nothing can be.
+    #[cycle(walk)]
+    pub(super) fn refuse_value(
+        &mut self,
+        value: &'p Code,
+        at: Span,
+        depth: u32,
+        room: &mut [Value],
+    ) -> Came
+        requires unended { has_end (O.log self.old.store).entries ≡ false }
+        requires steps { self.old.left ≤ self.old.context.steps }
+        ensures base { self.new.base ≡ self.old.base }
+        ensures context { self.new.context ≡ self.old.context }
+        ensures room { length room.new ≡ length room.old }
+        ensures less { self.new.left ≤ self.old.left }
+        ensures unended { has_end (O.log self.new.store).entries ≡ false }
+        ensures kept { Keeps self.old.context.script.now self.old.context.names.now (λ S. fits S value.now) self.old.base room.old room.new }
+        ensures came { (receiver : Val) (name : NameId) → Carries self.old.context.script.now self.old.context.names.now self.old.context.steps (unwritten name (λ S. fits S value.now)) (λ S k sc d n. On (Eval (erase value.now)) (Then (WriteTo (OfAttribute receiver (text_of S name)) at) ∷ k) sc d n) self.old.base depth self.old.left self.new.left room.old room.new (O.log self.old.store) (O.log self.new.store) (outcome result self.new.value self.new.leave) }
+    {
+        let came = self.walk(value, depth, room);
+        if is_left(came) {
+            return came;
+        }
+        self.raise(Fault::NoMethod, at)
+    }
+}

@@ -1,0 +1,504 @@
+// Calls: their arguments, methods of receivers and of the script, blocks and prints.
+
+ghost use Rattle.std.specs.Prelude.{◌≡◌, ◌≤◌, ◌<◌, ◌+◌, ◌+ℤ◌, pos, ℕ, false, List, [], ◌∷◌, length, map, Some, None, IfOk, IfErr};
+ghost use Rattle.rb_tree.specs.declared.span.NameId.{NameId};
+ghost use Rattle.rb_model.specs.Values.{Nil, Int, plain};
+ghost use Rattle.rb_model.specs.Log.{has_end};
+ghost use Rattle.rb_machine.specs.Scopes.{text_of};
+ghost use Rattle.rb_machine.specs.Control.{On, Then, Eval, Give, Turning, Passing, Joining, ReceiverOf, ReceiverToStore, Argument, OnReceiver, ByName, Counting};
+ghost use Rattle.rb_machine.specs.Methods.{Loops, deed};
+ghost use Rattle.rb_machine.specs.Texts.{shown};
+ghost use Rattle.rb_builtin.specs.Names.{builtin_of};
+ghost use Rattle.rb_code.specs.Erase.{erase, erase_block, erase_piece};
+ghost use Rattle.rb_code.specs.Resolved.{fits, block_fits, piece_fits, every};
+ghost use Rattle.rb_interp.specs.Outcome.{is_left, value_of, outcome};
+ghost use Rattle.rb_interp.specs.Carries.{Carries, Keeps, Passes, both, numbered, unanswered, called, printing};
+ghost use Rattle.rb_interp.specs.Answers.{Passed, Settles};
+
+use super::Walker;
+use crate::bytes::{add_bytes, add_value};
+use crate::came::{Came, Cut, is_left};
+use crate::rounds::{Rounds, count_of, rounds_of};
+use crate::slots::{clear, passed, put, start_block};
+use rb_builtin::{Builtin, Deed, deed_of};
+use rb_code::{Code, CodeBlock, CodePiece};
+use rb_model::{Fault, OneStore, SharedText, Value};
+use rb_render::{Form, MAX_BYTES};
+use rb_tree::Span;
+
+impl<'p, O: OneStore + Drop> Walker<'p, O> {
+    /// A call with one argument: the receiver first.
+    #[cycle(walk)]
+    pub(super) fn operate(
+        &mut self,
+        method: Option<Builtin>,
+        left: &'p Code,
+        right: &'p Code,
+        at: Span,
+        depth: u32,
+        room: &mut [Value],
+    ) -> Came
+        requires unended { has_end (O.log self.old.store).entries ≡ false }
+        requires steps { self.old.left ≤ self.old.context.steps }
+        ensures base { self.new.base ≡ self.old.base }
+        ensures context { self.new.context ≡ self.old.context }
+        ensures room { length room.new ≡ length room.old }
+        ensures less { self.new.left ≤ self.old.left }
+        ensures unended { has_end (O.log self.new.store).entries ≡ false }
+        ensures kept { (name : NameId) → Keeps self.old.context.script.now self.old.context.names.now (numbered method name (both (λ S. fits S left.now) (λ S. fits S right.now))) self.old.base room.old room.new }
+        ensures came { (name : NameId) → Carries self.old.context.script.now self.old.context.names.now self.old.context.steps (numbered method name (both (λ S. fits S left.now) (λ S. fits S right.now))) (λ S k sc d n. On (Eval (erase left.now)) (Then (ReceiverOf (text_of S name) (erase right.now ∷ []) None at) ∷ k) sc d n) self.old.base depth self.old.left self.new.left room.old room.new (O.log self.old.store) (O.log self.new.store) (outcome result self.new.value self.new.leave) }
+    {
+        let came = self.walk(left, depth, room);
+        if is_left(came) {
+            return came;
+        }
+        match came {
+            Came::Int(m) => self.operate_integer(m, method, right, at, depth, room),
+            _ => self.operate_value(came, method, right, at, depth, room),
+        }
+    }
+
+    /// The argument of a call whose receiver is an integer.
+    #[cycle(walk)]
+    #[inline(always)]
+    pub(super) fn operate_integer(
+        &mut self,
+        m: i64,
+        method: Option<Builtin>,
+        right: &'p Code,
+        at: Span,
+        depth: u32,
+        room: &mut [Value],
+    ) -> Came
+        requires unended { has_end (O.log self.old.store).entries ≡ false }
+        requires steps { self.old.left ≤ self.old.context.steps }
+        ensures base { self.new.base ≡ self.old.base }
+        ensures context { self.new.context ≡ self.old.context }
+        ensures room { length room.new ≡ length room.old }
+        ensures less { self.new.left ≤ self.old.left }
+        ensures unended { has_end (O.log self.new.store).entries ≡ false }
+        ensures kept { (name : NameId) → Keeps self.old.context.script.now self.old.context.names.now (numbered method name (λ S. fits S right.now)) self.old.base room.old room.new }
+        ensures came { (name : NameId) → Carries self.old.context.script.now self.old.context.names.now self.old.context.steps (numbered method name (λ S. fits S right.now)) (λ S k sc d n. On (Eval (erase right.now)) (Then (Argument (OnReceiver (Int m) (text_of S name) None) [] [] at) ∷ k) sc d n) self.old.base depth self.old.left self.new.left room.old room.new (O.log self.old.store) (O.log self.new.store) (outcome result self.new.value self.new.leave) }
+    {
+        let came = self.evaluate(right, depth, room);
+        if is_left(came) {
+            return came;
+        }
+        self.operated_by(method, m, came, at)
+    }
+
+    /// The argument of a call whose receiver is any value.
+    #[cycle(walk)]
+    #[inline(never)]
+    pub(super) fn operate_value(
+        &mut self,
+        came: Came,
+        method: Option<Builtin>,
+        right: &'p Code,
+        at: Span,
+        depth: u32,
+        room: &mut [Value],
+    ) -> Came
+        requires unended { has_end (O.log self.old.store).entries ≡ false }
+        requires steps { self.old.left ≤ self.old.context.steps }
+        requires came { is_left came ≡ false }
+        ensures base { self.new.base ≡ self.old.base }
+        ensures context { self.new.context ≡ self.old.context }
+        ensures room { length room.new ≡ length room.old }
+        ensures less { self.new.left ≤ self.old.left }
+        ensures unended { has_end (O.log self.new.store).entries ≡ false }
+        ensures kept { (name : NameId) → Keeps self.old.context.script.now self.old.context.names.now (numbered method name (λ S. fits S right.now)) self.old.base room.old room.new }
+        ensures came { (name : NameId) → Carries self.old.context.script.now self.old.context.names.now self.old.context.steps (numbered method name (λ S. fits S right.now)) (λ S k sc d n. On (Eval (erase right.now)) (Then (Argument (OnReceiver (value_of came self.old.value) (text_of S name) None) [] [] at) ∷ k) sc d n) self.old.base depth self.old.left self.new.left room.old room.new (O.log self.old.store) (O.log self.new.store) (outcome result self.new.value self.new.leave) }
+    {
+        let receiver = self.take(came);
+        let came = self.walk(right, depth, room);
+        if is_left(came) {
+            return came;
+        }
+        let arg = self.take(came);
+        self.operated(method, &receiver, arg, at)
+    }
+
+    /// A call with a receiver, without a block.
+    #[cycle(walk)]
+    #[inline(never)]
+    pub(super) fn send(
+        &mut self,
+        method: Option<Builtin>,
+        receiver: &'p Code,
+        args: &'p [Code],
+        at: Span,
+        depth: u32,
+        room: &mut [Value],
+    ) -> Came
+        requires unended { has_end (O.log self.old.store).entries ≡ false }
+        requires steps { self.old.left ≤ self.old.context.steps }
+        ensures base { self.new.base ≡ self.old.base }
+        ensures context { self.new.context ≡ self.old.context }
+        ensures room { length room.new ≡ length room.old }
+        ensures less { self.new.left ≤ self.old.left }
+        ensures unended { has_end (O.log self.new.store).entries ≡ false }
+        ensures kept { (name : NameId) → Keeps self.old.context.script.now self.old.context.names.now (numbered method name (both (λ S. fits S receiver.now) (λ S. every (map (fits S) args.now)))) self.old.base room.old room.new }
+        ensures came { (name : NameId) → Carries self.old.context.script.now self.old.context.names.now self.old.context.steps (numbered method name (both (λ S. fits S receiver.now) (λ S. every (map (fits S) args.now)))) (λ S k sc d n. On (Eval (erase receiver.now)) (Then (ReceiverOf (text_of S name) (map erase args.now) None at) ∷ k) sc d n) self.old.base depth self.old.left self.new.left room.old room.new (O.log self.old.store) (O.log self.new.store) (outcome result self.new.value self.new.leave) }
+    {
+        let came = self.walk(receiver, depth, room);
+        if is_left(came) {
+            return came;
+        }
+        let receiver = self.take(came);
+        let before = self.base;
+        let came = self.arguments(args, depth, room);
+        self.base = before;
+        if is_left(came) {
+            return came;
+        }
+        self.call_method(&receiver, method, passed(room, before, args.len()), at)
+    }
+
+    /// An assignment by the call of a method: no value that there is yet has such a method.
+    #[cycle(walk)]
+    pub(super) fn store_by(
+        &mut self,
+        receiver: &'p Code,
+        args: &'p [Code],
+        at: Span,
+        depth: u32,
+        room: &mut [Value],
+    ) -> Came
+        requires unended { has_end (O.log self.old.store).entries ≡ false }
+        requires steps { self.old.left ≤ self.old.context.steps }
+        ensures base { self.new.base ≡ self.old.base }
+        ensures context { self.new.context ≡ self.old.context }
+        ensures room { length room.new ≡ length room.old }
+        ensures less { self.new.left ≤ self.old.left }
+        ensures unended { has_end (O.log self.new.store).entries ≡ false }
+        ensures kept { (name : NameId) → Keeps self.old.context.script.now self.old.context.names.now (unanswered name (both (λ S. fits S receiver.now) (λ S. every (map (fits S) args.now)))) self.old.base room.old room.new }
+        ensures came { (name : NameId) → Carries self.old.context.script.now self.old.context.names.now self.old.context.steps (unanswered name (both (λ S. fits S receiver.now) (λ S. every (map (fits S) args.now)))) (λ S k sc d n. On (Eval (erase receiver.now)) (Then (ReceiverToStore (text_of S name) (map erase args.now) at) ∷ k) sc d n) self.old.base depth self.old.left self.new.left room.old room.new (O.log self.old.store) (O.log self.new.store) (outcome result self.new.value self.new.leave) }
+    {
+        let came = self.walk(receiver, depth, room);
+        if is_left(came) {
+            return came;
+        }
+        let before = self.base;
+        let came = self.arguments(args, depth, room);
+        self.base = before;
+        if is_left(came) {
+            return came;
+        }
+        self.raise(Fault::NoMethod, at)
+    }
+
+    /// What the call of a method of a value with a block comes to before an iteration: those that it makes, or else what it gives.
+    pub(super) fn rounds(
+        &mut self,
+        receiver: &Value,
+        method: Option<Builtin>,
+        args: &[Value],
+        params: usize,
+        at: Span,
+    ) -> Result<Rounds, Came>
+        ensures rounds { IfOk result (λ r. (name : List ℕ) → builtin_of name ≡ method → deed self.old.context.names.now (plain receiver.now) name (map plain args.now) (Some params) ≡ Loops (Counting r.first (r.last +ℤ pos 1) (Int r.answer))) }
+        ensures gives { IfErr result (λ came. Settles self.old.context.names.now self.old.context.steps method (plain receiver.now) (map plain args.now) params at self.old.left (O.log self.old.store) (outcome came self.new.value self.new.leave)) }
+        ensures base { self.new.base ≡ self.old.base }
+        ensures left { self.new.left ≡ self.old.left }
+        ensures context { self.new.context ≡ self.old.context }
+        ensures store { self.new.store ≡ self.old.store }
+    {
+        let Some(count) = count_of(params) else {
+            return Err(self.over(Cut::Memory));
+        };
+        match deed_of(
+            self.context.alloc,
+            self.context.names,
+            receiver,
+            method,
+            args,
+            Some(count),
+        ) {
+            Ok(Deed::Give(value)) => Err(self.give(value)),
+            Ok(Deed::Raise(fault)) => Err(self.raise(fault, at)),
+            Ok(Deed::Walk(turns)) => match rounds_of(turns) {
+                Ok(rounds) => Ok(rounds),
+                Err(answer) => Err(Came::Int(answer)),
+            },
+            Err(_) => Err(self.over(Cut::Memory)),
+        }
+    }
+
+    /// A call with a receiver and a block.
+    #[cycle(walk)]
+    pub(super) fn send_block(
+        &mut self,
+        method: Option<Builtin>,
+        receiver: &'p Code,
+        args: &'p [Code],
+        block: &'p CodeBlock,
+        at: Span,
+        depth: u32,
+        room: &mut [Value],
+    ) -> Came
+        requires unended { has_end (O.log self.old.store).entries ≡ false }
+        requires steps { self.old.left ≤ self.old.context.steps }
+        ensures base { self.new.base ≡ self.old.base }
+        ensures context { self.new.context ≡ self.old.context }
+        ensures room { length room.new ≡ length room.old }
+        ensures less { self.new.left ≤ self.old.left }
+        ensures unended { has_end (O.log self.new.store).entries ≡ false }
+        ensures kept { (name : NameId) → Keeps self.old.context.script.now self.old.context.names.now (numbered method name (both (λ S. fits S receiver.now) (both (λ S. every (map (fits S) args.now)) (λ S. block_fits S block.now)))) self.old.base room.old room.new }
+        ensures came { (name : NameId) → Carries self.old.context.script.now self.old.context.names.now self.old.context.steps (numbered method name (both (λ S. fits S receiver.now) (both (λ S. every (map (fits S) args.now)) (λ S. block_fits S block.now)))) (λ S k sc d n. On (Eval (erase receiver.now)) (Then (ReceiverOf (text_of S name) (map erase args.now) (Some (erase_block block.now)) at) ∷ k) sc d n) self.old.base depth self.old.left self.new.left room.old room.new (O.log self.old.store) (O.log self.new.store) (outcome result self.new.value self.new.leave) }
+    {
+        let came = self.walk(receiver, depth, room);
+        if is_left(came) {
+            return came;
+        }
+        let receiver = self.take(came);
+        let before = self.base;
+        let came = self.arguments(args, depth, room);
+        self.base = before;
+        if is_left(came) {
+            return came;
+        }
+        let args = passed(room, before, args.len());
+        match self.rounds(&receiver, method, args, block.params.len(), at) {
+            Ok(rounds) => self.turns(rounds.first, rounds.last, rounds.answer, block, depth, room),
+            Err(came) => came,
+        }
+    }
+
+    /// The iterations of a block with the integers from the first up to the last, and then the answer.
+    #[cycle(walk)]
+    pub(super) fn turns(
+        &mut self,
+        first: i64,
+        last: i64,
+        answer: i64,
+        block: &'p CodeBlock,
+        depth: u32,
+        room: &mut [Value],
+    ) -> Came
+        requires unended { has_end (O.log self.old.store).entries ≡ false }
+        requires steps { self.old.left ≤ self.old.context.steps }
+        ensures base { self.new.base ≡ self.old.base }
+        ensures context { self.new.context ≡ self.old.context }
+        ensures room { length room.new ≡ length room.old }
+        ensures less { self.new.left ≤ self.old.left }
+        ensures unended { has_end (O.log self.new.store).entries ≡ false }
+        ensures kept { Keeps self.old.context.script.now self.old.context.names.now (λ S. block_fits S block.now) self.old.base room.old room.new }
+        ensures came { Carries self.old.context.script.now self.old.context.names.now self.old.context.steps (λ S. block_fits S block.now) (λ S k sc d n. On (Turning (Counting first (last +ℤ pos 1) (Int answer)) (erase_block block.now)) k sc d n) self.old.base depth self.old.left self.new.left room.old room.new (O.log self.old.store) (O.log self.new.store) (outcome result self.new.value self.new.leave) }
+    {
+        if first > last {
+            return Came::Int(answer);
+        }
+        let from = block.from as usize;
+        let count = block.count as usize;
+        if room.len() < from || room.len() - from < count {
+            return self.over(Cut::Memory);
+        }
+        let takes = !block.params.is_empty();
+        let mut next = first;
+        'turns: loop {
+            if self.left == 0 {
+                return self.over(Cut::Steps);
+            }
+            self.left -= 1;
+            start_block(room, from, count, takes, next);
+            let came = self.body(block.body.as_slice(), depth, room);
+            if !self.goes_on(came) {
+                return self.out_of_loop(came);
+            }
+            if next >= last {
+                return Came::Int(answer);
+            }
+            next += 1;
+        }
+    }
+
+    /// A call of a top-level method.
+    #[cycle(walk)]
+    pub(super) fn function(
+        &mut self,
+        number: u32,
+        args: &'p [Code],
+        at: Span,
+        depth: u32,
+        room: &mut [Value],
+    ) -> Came
+        requires unended { has_end (O.log self.old.store).entries ≡ false }
+        requires steps { self.old.left ≤ self.old.context.steps }
+        ensures base { self.new.base ≡ self.old.base }
+        ensures context { self.new.context ≡ self.old.context }
+        ensures room { length room.new ≡ length room.old }
+        ensures less { self.new.left ≤ self.old.left }
+        ensures unended { has_end (O.log self.new.store).entries ≡ false }
+        ensures kept { (name : NameId) → Keeps self.old.context.script.now self.old.context.names.now (called number name (λ S. every (map (fits S) args.now))) self.old.base room.old room.new }
+        ensures came { (name : NameId) → Carries self.old.context.script.now self.old.context.names.now self.old.context.steps (called number name (λ S. every (map (fits S) args.now))) (λ S k sc d n. On (Passing (ByName name) [] (map erase args.now) at) k sc d n) self.old.base depth self.old.left self.new.left room.old room.new (O.log self.old.store) (O.log self.new.store) (outcome result self.new.value self.new.leave) }
+    {
+        let script = self.context.script;
+        let Some(method) = script.functions.get(number as usize) else {
+            return self.over(Cut::Memory);
+        };
+        let before = self.base;
+        let size = method.size as usize;
+        if room.len() < before || room.len() - before < size {
+            return self.over(Cut::Memory);
+        }
+        let came = self.arguments(args, depth, room);
+        self.base = before;
+        if is_left(came) {
+            return came;
+        }
+        if args.len() != method.params.len() {
+            return self.raise(Fault::ArgumentCount, at);
+        }
+        let frame = room.split_at_mut(before).1;
+        clear(frame, args.len(), size);
+        self.base = size;
+        let came = self.body(method.body.as_slice(), depth, frame);
+        self.base = before;
+        self.out_of_call(came)
+    }
+
+    /// A call of `puts`, `print` or `p`.
+    #[cycle(walk)]
+    pub(super) fn print(
+        &mut self,
+        form: Form,
+        args: &'p [Code],
+        at: Span,
+        depth: u32,
+        room: &mut [Value],
+    ) -> Came
+        requires unended { has_end (O.log self.old.store).entries ≡ false }
+        requires steps { self.old.left ≤ self.old.context.steps }
+        ensures base { self.new.base ≡ self.old.base }
+        ensures context { self.new.context ≡ self.old.context }
+        ensures room { length room.new ≡ length room.old }
+        ensures less { self.new.left ≤ self.old.left }
+        ensures unended { has_end (O.log self.new.store).entries ≡ false }
+        ensures kept { (name : NameId) → Keeps self.old.context.script.now self.old.context.names.now (printing form name (length args.now) (λ S. every (map (fits S) args.now))) self.old.base room.old room.new }
+        ensures came { (name : NameId) → Carries self.old.context.script.now self.old.context.names.now self.old.context.steps (printing form name (length args.now) (λ S. every (map (fits S) args.now))) (λ S k sc d n. On (Passing (ByName name) [] (map erase args.now) at) k sc d n) self.old.base depth self.old.left self.new.left room.old room.new (O.log self.old.store) (O.log self.new.store) (outcome result self.new.value self.new.leave) }
+    {
+        let before = self.base;
+        let came = self.arguments(args, depth, room);
+        self.base = before;
+        if is_left(came) {
+            return came;
+        }
+        let shown = self.show(form, passed(room, before, args.len()), at);
+        if is_left(shown) {
+            return shown;
+        }
+        self.shown_value(form, passed(room, before, args.len()))
+    }
+
+    /// Puts the value that came behind the frame.
+    #[inline(always)]
+    pub(super) fn pass(&mut self, came: Came, room: &mut [Value])
+        requires within { self.old.base < length room.old }
+        ensures passed { Passed self.old.base (value_of came self.old.value) room.old room.new }
+        ensures base { self.new.base ≡ self.old.base }
+        ensures left { self.new.left ≡ self.old.left }
+        ensures context { self.new.context ≡ self.old.context }
+        ensures store { self.new.store ≡ self.old.store }
+    {
+        match came {
+            Came::Int(n) => put(room, self.base, n),
+            _ => self.pass_any(came, room),
+        }
+    }
+
+    /// Puts any value that came behind the frame.
+    #[inline(never)]
+    pub(super) fn pass_any(&mut self, came: Came, room: &mut [Value])
+        requires within { self.old.base < length room.old }
+        ensures passed { Passed self.old.base (value_of came self.old.value) room.old room.new }
+        ensures base { self.new.base ≡ self.old.base }
+        ensures left { self.new.left ≡ self.old.left }
+        ensures context { self.new.context ≡ self.old.context }
+        ensures store { self.new.store ≡ self.old.store }
+    {
+        room[self.base] = self.take(came);
+    }
+
+    /// The arguments, each behind the frame and in it from then on.
+    #[cycle(walk)]
+    pub(super) fn arguments(&mut self, args: &'p [Code], depth: u32, room: &mut [Value]) -> Came
+        requires unended { has_end (O.log self.old.store).entries ≡ false }
+        requires steps { self.old.left ≤ self.old.context.steps }
+        ensures base { is_left result ≡ false → self.new.base ≡ self.old.base + length args.now }
+        ensures rises { self.old.base ≤ self.new.base }
+        ensures fits { self.old.base ≤ length room.old → self.new.base ≤ length room.new }
+        ensures context { self.new.context ≡ self.old.context }
+        ensures room { length room.new ≡ length room.old }
+        ensures less { self.new.left ≤ self.old.left }
+        ensures unended { has_end (O.log self.new.store).entries ≡ false }
+        ensures kept { Keeps self.old.context.script.now self.old.context.names.now (λ S. every (map (fits S) args.now)) self.old.base room.old room.new }
+        ensures came { Passes self.old.context.script.now self.old.context.names.now self.old.context.steps args.now self.old.base depth self.old.left self.new.left room.old room.new (O.log self.old.store) (O.log self.new.store) result (outcome result self.new.value self.new.leave) }
+    {
+        'each: for arg in args {
+            let came = self.evaluate(arg, depth, room);
+            if is_left(came) {
+                return came;
+            }
+            if self.base >= room.len() {
+                return self.over(Cut::Memory);
+            }
+            self.pass(came, room);
+            self.base += 1;
+        }
+        Came::Nil
+    }
+
+    /// A text.
+    #[cycle(walk)]
+    pub(super) fn text(
+        &mut self,
+        pieces: &'p [CodePiece],
+        at: Span,
+        depth: u32,
+        room: &mut [Value],
+    ) -> Came
+        requires unended { has_end (O.log self.old.store).entries ≡ false }
+        requires steps { self.old.left ≤ self.old.context.steps }
+        ensures base { self.new.base ≡ self.old.base }
+        ensures context { self.new.context ≡ self.old.context }
+        ensures room { length room.new ≡ length room.old }
+        ensures less { self.new.left ≤ self.old.left }
+        ensures unended { has_end (O.log self.new.store).entries ≡ false }
+        ensures kept { Keeps self.old.context.script.now self.old.context.names.now (λ S. every (map (piece_fits S) pieces.now)) self.old.base room.old room.new }
+        ensures came { Carries self.old.context.script.now self.old.context.names.now self.old.context.steps (λ S. every (map (piece_fits S) pieces.now)) (λ S k sc d n. On (Joining [] (map erase_piece pieces.now) at) k sc d n) self.old.base depth self.old.left self.new.left room.old room.new (O.log self.old.store) (O.log self.new.store) (outcome result self.new.value self.new.leave) }
+    {
+        let mut bytes = Vec::new(self.context.alloc);
+        'pieces: for piece in pieces {
+            match piece {
+                CodePiece::Text(text) => {
+                    if let Err(_) = add_bytes(&mut bytes, text.as_slice()) {
+                        return self.over(Cut::Memory);
+                    }
+                }
+                CodePiece::Code(code) => {
+                    let came = self.walk(code, depth, room);
+                    if is_left(came) {
+                        return came;
+                    }
+                    let value = self.take(came);
+                    if let Err(_) = add_value(
+                        self.context.alloc,
+                        &mut bytes,
+                        self.context.names,
+                        value,
+                    ) {
+                        return self.over(Cut::Memory);
+                    }
+                }
+            }
+            if bytes.len() > MAX_BYTES {
+                return self.raise(Fault::TextTooLong, at);
+            }
+        }
+        match SharedText::from_vec(self.context.alloc, bytes) {
+            Ok(text) => self.give(Value::Str(text)),
+            Err(_) => self.over(Cut::Memory),
+        }
+    }
+}

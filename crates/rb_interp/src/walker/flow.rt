@@ -1,0 +1,286 @@
+// Branches, loops and bodies, and how they are left.
+
+ghost use Rattle.std.specs.Prelude.{◌≡◌, ◌≤◌, ◌<◌, true, false, ◌∷◌, length, map, Some};
+ghost use Rattle.std.specs.Option.{option_map};
+ghost use Rattle.rb_model.specs.Values.{Nil};
+ghost use Rattle.rb_model.specs.Log.{has_end};
+ghost use Rattle.rb_machine.specs.Control.{On, Then, Eval, Following, Looping, RightOfAnd, RightOfOr, Negate, Choose, ReturnOf};
+ghost use Rattle.rb_machine.specs.Begin.{begin_return};
+ghost use Rattle.rb_code.specs.Erase.{erase};
+ghost use Rattle.rb_code.specs.Resolved.{fits, every, if_some};
+ghost use Rattle.rb_interp.specs.Outcome.{is_left, outcome, Over};
+ghost use Rattle.rb_interp.specs.Carries.{Carries, Keeps, both, goes_on, loop_exit, call_exit};
+
+use super::Walker;
+use crate::came::{Came, Leave, is_left};
+use rb_code::Code;
+use rb_model::{OneStore, Value};
+use rb_tree::Boxed;
+use std::mem;
+
+impl<'p, O: OneStore + Drop> Walker<'p, O> {
+    /// `first && second`
+    #[cycle(walk)]
+    pub(super) fn both(
+        &mut self,
+        first: &'p Code,
+        second: &'p Code,
+        depth: u32,
+        room: &mut [Value],
+    ) -> Came
+        requires unended { has_end (O.log self.old.store).entries ≡ false }
+        requires steps { self.old.left ≤ self.old.context.steps }
+        ensures base { self.new.base ≡ self.old.base }
+        ensures context { self.new.context ≡ self.old.context }
+        ensures room { length room.new ≡ length room.old }
+        ensures less { self.new.left ≤ self.old.left }
+        ensures unended { has_end (O.log self.new.store).entries ≡ false }
+        ensures kept { Keeps self.old.context.script.now self.old.context.names.now (both (λ S. fits S first.now) (λ S. fits S second.now)) self.old.base room.old room.new }
+        ensures came { Carries self.old.context.script.now self.old.context.names.now self.old.context.steps (both (λ S. fits S first.now) (λ S. fits S second.now)) (λ S k sc d n. On (Eval (erase first.now)) (Then (RightOfAnd (erase second.now)) ∷ k) sc d n) self.old.base depth self.old.left self.new.left room.old room.new (O.log self.old.store) (O.log self.new.store) (outcome result self.new.value self.new.leave) }
+    {
+        let came = self.walk(first, depth, room);
+        if is_left(came) {
+            return came;
+        }
+        if !self.is_true_now(came) {
+            return came;
+        }
+        self.walk(second, depth, room)
+    }
+
+    /// `first || second`
+    #[cycle(walk)]
+    pub(super) fn either(
+        &mut self,
+        first: &'p Code,
+        second: &'p Code,
+        depth: u32,
+        room: &mut [Value],
+    ) -> Came
+        requires unended { has_end (O.log self.old.store).entries ≡ false }
+        requires steps { self.old.left ≤ self.old.context.steps }
+        ensures base { self.new.base ≡ self.old.base }
+        ensures context { self.new.context ≡ self.old.context }
+        ensures room { length room.new ≡ length room.old }
+        ensures less { self.new.left ≤ self.old.left }
+        ensures unended { has_end (O.log self.new.store).entries ≡ false }
+        ensures kept { Keeps self.old.context.script.now self.old.context.names.now (both (λ S. fits S first.now) (λ S. fits S second.now)) self.old.base room.old room.new }
+        ensures came { Carries self.old.context.script.now self.old.context.names.now self.old.context.steps (both (λ S. fits S first.now) (λ S. fits S second.now)) (λ S k sc d n. On (Eval (erase first.now)) (Then (RightOfOr (erase second.now)) ∷ k) sc d n) self.old.base depth self.old.left self.new.left room.old room.new (O.log self.old.store) (O.log self.new.store) (outcome result self.new.value self.new.leave) }
+    {
+        let came = self.walk(first, depth, room);
+        if is_left(came) {
+            return came;
+        }
+        if self.is_true_now(came) {
+            return came;
+        }
+        self.walk(second, depth, room)
+    }
+
+    /// `!value`
+    #[cycle(walk)]
+    pub(super) fn negate(&mut self, value: &'p Code, depth: u32, room: &mut [Value]) -> Came
+        requires unended { has_end (O.log self.old.store).entries ≡ false }
+        requires steps { self.old.left ≤ self.old.context.steps }
+        ensures base { self.new.base ≡ self.old.base }
+        ensures context { self.new.context ≡ self.old.context }
+        ensures room { length room.new ≡ length room.old }
+        ensures less { self.new.left ≤ self.old.left }
+        ensures unended { has_end (O.log self.new.store).entries ≡ false }
+        ensures kept { Keeps self.old.context.script.now self.old.context.names.now (λ S. fits S value.now) self.old.base room.old room.new }
+        ensures came { Carries self.old.context.script.now self.old.context.names.now self.old.context.steps (λ S. fits S value.now) (λ S k sc d n. On (Eval (erase value.now)) (Then Negate ∷ k) sc d n) self.old.base depth self.old.left self.new.left room.old room.new (O.log self.old.store) (O.log self.new.store) (outcome result self.new.value self.new.leave) }
+    {
+        let came = self.walk(value, depth, room);
+        if is_left(came) {
+            return came;
+        }
+        if self.is_true_now(came) {
+            Came::False
+        } else {
+            Came::True
+        }
+    }
+
+    /// A choice between two bodies.
+    #[cycle(walk)]
+    pub(super) fn choose(
+        &mut self,
+        condition: &'p Code,
+        first: &'p [Code],
+        second: &'p [Code],
+        depth: u32,
+        room: &mut [Value],
+    ) -> Came
+        requires unended { has_end (O.log self.old.store).entries ≡ false }
+        requires steps { self.old.left ≤ self.old.context.steps }
+        ensures base { self.new.base ≡ self.old.base }
+        ensures context { self.new.context ≡ self.old.context }
+        ensures room { length room.new ≡ length room.old }
+        ensures less { self.new.left ≤ self.old.left }
+        ensures unended { has_end (O.log self.new.store).entries ≡ false }
+        ensures kept { Keeps self.old.context.script.now self.old.context.names.now (both (λ S. fits S condition.now) (both (λ S. every (map (fits S) first.now)) (λ S. every (map (fits S) second.now)))) self.old.base room.old room.new }
+        ensures came { Carries self.old.context.script.now self.old.context.names.now self.old.context.steps (both (λ S. fits S condition.now) (both (λ S. every (map (fits S) first.now)) (λ S. every (map (fits S) second.now)))) (λ S k sc d n. On (Eval (erase condition.now)) (Then (Choose (map erase first.now) (map erase second.now)) ∷ k) sc d n) self.old.base depth self.old.left self.new.left room.old room.new (O.log self.old.store) (O.log self.new.store) (outcome result self.new.value self.new.leave) }
+    {
+        let came = self.walk(condition, depth, room);
+        if is_left(came) {
+            return came;
+        }
+        if self.is_true_now(came) {
+            return self.body(first, depth, room);
+        }
+        self.body(second, depth, room)
+    }
+
+    /// The statements of a body, one after another.
+    #[cycle(walk)]
+    #[inline(always)]
+    pub(super) fn body(&mut self, nodes: &'p [Code], depth: u32, room: &mut [Value]) -> Came
+        requires unended { has_end (O.log self.old.store).entries ≡ false }
+        requires steps { self.old.left ≤ self.old.context.steps }
+        ensures base { self.new.base ≡ self.old.base }
+        ensures context { self.new.context ≡ self.old.context }
+        ensures room { length room.new ≡ length room.old }
+        ensures less { self.new.left ≤ self.old.left }
+        ensures unended { has_end (O.log self.new.store).entries ≡ false }
+        ensures kept { Keeps self.old.context.script.now self.old.context.names.now (λ S. every (map (fits S) nodes.now)) self.old.base room.old room.new }
+        ensures came { Carries self.old.context.script.now self.old.context.names.now self.old.context.steps (λ S. every (map (fits S) nodes.now)) (λ S k sc d n. On (Following Nil (map erase nodes.now)) k sc d n) self.old.base depth self.old.left self.new.left room.old room.new (O.log self.old.store) (O.log self.new.store) (outcome result self.new.value self.new.leave) }
+    {
+        let mut came = Came::Nil;
+        'nodes: for node in nodes {
+            came = self.walk(node, depth, room);
+            if is_left(came) {
+                return came;
+            }
+        }
+        came
+    }
+
+    /// A loop.
+    #[cycle(walk)]
+    pub(super) fn repeat(
+        &mut self,
+        condition: &'p Code,
+        body: &'p [Code],
+        depth: u32,
+        room: &mut [Value],
+    ) -> Came
+        requires unended { has_end (O.log self.old.store).entries ≡ false }
+        requires steps { self.old.left ≤ self.old.context.steps }
+        ensures base { self.new.base ≡ self.old.base }
+        ensures context { self.new.context ≡ self.old.context }
+        ensures room { length room.new ≡ length room.old }
+        ensures less { self.new.left ≤ self.old.left }
+        ensures unended { has_end (O.log self.new.store).entries ≡ false }
+        ensures kept { Keeps self.old.context.script.now self.old.context.names.now (both (λ S. fits S condition.now) (λ S. every (map (fits S) body.now))) self.old.base room.old room.new }
+        ensures came { Carries self.old.context.script.now self.old.context.names.now self.old.context.steps (both (λ S. fits S condition.now) (λ S. every (map (fits S) body.now))) (λ S k sc d n. On (Looping (erase condition.now) (map erase body.now)) k sc d n) self.old.base depth self.old.left self.new.left room.old room.new (O.log self.old.store) (O.log self.new.store) (outcome result self.new.value self.new.leave) }
+    {
+        'turns: loop {
+            let came = self.walk(condition, depth, room);
+            if is_left(came) {
+                if !self.goes_on(came) {
+                    return self.out_of_loop(came);
+                }
+                continue 'turns;
+            }
+            if !self.is_true_now(came) {
+                return Came::Nil;
+            }
+            let came = self.body(body, depth, room);
+            if !self.goes_on(came) {
+                return self.out_of_loop(came);
+            }
+        }
+    }
+
+    /// A return, whose value is nil where none is given.
+    #[cycle(walk)]
+    pub(super) fn leave_method(
+        &mut self,
+        value: &'p Option<Boxed<Code>>,
+        depth: u32,
+        room: &mut [Value],
+    ) -> Came
+        requires unended { has_end (O.log self.old.store).entries ≡ false }
+        requires steps { self.old.left ≤ self.old.context.steps }
+        ensures base { self.new.base ≡ self.old.base }
+        ensures context { self.new.context ≡ self.old.context }
+        ensures room { length room.new ≡ length room.old }
+        ensures less { self.new.left ≤ self.old.left }
+        ensures unended { has_end (O.log self.new.store).entries ≡ false }
+        ensures kept { Keeps self.old.context.script.now self.old.context.names.now (λ S. if_some (option_map (fits S) value.now)) self.old.base room.old room.new }
+        ensures came { Carries self.old.context.script.now self.old.context.names.now self.old.context.steps (λ S. if_some (option_map (fits S) value.now)) (λ S k sc d n. begin_return S (option_map erase value.now) k sc d n) self.old.base depth self.old.left self.new.left room.old room.new (O.log self.old.store) (O.log self.new.store) (outcome result self.new.value self.new.leave) }
+    {
+        let Some(value) = value else {
+            self.value = Value::Nil;
+            self.leave = Leave::Return;
+            return Came::Left;
+        };
+        self.leave_with(value.get(), depth, room)
+    }
+
+    /// A return with a value.
+    #[cycle(walk)]
+    pub(super) fn leave_with(&mut self, value: &'p Code, depth: u32, room: &mut [Value]) -> Came
+        requires unended { has_end (O.log self.old.store).entries ≡ false }
+        requires steps { self.old.left ≤ self.old.context.steps }
+        ensures base { self.new.base ≡ self.old.base }
+        ensures context { self.new.context ≡ self.old.context }
+        ensures room { length room.new ≡ length room.old }
+        ensures less { self.new.left ≤ self.old.left }
+        ensures unended { has_end (O.log self.new.store).entries ≡ false }
+        ensures kept { Keeps self.old.context.script.now self.old.context.names.now (λ S. fits S value.now) self.old.base room.old room.new }
+        ensures came { Carries self.old.context.script.now self.old.context.names.now self.old.context.steps (λ S. fits S value.now) (λ S k sc d n. On (Eval (erase value.now)) (Then ReturnOf ∷ k) sc d n) self.old.base depth self.old.left self.new.left room.old room.new (O.log self.old.store) (O.log self.new.store) (outcome result self.new.value self.new.leave) }
+    {
+        let came = self.walk(value, depth, room);
+        if is_left(came) {
+            return came;
+        }
+        self.value = self.take(came);
+        self.leave = Leave::Return;
+        Came::Left
+    }
+
+    /// Whether a loop goes on behind its body: a `next` is done with.
+    pub(super) fn goes_on(&self, came: Came) -> bool
+        ensures { result ≡ goes_on (outcome came self.now.value self.now.leave) }
+    {
+        if !is_left(came) {
+            return true;
+        }
+        match self.leave {
+            Leave::Next => true,
+            _ => false,
+        }
+    }
+
+    /// What a loop gives that does not go on: a `break` is done with.
+    pub(super) fn out_of_loop(&self, came: Came) -> Came
+        ensures { goes_on (outcome came self.now.value self.now.leave) ≡ false → outcome result self.now.value self.now.leave ≡ loop_exit (outcome came self.now.value self.now.leave) }
+    {
+        match self.leave {
+            Leave::Break => Came::Nil,
+            _ => came,
+        }
+    }
+
+    /// What a call gives behind its body.
+    pub(super) fn out_of_call(&mut self, came: Came) -> Came
+        ensures gives { outcome result self.new.value self.new.leave ≡ call_exit (outcome came self.old.value self.old.leave) }
+        ensures base { self.new.base ≡ self.old.base }
+        ensures left { self.new.left ≡ self.old.left }
+        ensures context { self.new.context ≡ self.old.context }
+        ensures store { self.new.store ≡ self.old.store }
+    {
+        if !is_left(came) {
+            return came;
+        }
+        match self.leave {
+            Leave::Break | Leave::Next => Came::Nil,
+            Leave::Return => {
+                let value = mem::replace(&mut self.value, Value::Nil);
+                self.give(value)
+            }
+            Leave::Over(_) => came,
+        }
+    }
+}

@@ -1,0 +1,314 @@
+// Values as they come, and what is done with one.
+
+ghost use Rattle.std.specs.Prelude.{◌≡◌, ◌≤◌, ◌<◌, ℕ, true, false, List, length, map, take, slice_get, Some, None};
+ghost use Rattle.rb_model.specs.Values.{Nil, Int, plain, truthy};
+ghost use Rattle.rb_model.specs.declared.value.Value.{Value as Held};
+ghost use Rattle.rb_model.specs.Ends.{Raised, Sink, over};
+ghost use Rattle.rb_model.specs.Log.{has_end};
+ghost use Rattle.rb_machine.specs.Control.{Give};
+ghost use Rattle.rb_machine.specs.Methods.{deed};
+ghost use Rattle.rb_builtin.specs.Names.{builtin_of};
+ghost use Rattle.rb_builtin.specs.Integers as integers;
+ghost use Rattle.rb_code.specs.Resolved.{form_takes};
+ghost use Rattle.rb_interp.specs.Outcome.{end_by, is_left, value_of, outcome, Gave, Over};
+ghost use Rattle.rb_interp.specs.Carries.{Shows};
+ghost use Rattle.rb_interp.specs.Answers.{OrMemory, Writes, outcome_of, shown_value, only_value};
+
+use super::Walker;
+use crate::came::{Came, Cut, Leave, end_by};
+use crate::leaf::{is_true, text_answer};
+use crate::slots::put;
+use rb_builtin::{Builtin, Deed, IntegerAnswer, deed_of};
+use rb_model::{Answer, Call, End, Fault, OneStore, SharedText, Value};
+use rb_render::{Form, RenderFault, render};
+use rb_tree::Span;
+use std::mem;
+
+impl<'p, O: OneStore + Drop> Walker<'p, O> {
+    /// The value that came. It is taken out of the walker.
+    pub(super) fn take(&mut self, came: Came) -> Value
+        ensures value { plain result ≡ value_of came self.old.value }
+        ensures base { self.new.base ≡ self.old.base }
+        ensures left { self.new.left ≡ self.old.left }
+        ensures context { self.new.context ≡ self.old.context }
+        ensures store { self.new.store ≡ self.old.store }
+        ensures leave { self.new.leave ≡ self.old.leave }
+    {
+        match came {
+            Came::Nil => Value::Nil,
+            Came::False => Value::False,
+            Came::True => Value::True,
+            Came::Int(n) => Value::Int(n),
+            Came::Other | Came::Left => mem::replace(&mut self.value, Value::Nil),
+        }
+    }
+
+    /// Whether the value that came is true.
+    pub(super) fn is_true_now(&self, came: Came) -> bool
+        ensures { is_left came ≡ false → result ≡ truthy (value_of came self.now.value) }
+    {
+        match came {
+            Came::Nil | Came::False | Came::Left => false,
+            Came::True | Came::Int(_) => true,
+            Came::Other => is_true(&self.value),
+        }
+    }
+
+    /// Gives a value.
+    #[inline(never)]
+    pub(super) fn give(&mut self, value: Value) -> Came
+        ensures gives { outcome result self.new.value self.new.leave ≡ Gave (plain value) }
+        ensures base { self.new.base ≡ self.old.base }
+        ensures left { self.new.left ≡ self.old.left }
+        ensures context { self.new.context ≡ self.old.context }
+        ensures store { self.new.store ≡ self.old.store }
+    {
+        match value {
+            Value::Nil => Came::Nil,
+            Value::False => Came::False,
+            Value::True => Came::True,
+            Value::Int(n) => Came::Int(n),
+            value => {
+                self.value = value;
+                Came::Other
+            }
+        }
+    }
+
+    /// The thread is cut.
+    #[inline(never)]
+    pub(super) fn over(&mut self, cut: Cut) -> Came
+        ensures gives { outcome result self.new.value self.new.leave ≡ Over (end_by cut) }
+        ensures base { self.new.base ≡ self.old.base }
+        ensures left { self.new.left ≡ self.old.left }
+        ensures context { self.new.context ≡ self.old.context }
+        ensures store { self.new.store ≡ self.old.store }
+    {
+        self.leave = Leave::Over(end_by(cut));
+        Came::Left
+    }
+
+    /// The thread ends with a fault.
+    #[inline(never)]
+    pub(super) fn raise(&mut self, fault: Fault, at: Span) -> Came
+        ensures gives { outcome result self.new.value self.new.leave ≡ Over (Raised fault at) }
+        ensures base { self.new.base ≡ self.old.base }
+        ensures left { self.new.left ≡ self.old.left }
+        ensures context { self.new.context ≡ self.old.context }
+        ensures store { self.new.store ≡ self.old.store }
+    {
+        self.leave = Leave::Over(End::Raised(fault, at));
+        Came::Left
+    }
+
+    /// Gives the value of a slot.
+    #[inline(always)]
+    pub(super) fn read(&mut self, slot: u32, room: &[Value]) -> Came
+        ensures gives { (v : Held) → slice_get room.now slot ≡ Some v → OrMemory (Gave (plain v)) (outcome result self.new.value self.new.leave) }
+        ensures base { self.new.base ≡ self.old.base }
+        ensures left { self.new.left ≡ self.old.left }
+        ensures context { self.new.context ≡ self.old.context }
+        ensures store { self.new.store ≡ self.old.store }
+    {
+        match room.get(slot as usize) {
+            None | Some(Value::Nil) => Came::Nil,
+            Some(Value::False) => Came::False,
+            Some(Value::True) => Came::True,
+            Some(Value::Int(n)) => Came::Int(*n),
+            Some(value) => self.read_shared(value),
+        }
+    }
+
+    /// Gives a value that another place has as well.
+    #[inline(never)]
+    pub(super) fn read_shared(&mut self, value: &Value) -> Came
+        ensures gives { OrMemory (Gave (plain value.now)) (outcome result self.new.value self.new.leave) }
+        ensures base { self.new.base ≡ self.old.base }
+        ensures left { self.new.left ≡ self.old.left }
+        ensures context { self.new.context ≡ self.old.context }
+        ensures store { self.new.store ≡ self.old.store }
+    {
+        match value.share() {
+            Ok(value) => self.give(value),
+            Err(_) => self.over(Cut::Memory),
+        }
+    }
+
+    /// Writes the value that came into a slot, and gives it on.
+    #[inline(always)]
+    pub(super) fn write(&mut self, slot: u32, came: Came, room: &mut [Value]) -> Came
+        requires came { is_left came ≡ false }
+        ensures written { Writes slot (value_of came self.old.value) room.old room.new (outcome result self.new.value self.new.leave) }
+        ensures base { self.new.base ≡ self.old.base }
+        ensures left { self.new.left ≡ self.old.left }
+        ensures context { self.new.context ≡ self.old.context }
+        ensures store { self.new.store ≡ self.old.store }
+    {
+        if slot as usize >= room.len() {
+            return self.over(Cut::Memory);
+        }
+        match came {
+            Came::Int(n) => {
+                put(room, slot as usize, n);
+                came
+            }
+            _ => self.write_any(slot, came, room),
+        }
+    }
+
+    /// Writes any value that came into a slot, and gives it on.
+    #[inline(never)]
+    pub(super) fn write_any(&mut self, slot: u32, came: Came, room: &mut [Value]) -> Came
+        requires came { is_left came ≡ false }
+        ensures written { Writes slot (value_of came self.old.value) room.old room.new (outcome result self.new.value self.new.leave) }
+        ensures base { self.new.base ≡ self.old.base }
+        ensures left { self.new.left ≡ self.old.left }
+        ensures context { self.new.context ≡ self.old.context }
+        ensures store { self.new.store ≡ self.old.store }
+    {
+        if slot as usize >= room.len() {
+            return self.over(Cut::Memory);
+        }
+        match came {
+            Came::Other => {
+                let Ok(copy) = self.value.share() else {
+                    return self.over(Cut::Memory);
+                };
+                room[slot as usize] = copy;
+                Came::Other
+            }
+            came => {
+                room[slot as usize] = self.take(came);
+                came
+            }
+        }
+    }
+
+    /// What an operation on two integers gives.
+    #[inline(always)]
+    pub(super) fn answer(&mut self, answer: IntegerAnswer, at: Span) -> Came
+        ensures gives { outcome result self.new.value self.new.leave ≡ outcome_of (integers.answer_of answer) at }
+        ensures base { self.new.base ≡ self.old.base }
+        ensures left { self.new.left ≡ self.old.left }
+        ensures context { self.new.context ≡ self.old.context }
+        ensures store { self.new.store ≡ self.old.store }
+    {
+        match answer {
+            IntegerAnswer::Int(n) => Came::Int(n),
+            IntegerAnswer::False => Came::False,
+            IntegerAnswer::True => Came::True,
+            IntegerAnswer::Overflow => self.raise(Fault::IntegerOverflow, at),
+            IntegerAnswer::ByZero => self.raise(Fault::ZeroDivision, at),
+            IntegerAnswer::NoOperation => self.raise(Fault::NoMethod, at),
+        }
+    }
+
+    /// What a value answers to a method without a block.
+    pub(super) fn call_method(
+        &mut self,
+        receiver: &Value,
+        method: Option<Builtin>,
+        args: &[Value],
+        at: Span,
+    ) -> Came
+        ensures gives { (name : List ℕ) → builtin_of name ≡ method → OrMemory (outcome_of (deed self.old.context.names.now (plain receiver.now) name (map plain args.now) None) at) (outcome result self.new.value self.new.leave) }
+        ensures base { self.new.base ≡ self.old.base }
+        ensures left { self.new.left ≡ self.old.left }
+        ensures context { self.new.context ≡ self.old.context }
+        ensures store { self.new.store ≡ self.old.store }
+    {
+        match deed_of(
+            self.context.alloc,
+            self.context.names,
+            receiver,
+            method,
+            args,
+            None,
+        ) {
+            Ok(Deed::Give(value)) => self.give(value),
+            Ok(Deed::Raise(fault)) => self.raise(fault, at),
+            Ok(Deed::Walk(_)) => self.raise(Fault::ArgumentCount, at),
+            Err(_) => self.over(Cut::Memory),
+        }
+    }
+
+    /// What a value answers to a method without a block, where it may be a text that answers without memory.
+    #[inline(always)]
+    pub(super) fn call_held(
+        &mut self,
+        receiver: &Value,
+        method: Option<Builtin>,
+        args: &[Value],
+        at: Span,
+    ) -> Came
+        ensures gives { (name : List ℕ) → builtin_of name ≡ method → OrMemory (outcome_of (deed self.old.context.names.now (plain receiver.now) name (map plain args.now) None) at) (outcome result self.new.value self.new.leave) }
+        ensures base { self.new.base ≡ self.old.base }
+        ensures left { self.new.left ≡ self.old.left }
+        ensures context { self.new.context ≡ self.old.context }
+        ensures store { self.new.store ≡ self.old.store }
+    {
+        match text_answer(method, receiver, args) {
+            Some(answer) => self.answer(answer, at),
+            None => self.call_method(receiver, method, args, at),
+        }
+    }
+
+    /// Shows bytes by one print, where there are any, and gives nil or a value.
+    pub(super) fn show(&mut self, form: Form, args: &[Value], at: Span) -> Came
+        requires unended { has_end (O.log self.old.store).entries ≡ false }
+        requires steps { self.old.left ≤ self.old.context.steps }
+        ensures base { self.new.base ≡ self.old.base }
+        ensures left { self.new.left ≡ self.old.left }
+        ensures context { self.new.context ≡ self.old.context }
+        ensures unended { has_end (O.log self.new.store).entries ≡ false }
+        ensures came { Shows self.old.context.names.now self.old.context.steps form (map plain args.now) at self.old.left (O.log self.old.store) (O.log self.new.store) (outcome result self.new.value self.new.leave) }
+    {
+        let bytes = match render(self.context.alloc, self.context.names, form, args) {
+            Ok(bytes) => bytes,
+            Err(RenderFault::TooLong) => return self.raise(Fault::TextTooLong, at),
+            Err(RenderFault::Memory) => return self.over(Cut::Memory),
+        };
+        if bytes.is_empty() {
+            return Came::Nil;
+        }
+        let Ok(text) = SharedText::from_vec(self.context.alloc, bytes) else {
+            return self.over(Cut::Memory);
+        };
+        match self
+            .store
+            .call(self.context.steps - self.left, &Call::Print(text))
+        {
+            Answer::Done => Came::Nil,
+            Answer::SinkFailed => self.over(Cut::Sink),
+            Answer::Memory => self.over(Cut::Memory),
+        }
+    }
+
+    /// What a call that shows values gives: `p` gives its one value.
+    pub(super) fn shown_value(&mut self, form: Form, args: &[Value]) -> Came
+        ensures gives { form_takes form (length args.now) ≡ true → OrMemory (Gave (shown_value form (map plain args.now))) (outcome result self.new.value self.new.leave) }
+        ensures base { self.new.base ≡ self.old.base }
+        ensures left { self.new.left ≡ self.old.left }
+        ensures context { self.new.context ≡ self.old.context }
+        ensures store { self.new.store ≡ self.old.store }
+    {
+        match form {
+            Form::Puts | Form::Print => Came::Nil,
+            Form::Inspect => self.only_value(args),
+        }
+    }
+
+    /// The one of values, or nil.
+    pub(super) fn only_value(&mut self, args: &[Value]) -> Came
+        ensures gives { OrMemory (Gave (only_value (map plain args.now))) (outcome result self.new.value self.new.leave) }
+        ensures base { self.new.base ≡ self.old.base }
+        ensures left { self.new.left ≡ self.old.left }
+        ensures context { self.new.context ≡ self.old.context }
+        ensures store { self.new.store ≡ self.old.store }
+    {
+        let [value] = args else {
+            return Came::Nil;
+        };
+        self.read_shared(value)
+    }
+}
