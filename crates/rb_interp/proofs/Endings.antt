@@ -100,6 +100,25 @@ refused_last S N start h l new o how k sc d n step a c q =
     let m = own_sink o l S N start h k sc d n a t.0 in
     (m.0, m.1, t.1 ∙ m.2)
 
+-- no part of the walk comes out with a full heap, and so the thread does not end with one
+own_full : (o : Outcome) (l : Log) (S : Script) (N : ℕ) (start : State) (h : Private) (k : List Cont) (sc : Scope) (d n used asked : ℕ) → Came S N start l h o k sc d n → ends_with o ≡ ending.Full used asked → ⊥
+own_full (Gave v) l S N start h k sc d n used asked a e = cc
+own_full (Left exit) l S N start h k sc d n used asked a e = cc
+own_full (Over (ending.Value v)) l S N start h k sc d n used asked a e = a
+own_full (Over (ending.Raised f at)) l S N start h k sc d n used asked a e = cc
+own_full (Over ending.Steps) l S N start h k sc d n used asked a e = cc
+own_full (Over (ending.Full p q)) l S N start h k sc d n used asked a e = a
+own_full (Over ending.Memory) l S N start h k sc d n used asked a e = cc
+own_full (Over ending.Sink) l S N start h k sc d n used asked a e = cc
+
+told_full : (step : ℕ) (l new : Log) (e how : End) (used asked : ℕ) → Closes step l e new how → how ≡ ending.Full used asked → e ≡ ending.Full used asked
+told_full step l new e how used asked (tells x) q = q
+told_full step l new e how used asked (lacks v) q = absurd (cc)
+
+pub never_full : (S : Script) (N : ℕ) (start : State) (h : Private) (l new : Log) (o : Outcome) (how : End) (k : List Cont) (sc : Scope) (d n step used asked : ℕ) → Came S N start l h o k sc d n → Closes step l (ends_with o) new how
+    → how ≡ ending.Full used asked → ⊥
+never_full S N start h l new o how k sc d n step used asked a c q = own_full o l S N start h k sc d n used asked a (told_full step l new (ends_with o) how used asked c q)
+
 -- what the last call leaves, by what the store answers
 pub lacking : (step : ℕ) (e : End) (l m n : Log) (a b : Answer) → a ≡ answer.Memory → Answers a step (log.End e) l m → (is_sure (log.End e) ≡ true → a ≡ answer.Done) → Answers b step (log.End ending.Memory) m n → b ≡ answer.Done
     → Closes step l e n ending.Memory

@@ -1,9 +1,9 @@
 // The walk.
 
-ghost use Rattle.std.specs.Prelude.{◌≡◌, ◌≤◌, ◌<◌, ◌+◌, true, false, List, [], ◌∷◌, ◌++◌, length, Some};
+ghost use Rattle.std.specs.Prelude.{◌≡◌, ◌≤◌, ◌<◌, ◌+◌, ℕ, true, false, List, [], ◌∷◌, ◌++◌, length, Some};
 ghost use Rattle.rb_tree.specs.declared.node.Node.{out-Node};
 ghost use Rattle.rb_model.specs.Values.{Nil, Int};
-ghost use Rattle.rb_model.specs.Ends.{Sink, over};
+ghost use Rattle.rb_model.specs.Ends.{Full, Sink, over};
 ghost use Rattle.rb_model.specs.Log.{has_end};
 ghost use Rattle.rb_model.specs.Log as log;
 ghost use Rattle.rb_model.specs.Private.{Private};
@@ -438,6 +438,7 @@ pub fn run_main<'p, O: OneStore + Drop>(
     requires begun { O.log store ≡ log.fresh }
     ensures follows { (S : Script) → StandsFor context.entry.script.now S → S.program.names ≡ context.entry.names.now → Follows S 0 context.entry.steps (opening S context.entry.steps) (O.log result.0) (over result.1) }
     ensures refused { (S : Script) → StandsFor context.entry.script.now S → S.program.names ≡ context.entry.names.now → over result.1 ≡ Sink → (before : List log.Refusal) × (r : log.Refusal) × ((O.log result.0).refusals ≡ before ++ r ∷ []) }
+    ensures never_full { (S : Script) → StandsFor context.entry.script.now S → S.program.names ≡ context.entry.names.now → (used asked : ℕ) → over result.1 ≡ Full used asked → ⊥ }
 {
     let mut walker = Walker {
         context,

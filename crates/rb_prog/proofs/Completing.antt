@@ -13,19 +13,28 @@ use Rattle.rb_model.specs.Log.{Log}
 use Rattle.rb_prog.specs.Run.{Accepts, status_of, IsOwnOrMemory, RunsSource, shown, refused, Runs, read, missing, failed}
 use Rattle.rb_prog.specs.Run as run
 
-ended : (how : End) (sunk : Type 0) → (status_of how ≡ 5 → sunk) → (sunk → ⊥) → IsOwnOrMemory (status_of how)
-ended (ending.Value value) sunk cause never = inl refl
-ended (ending.Raised fault at) sunk cause never = inr (inl refl)
-ended ending.Steps sunk cause never = inr (inr (inl refl))
-ended (ending.Full used asked) sunk cause never = inr (inr (inr (inl refl)))
-ended ending.Sink sunk cause never = absurd (never (cause refl))
-ended ending.Memory sunk cause never = inr (inr (inr (inr refl)))
+-- the status 7 is that of a full heap
+pub full_heap : (how : End) → status_of how ≡ 7 → ((used asked : ℕ) → how ≡ ending.Full used asked → ⊥) → ⊥
+full_heap (ending.Value value) e none = cc
+full_heap (ending.Raised fault at) e none = cc
+full_heap ending.Steps e none = cc
+full_heap (ending.Full used asked) e none = none used asked refl
+full_heap ending.Sink e none = cc
+full_heap ending.Memory e none = cc
+
+ended : (how : End) (sunk : Type 0) → (status_of how ≡ 5 → sunk) → (sunk → ⊥) → (status_of how ≡ 7 → ⊥) → IsOwnOrMemory (status_of how)
+ended (ending.Value value) sunk cause never full = inl refl
+ended (ending.Raised fault at) sunk cause never full = inr (inl refl)
+ended ending.Steps sunk cause never full = inr (inr (inl refl))
+ended (ending.Full used asked) sunk cause never full = absurd (full refl)
+ended ending.Sink sunk cause never full = absurd (never (cause refl))
+ended ending.Memory sunk cause never full = inr (inr (inr refl))
 
 source_ends : (bytes : List ℕ) (program : Program) (sunk : Type 0) (steps : ℕ) (old new : Option (List ℕ)) (status : ℕ) (front : Option Log) (line : List ℕ)
-    → Accepts bytes program → RunsSource bytes steps old new status front line → (status ≡ 5 → sunk) → (sunk → ⊥) → IsOwnOrMemory status
-source_ends bytes program sunk steps old new _ _ _ a (shown {how} p r) cause never = ended how sunk cause never
-source_ends bytes program sunk steps old new _ _ _ a (refused w r n) cause never = absurd (r program a)
-source_ends bytes program sunk steps old new _ _ _ a (run.RunsSource.out_of_memory n) cause never = inr (inr (inr (inr refl)))
+    → Accepts bytes program → RunsSource bytes steps old new status front line → (status ≡ 5 → sunk) → (sunk → ⊥) → (status ≡ 7 → ⊥) → IsOwnOrMemory status
+source_ends bytes program sunk steps old new _ _ _ a (shown {how} p r) cause never full = ended how sunk cause never full
+source_ends bytes program sunk steps old new _ _ _ a (refused w r n) cause never full = absurd (r program a)
+source_ends bytes program sunk steps old new _ _ _ a (run.RunsSource.out_of_memory n) cause never full = inr (inr (inr refl))
 
 -- a source that has tokens is short
 short_of_tokens : (held : List ℕ) (outcome : Outcome) (tokens : List Token) → Lexes held outcome → outcome ≡ Ok tokens → length held ≤ 1048576
@@ -38,10 +47,10 @@ all_read : (held bytes : List ℕ) (program : Program) → Accepts held program 
 all_read held bytes program a e = let l = short_of_tokens held (Ok a.tokens) a.tokens a.lexed refl in e ∙ take_all 1048577 held (omega arith)
 
 pub complete : (h : Held) (held : List ℕ) (program : Program) (read_failed sunk : Type 0) (steps : ℕ) (old new : Option (List ℕ)) (status : ℕ) (front : Option Log) (line : List ℕ)
-    → Runs h read_failed steps old new status front line → h ≡ Bytes held → Accepts held program → (read_failed → ⊥) → (status ≡ 5 → sunk) → (sunk → ⊥) → IsOwnOrMemory status
-complete h held program read_failed sunk steps old new _ _ _ (read {bytes} {status} {front} {line} r s) e a calm cause never =
+    → Runs h read_failed steps old new status front line → h ≡ Bytes held → Accepts held program → (read_failed → ⊥) → (status ≡ 5 → sunk) → (sunk → ⊥) → (status ≡ 7 → ⊥) → IsOwnOrMemory status
+complete h held program read_failed sunk steps old new _ _ _ (read {bytes} {status} {front} {line} r s) e a calm cause never full =
     let same : bytes ≡ held = all_read held bytes program a (subst (λ h. ReadOf h bytes) e r) in
-    source_ends held program sunk steps old new status front line a (subst (λ b. RunsSource b steps old new status front line) same s) cause never
-complete h held program read_failed sunk steps old new _ _ _ (missing m k) e a calm cause never = absurd (subst NotHeld e m)
-complete h held program read_failed sunk steps old new _ _ _ (failed f k) e a calm cause never = absurd (calm f)
-complete h held program read_failed sunk steps old new _ _ _ (run.Runs.out_of_memory k) e a calm cause never = inr (inr (inr (inr refl)))
+    source_ends held program sunk steps old new status front line a (subst (λ b. RunsSource b steps old new status front line) same s) cause never full
+complete h held program read_failed sunk steps old new _ _ _ (missing m k) e a calm cause never full = absurd (subst NotHeld e m)
+complete h held program read_failed sunk steps old new _ _ _ (failed f k) e a calm cause never full = absurd (calm f)
+complete h held program read_failed sunk steps old new _ _ _ (run.Runs.out_of_memory k) e a calm cause never full = inr (inr (inr refl))

@@ -60,7 +60,7 @@ status_of ending.Memory = 8
 
 -- the status of an end of the script's own, or of want of memory
 abbrev pub IsOwnOrMemory : ℕ → Type 0
-IsOwnOrMemory status = (status ≡ 0) ⊎ ((status ≡ 1) ⊎ ((status ≡ 6) ⊎ ((status ≡ 7) ⊎ (status ≡ 8))))
+IsOwnOrMemory status = (status ≡ 0) ⊎ ((status ≡ 1) ⊎ ((status ≡ 6) ⊎ (status ≡ 8)))
 
 -- What a run of a source with so many steps answers, by what the sink told before and tells now: the status, the history that is
 -- shown, and the line that goes to standard error.

@@ -112,6 +112,7 @@ fn run_source<K: Sink + Drop, E: Sink>(
     ensures runs { (line : List ℕ) × RunsSource source.now steps (K.told out) (K.told result.out) result.status result.front line
         × Told (E.told err.old) (E.told err.new) line (Rose (E.faults err.old) (E.faults err.new)) }
     ensures cause { result.status ≡ 5 → Rose (K.faults out) (K.faults result.out) }
+    ensures never_full { result.status ≡ 7 → ⊥ }
     ensures rises { K.faults out ≤ K.faults result.out }
     ensures err_rises { E.faults err.old ≤ E.faults err.new }
 {

@@ -1,6 +1,6 @@
 // The run of a program.
 
-ghost use Rattle.std.specs.Prelude.{◌≡◌, ◌≤◌, ◌++◌, [], ◌∷◌, true, List, IfOk, IfErr};
+ghost use Rattle.std.specs.Prelude.{◌≡◌, ◌≤◌, ◌++◌, [], ◌∷◌, true, ℕ, List, IfOk, IfErr};
 ghost use Rattle.rb_model.specs.Ends.{over};
 ghost use Rattle.rb_model.specs.Ends as ending;
 ghost use Rattle.rb_model.specs.Log.{Refusal};
@@ -52,6 +52,8 @@ fn run_with<K: Sink + Drop, B: Begun>(
         → Follows S 0 steps (opening S steps) ran.front (over ran.end)) }
     ensures refused { IfOk result (λ ran. (S : Script) → StandsFor code.now S → S.program.names ≡ names.now
         → over ran.end ≡ ending.Sink → (before : List Refusal) × (r : Refusal) × (ran.front.refusals ≡ before ++ r ∷ [])) }
+    ensures never_full { IfOk result (λ ran. (S : Script) → StandsFor code.now S → S.program.names ≡ names.now
+        → (used asked : ℕ) → over ran.end ≡ ending.Full used asked → ⊥) }
     ensures own { IfOk result (λ ran. only_prints ran.front.entries ≡ true) }
     ensures written { IfOk result (λ ran. Written B.told (K.told ran.out) ran.front) }
     ensures cause { IfOk result (λ ran. Caused B.faults (K.faults ran.out) ran.front.refusals) }
@@ -88,6 +90,8 @@ pub fn run_program<K: Sink + Drop>(
 ) -> Result<Ran<K>, Stopped<K>>
     ensures runs { IfOk result (λ ran. IsRunOf program.now steps (K.told out) (K.told ran.out) ran.front (over ran.end)) }
     ensures cause { IfOk result (λ ran. over ran.end ≡ ending.Sink → Rose (K.faults out) (K.faults ran.out)) }
+    // Nothing is shared, so no heap is full.
+    ensures never_full { IfOk result (λ ran. (used asked : ℕ) → over ran.end ≡ ending.Full used asked → ⊥) }
     ensures rises { IfOk result (λ ran. K.faults out ≤ K.faults ran.out) }
     ensures back { IfErr result (λ stopped. stopped.out ≡ out) }
 {

@@ -25,22 +25,22 @@ returns-in-Err-Memory-clause-runs g c =
 
 pub returns-in-Ok-clause-complete : goal.returns-in-Ok-clause-complete
 returns-in-Ok-clause-complete g c = λ bytes program h a calm never.
-    complete _ bytes program _ _ _ _ _ _ _ _ (returns-in-Ok-clause-runs g c).1 h a calm c.run_source.ensures.cause never
+    complete _ bytes program _ _ _ _ _ _ _ _ (returns-in-Ok-clause-runs g c).1 h a calm c.run_source.ensures.cause never c.run_source.ensures.never_full
 
 pub returns-in-Err-Missing-clause-complete : goal.returns-in-Err-Missing-clause-complete
 returns-in-Err-Missing-clause-complete g c =
     let none = adds_none (g.K.Sink.told c.args.out) in
     rw c.stopped.ensures.report (λ bytes program h a calm never.
-    complete _ bytes program _ _ c.args.words.steps _ _ _ _ _ (missing (c.in-Err-Missing.ensures.missing (ap Err c.in-Err-Missing.field-0-is)) none) h a calm (λ e. absurd (cc)) never)
+    complete _ bytes program _ _ c.args.words.steps _ _ _ _ _ (missing (c.in-Err-Missing.ensures.missing (ap Err c.in-Err-Missing.field-0-is)) none) h a calm (λ e. absurd (cc)) never (λ e. cc))
 
 pub returns-in-Err-Failed-clause-complete : goal.returns-in-Err-Failed-clause-complete
 returns-in-Err-Failed-clause-complete g c =
     let none = adds_none (g.K.Sink.told c.args.out) in
     rw c.stopped-in-Err-Failed.ensures.report (λ bytes program h a calm never.
-    complete _ bytes program _ _ c.args.words.steps _ _ _ _ _ (failed (c.in-Err-Failed.ensures.failed (ap Err c.in-Err-Failed.field-0-is)) none) h a calm (λ e. absurd (cc)) never)
+    complete _ bytes program _ _ c.args.words.steps _ _ _ _ _ (failed (c.in-Err-Failed.ensures.failed (ap Err c.in-Err-Failed.field-0-is)) none) h a calm (λ e. absurd (cc)) never (λ e. cc))
 
 pub returns-in-Err-Memory-clause-complete : goal.returns-in-Err-Memory-clause-complete
 returns-in-Err-Memory-clause-complete g c =
     let none = adds_none (g.K.Sink.told c.args.out) in
     rw c.stopped-in-Err-Memory.ensures.report (λ bytes program h a calm never.
-    complete _ bytes program _ _ c.args.words.steps _ _ _ _ _ (run.Runs.out_of_memory none) h a calm (λ e. absurd (cc)) never)
+    complete _ bytes program _ _ c.args.words.steps _ _ _ _ _ (run.Runs.out_of_memory none) h a calm (λ e. absurd (cc)) never (λ e. cc))

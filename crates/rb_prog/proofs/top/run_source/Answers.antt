@@ -1,6 +1,7 @@
 use Rattle.rb_prog.specs.Run as run
 use Rattle.rb_prog.specs.Run.{shown}
 use Rattle.rb_prog.proofs.Adding.{adds_none}
+use Rattle.rb_prog.proofs.Completing.{full_heap}
 use Rattle.rb_prog.proofs.Judging.{not_run}
 use Rattle.rb_prog.proofs.top.run_source.Goals as goal
 
@@ -16,3 +17,6 @@ pub returns-clause-runs : goal.returns-clause-runs
 returns-clause-runs g c =
     let told = g.K.Sink.told c.args.out in
     rw c.stopped.ensures.report (_, run.RunsSource.out_of_memory (rw c.in-Err-run_program.ensures.back (adds_none told)), c.stopped.ensures.told)
+
+pub returns-in-Ok-run_program-clause-never_full : goal.returns-in-Ok-run_program-clause-never_full
+returns-in-Ok-run_program-clause-never_full g c = rw c.status_of.ensures (λ e. full_heap _ e c.in-Ok-run_program.ensures.never_full)

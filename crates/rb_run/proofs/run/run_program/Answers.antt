@@ -13,3 +13,6 @@ returns-in-Ok-run_with-clause-cause g c = λ q.
     let ran = c.in-Ok-run_with.ensures in
     let last = ran.refused (script_of c.args.program.now) c.in-Ok.ensures refl q in
     failed _ _ _ last.0 last.1 last.2 ran.cause
+
+pub returns-in-Ok-run_with-clause-never_full : goal.returns-in-Ok-run_with-clause-never_full
+returns-in-Ok-run_with-clause-never_full g c = λ used asked q. c.in-Ok-run_with.ensures.never_full (script_of c.args.program.now) c.in-Ok.ensures refl used asked q
