@@ -42,6 +42,9 @@ def main():
         runs, words = int(words[1]), words[2:]
     if not words:
         sys.exit(__doc__)
+    if not shutil.which("time"):
+        print("walk.py: GNU time is not installed, skipped")
+        return
     others = [name for name in HOSTS if shutil.which(name)]
     ratios = {name: [] for name in others}
     print(f"{'script':20}{'ours':>8}" + "".join(f"{name:>8}{'ratio':>7}" for name in others) + "   KiB")
