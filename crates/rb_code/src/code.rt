@@ -1,8 +1,9 @@
 // The nodes of the resolved tree.
 
 use rb_builtin::Builtin;
+use rb_model::SharedText;
 use rb_render::Form;
-use rb_tree::{AssignOp, Boxed, Items, NameId, Param, Span, Text};
+use rb_tree::{AssignOp, Boxed, Items, NameId, Param, Span};
 
 /// The block of a call. Its own locals lie in the slots from `from` on, its parameters first, within the frame of the method round it.
 #[cycle(code)]
@@ -21,7 +22,7 @@ pub struct CodeBlock {
 #[cycle(code)]
 #[derive(Drop)]
 pub enum CodePiece {
-    Text(Text),
+    Text(SharedText),
     Code(Code),
 }
 

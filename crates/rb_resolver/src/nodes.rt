@@ -13,6 +13,7 @@ use crate::frame::Frame;
 use crate::known::Known;
 use crate::stores::{attribute_updated, stored};
 use rb_code::{Code, CodeBlock, CodePiece};
+use rb_model::SharedText;
 use rb_tree::{Block, Boxed, Items, Names, Node, Piece, Target};
 
 /// Resolves a node.
@@ -216,7 +217,7 @@ fn piece(
 {
     match source {
         Piece::Text(bytes) => {
-            let bytes = Items::from_slice(known.alloc, bytes.as_slice())?;
+            let bytes = SharedText::from_slice(known.alloc, bytes.as_slice())?;
             Ok(CodePiece::Text(bytes))
         }
         Piece::Code(source) => {
