@@ -7,7 +7,7 @@ use Rattle.rb_tree.specs.declared.span.NameId.{NameId}
 use Rattle.rb_tree.specs.declared.node.Node.{Node, the_lemmas}
 use Rattle.rb_tree.specs.declared.node.Node.TheOpen as node
 use Rattle.rb_tree.specs.declared.node.Piece.{Piece, out-Piece}
-use Rattle.rb_model.specs.Values.{Value as Val}
+use Rattle.rb_model.specs.Values.{Value as Val, Str}
 use Rattle.rb_model.specs.declared.fault.Fault.TheVariants.{TextTooLong}
 use Rattle.rb_model.specs.Log.{Log}
 use Rattle.rb_model.specs.Private.{Private}
@@ -26,7 +26,10 @@ use Rattle.rb_code.specs.Resolved.{every, fits, piece_fits}
 use Rattle.rb_code.proofs.Erasing.{erase_piece-text, erase_piece-code}
 use Rattle.rb_code.proofs.Fitting.{piece_fits-code}
 use Rattle.rb_interp.proofs.Lists.{fst, snd, next_item}
+use Rattle.rb_interp.specs.Outcome.{Outcome, Gave, Came}
+use Rattle.rb_interp.specs.Answers.{OrMemory, IsWritten}
 use Rattle.rb_interp.proofs.Moves.{on, same}
+use Rattle.rb_interp.proofs.Calls.{or_memory}
 
 module _ (S : Script) where
   pieces_drop : (ps : List CodePiece) (i : ℕ) (names : List NameId) (size : ℕ) → every (map (piece_fits S) ps) names size ≡ true → every (map (piece_fits S) (drop i ps)) names size ≡ true
@@ -84,3 +87,13 @@ module _ {S : Script} {N : ℕ} {start : State} {h : Private} where
   pub value_joins : {l : Log} (bytes : List ℕ) (v : Val) (ps : List Piece) (at : Span) (k : List Cont) (sc : Scope) (d n : ℕ) (all : List ℕ) → all ≡ bytes ++ shown S.program.names v → length all ≤ max_bytes
       → At S 0 N start l h (On (Give v) (Then (PieceOf bytes ps at) ∷ k) sc d n) → At S 0 N start l h (On (Joining all ps at) k sc d n)
   value_joins bytes v ps at k sc d n all e q a = not_long bytes (shown S.program.names v) ps at k sc d n all e q (on _ a refl)
+
+module _ (S : Script) (N : ℕ) (start : State) (h : Private) where
+  -- a text that is written out as a whole gives its bytes
+  pub whole_text : (l : Log) (text : List ℕ) (ps : List CodePiece) (at : Span) (k : List Cont) (sc : Scope) (d n : ℕ) (o : Outcome) → IsWritten ps text → OrMemory (Gave (Str text)) o
+      → At S 0 N start l h (On (Joining [] (map erase_piece ps) at) k sc d n) → Came S N start l h o k sc d n
+  whole_text l text ps at k sc d n o w m a =
+      let one = joining (erase_piece (part.Text text) ∷ []) (sym (ap (map erase_piece) w.0)) a in
+      let joined = text_joins [] text (erase_piece (part.Text text)) [] at k sc d n text (shows_text (part.Text text) text text refl refl) refl w.1 one in
+      let given : At S 0 N start l h (On (Give (Str text)) k sc d n) = on _ joined refl in
+      or_memory S N start h l k sc d n (Gave (Str text)) o (On (Give (Str text)) k sc d n) m given refl given

@@ -17,12 +17,15 @@ use Rattle.rb_machine.specs.Control.{State, Cont, On, Eval, Give, Turns, Countin
 use Rattle.rb_machine.specs.Call.{answered}
 use Rattle.rb_machine.specs.Methods.{Answer, Gives, Raises, Loops, deed}
 use Rattle.rb_machine.specs.Follows.{At}
+use Rattle.rb_machine.specs.Texts.{max_bytes}
 use Rattle.rb_builtin.specs.declared.builtin.Builtin.{Builtin}
 use Rattle.rb_builtin.specs.declared.builtin.Builtin.TheVariants as builtin
 use Rattle.rb_builtin.specs.Names.{builtin_of}
 use Rattle.rb_render.specs.declared.show.Form.{Form}
 use Rattle.rb_render.specs.declared.show.Form.TheVariants as form
 use Rattle.rb_code.specs.declared.code.Code.{Code}
+use Rattle.rb_code.specs.declared.code.CodePiece.{CodePiece}
+use Rattle.rb_code.specs.declared.code.CodePiece.TheVariants as part
 use Rattle.rb_code.specs.Erase.{erase}
 use Rattle.rb_code.specs.Resolved.{fits}
 use Rattle.rb_interp.specs.Outcome.{Outcome, Gave, Over, Came}
@@ -67,6 +70,10 @@ abbrev pub IsQuick : Option Builtin → (left right : Code) → List Held → An
 IsQuick method left right room answer =
     (m : ℤ) × (n : ℤ) × IsSmall left room m × IsSmall right room n
     × ((texts : List (List ℕ)) (name : List ℕ) → builtin_of name ≡ method → deed texts (Int m) name (Int n ∷ []) None ≡ answer)
+
+-- a text is written out as these bytes, which are not too many
+abbrev pub IsWritten : List CodePiece → List ℕ → Type 0
+IsWritten pieces text = (pieces ≡ part.Text text ∷ []) × (length text ≤ max_bytes)
 
 -- the built-in method of an assignment's operator; none for the two that decide
 abbrev pub method_of : AssignOp → Option Builtin

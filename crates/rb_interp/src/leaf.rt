@@ -12,12 +12,13 @@ ghost use Rattle.rb_builtin.specs.Names.{builtin_of};
 ghost use Rattle.rb_builtin.specs.Deeds.{answer_by_number};
 ghost use Rattle.rb_builtin.specs.Integers as integers;
 ghost use Rattle.rb_code.specs.Erase.{erase};
-ghost use Rattle.rb_interp.specs.Answers.{IsHeld, IsHeldAlone, IsSmall, IsQuick, IsUpdated, method_of};
+ghost use Rattle.rb_interp.specs.Answers.{IsHeld, IsHeldAlone, IsSmall, IsQuick, IsUpdated, IsWritten, method_of};
 
 use crate::slots::put;
 use rb_builtin::{Builtin, IntegerAnswer, integer_operation, is_operation};
-use rb_code::Code;
+use rb_code::{Code, CodePiece};
 use rb_model::{SharedText, Value};
+use rb_render::MAX_BYTES;
 use rb_tree::{AssignOp, Span};
 
 /// Whether a value is true: only nil and false are not.
@@ -212,6 +213,20 @@ fn sameness_of(text: &SharedText, args: &[Value]) -> Option<IntegerAnswer>
     } else {
         Some(IntegerAnswer::False)
     }
+}
+
+/// The only piece of a text, where it is bytes that are not too many.
+#[inline(always)]
+pub(crate) fn written(pieces: &[CodePiece]) -> Option<&SharedText>
+    ensures { IfSome result (λ text. IsWritten pieces.now text.now) }
+{
+    let [CodePiece::Text(text)] = pieces else {
+        return None;
+    };
+    if text.as_slice().len() > MAX_BYTES {
+        return None;
+    }
+    Some(text)
 }
 
 /// What an operation over two leaves gives, where they are integers and this is one.

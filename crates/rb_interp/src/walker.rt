@@ -63,7 +63,26 @@ struct Walker<'p, O> {
 impl<'p, O: OneStore + Drop> Walker<'p, O> {
     /// Evaluates a node.
     #[cycle(walk)]
+    #[inline(never)]
     fn walk(&mut self, code: &'p Code, depth: u32, room: &mut [Value]) -> Came
+        requires unended { has_end (O.log self.old.store).entries ≡ false }
+        requires steps { self.old.left ≤ self.old.context.steps }
+        ensures counted { goes_on (outcome result self.new.value self.new.leave) ≡ true → self.new.left < self.old.left }
+        ensures base { self.new.base ≡ self.old.base }
+        ensures context { self.new.context ≡ self.old.context }
+        ensures room { length room.new ≡ length room.old }
+        ensures less { self.new.left ≤ self.old.left }
+        ensures unended { has_end (O.log self.new.store).entries ≡ false }
+        ensures kept { Keeps self.old.context.script.now self.old.context.names.now (λ S. fits S code.now) self.old.base room.old room.new }
+        ensures came { Carries self.old.context.script.now self.old.context.names.now self.old.context.steps (λ S. fits S code.now) (λ S k sc d n. On (Eval (erase code.now)) k sc d n) self.old.base depth self.old.left self.new.left room.old room.new (O.log self.old.store) (O.log self.new.store) (outcome result self.new.value self.new.leave) }
+    {
+        self.walk_here(code, depth, room)
+    }
+
+    /// Evaluates a node, where it is worth the room.
+    #[cycle(walk)]
+    #[inline(always)]
+    fn walk_here(&mut self, code: &'p Code, depth: u32, room: &mut [Value]) -> Came
         requires unended { has_end (O.log self.old.store).entries ≡ false }
         requires steps { self.old.left ≤ self.old.context.steps }
         ensures counted { goes_on (outcome result self.new.value self.new.leave) ≡ true → self.new.left < self.old.left }
@@ -106,7 +125,45 @@ impl<'p, O: OneStore + Drop> Walker<'p, O> {
                 return Came::Int(n);
             }
         }
-        self.walk(code, depth, room)
+        self.evaluate_call(code, depth, room)
+    }
+
+    /// Evaluates a node that may well be a call with one argument, which is looked into here.
+    #[cycle(walk)]
+    #[inline(always)]
+    fn evaluate_call(&mut self, code: &'p Code, depth: u32, room: &mut [Value]) -> Came
+        requires unended { has_end (O.log self.old.store).entries ≡ false }
+        requires steps { self.old.left ≤ self.old.context.steps }
+        ensures counted { goes_on (outcome result self.new.value self.new.leave) ≡ true → self.new.left < self.old.left }
+        ensures base { self.new.base ≡ self.old.base }
+        ensures context { self.new.context ≡ self.old.context }
+        ensures room { length room.new ≡ length room.old }
+        ensures less { self.new.left ≤ self.old.left }
+        ensures unended { has_end (O.log self.new.store).entries ≡ false }
+        ensures kept { Keeps self.old.context.script.now self.old.context.names.now (λ S. fits S code.now) self.old.base room.old room.new }
+        ensures came { Carries self.old.context.script.now self.old.context.names.now self.old.context.steps (λ S. fits S code.now) (λ S k sc d n. On (Eval (erase code.now)) k sc d n) self.old.base depth self.old.left self.new.left room.old room.new (O.log self.old.store) (O.log self.new.store) (outcome result self.new.value self.new.leave) }
+    {
+        match code {
+            Code::Operate(method, _, left, right, at) => {
+                if self.left > 2 && depth < MAX_DEPTH - 1 {
+                    if let Some(answer) = quick(*method, left.get(), right.get(), room) {
+                        self.left -= 3;
+                        return self.answer(answer, *at);
+                    }
+                    self.left -= 1;
+                    return self.begin_slow_operate(code, depth + 1, room);
+                }
+                self.walk(code, depth, room)
+            }
+            Code::Function(_, _, _, _) => {
+                if self.left > 0 && depth < MAX_DEPTH {
+                    self.left -= 1;
+                    return self.begin_function(code, depth + 1, room);
+                }
+                self.walk(code, depth, room)
+            }
+            _ => self.walk(code, depth, room),
+        }
     }
 
     /// A node whose step is counted.
@@ -362,7 +419,7 @@ impl<'p, O: OneStore + Drop> Walker<'p, O> {
     {
         match code {
             Code::Sym(name, _) => self.give(Value::Sym(*name)),
-            Code::Str(pieces, at) => self.text(pieces.as_slice(), *at, depth, room),
+            Code::Str(pieces, at) => self.literal(pieces.as_slice(), *at, depth, room),
             Code::UpdateElement(receiver, index, _, _, at) => {
                 self.read_element(receiver.get(), index.get(), *at, depth, room)
             }

@@ -46,7 +46,7 @@ impl<'p, O: OneStore + Drop> Walker<'p, O> {
         ensures kept { (name : NameId) → Keeps self.old.context.script.now self.old.context.names.now (at_slot slot name (λ S. fits S value.now)) self.old.base room.old room.new }
         ensures came { (name : NameId) (step : Step) → Assigns name step → Carries self.old.context.script.now self.old.context.names.now self.old.context.steps (at_slot slot name (λ S. fits S value.now)) (λ S k sc d n. On (Eval (erase value.now)) (Then step ∷ k) sc d n) self.old.base depth self.old.left self.new.left room.old room.new (O.log self.old.store) (O.log self.new.store) (outcome result self.new.value self.new.leave) }
     {
-        let came = self.walk(value, depth, room);
+        let came = self.evaluate_call(value, depth, room);
         if is_left(came) {
             return came;
         }
@@ -153,7 +153,7 @@ impl<'p, O: OneStore + Drop> Walker<'p, O> {
         ensures kept { Keeps self.old.context.script.now self.old.context.names.now (λ S. fits S value.now) self.old.base room.old room.new }
         ensures came { Carries self.old.context.script.now self.old.context.names.now self.old.context.steps (λ S. fits S value.now) (λ S k sc d n. On (Eval (erase value.now)) (Then (RightOf (Int m) op at) ∷ k) sc d n) self.old.base depth self.old.left self.new.left room.old room.new (O.log self.old.store) (O.log self.new.store) (outcome result self.new.value self.new.leave) }
     {
-        let came = self.walk(value, depth, room);
+        let came = self.evaluate_call(value, depth, room);
         if is_left(came) {
             return came;
         }

@@ -18,6 +18,7 @@ ghost use Rattle.rb_interp.specs.Answers.{Passed, Settles};
 use super::Walker;
 use crate::bytes::{add_bytes, add_value};
 use crate::came::{Came, Cut, is_left};
+use crate::leaf::written;
 use crate::rounds::{Rounds, count_of, rounds_of};
 use crate::slots::{clear, passed, put, start_block};
 use rb_builtin::{Builtin, Deed, deed_of};
@@ -48,7 +49,7 @@ impl<'p, O: OneStore + Drop> Walker<'p, O> {
         ensures kept { (name : NameId) → Keeps self.old.context.script.now self.old.context.names.now (numbered method name (both (λ S. fits S left.now) (λ S. fits S right.now))) self.old.base room.old room.new }
         ensures came { (name : NameId) → Carries self.old.context.script.now self.old.context.names.now self.old.context.steps (numbered method name (both (λ S. fits S left.now) (λ S. fits S right.now))) (λ S k sc d n. On (Eval (erase left.now)) (Then (ReceiverOf (text_of S name) (erase right.now ∷ []) None at) ∷ k) sc d n) self.old.base depth self.old.left self.new.left room.old room.new (O.log self.old.store) (O.log self.new.store) (outcome result self.new.value self.new.leave) }
     {
-        let came = self.walk(left, depth, room);
+        let came = self.evaluate_call(left, depth, room);
         if is_left(came) {
             return came;
         }
@@ -422,6 +423,7 @@ impl<'p, O: OneStore + Drop> Walker<'p, O> {
 
     /// The arguments, each behind the frame and in it from then on.
     #[cycle(walk)]
+    #[inline(always)]
     pub(super) fn arguments(&mut self, args: &'p [Code], depth: u32, room: &mut [Value]) -> Came
         requires unended { has_end (O.log self.old.store).entries ≡ false }
         requires steps { self.old.left ≤ self.old.context.steps }
@@ -449,8 +451,35 @@ impl<'p, O: OneStore + Drop> Walker<'p, O> {
         Came::Nil
     }
 
-    /// A text.
+    /// A text. One that is written out as a whole is shared.
     #[cycle(walk)]
+    #[inline(always)]
+    pub(super) fn literal(
+        &mut self,
+        pieces: &'p [CodePiece],
+        at: Span,
+        depth: u32,
+        room: &mut [Value],
+    ) -> Came
+        requires unended { has_end (O.log self.old.store).entries ≡ false }
+        requires steps { self.old.left ≤ self.old.context.steps }
+        ensures base { self.new.base ≡ self.old.base }
+        ensures context { self.new.context ≡ self.old.context }
+        ensures room { length room.new ≡ length room.old }
+        ensures less { self.new.left ≤ self.old.left }
+        ensures unended { has_end (O.log self.new.store).entries ≡ false }
+        ensures kept { Keeps self.old.context.script.now self.old.context.names.now (λ S. every (map (piece_fits S) pieces.now)) self.old.base room.old room.new }
+        ensures came { Carries self.old.context.script.now self.old.context.names.now self.old.context.steps (λ S. every (map (piece_fits S) pieces.now)) (λ S k sc d n. On (Joining [] (map erase_piece pieces.now) at) k sc d n) self.old.base depth self.old.left self.new.left room.old room.new (O.log self.old.store) (O.log self.new.store) (outcome result self.new.value self.new.leave) }
+    {
+        match written(pieces) {
+            Some(text) => self.share_text(text),
+            None => self.text(pieces, at, depth, room),
+        }
+    }
+
+    /// A text, joined of its pieces.
+    #[cycle(walk)]
+    #[inline(never)]
     pub(super) fn text(
         &mut self,
         pieces: &'p [CodePiece],

@@ -38,14 +38,14 @@ impl<'p, O: OneStore + Drop> Walker<'p, O> {
         ensures kept { Keeps self.old.context.script.now self.old.context.names.now (both (λ S. fits S first.now) (λ S. fits S second.now)) self.old.base room.old room.new }
         ensures came { Carries self.old.context.script.now self.old.context.names.now self.old.context.steps (both (λ S. fits S first.now) (λ S. fits S second.now)) (λ S k sc d n. On (Eval (erase first.now)) (Then (RightOfAnd (erase second.now)) ∷ k) sc d n) self.old.base depth self.old.left self.new.left room.old room.new (O.log self.old.store) (O.log self.new.store) (outcome result self.new.value self.new.leave) }
     {
-        let came = self.walk(first, depth, room);
+        let came = self.evaluate_call(first, depth, room);
         if is_left(came) {
             return came;
         }
         if !self.is_true_now(came) {
             return came;
         }
-        self.walk(second, depth, room)
+        self.evaluate_call(second, depth, room)
     }
 
     /// `first || second`
@@ -67,14 +67,14 @@ impl<'p, O: OneStore + Drop> Walker<'p, O> {
         ensures kept { Keeps self.old.context.script.now self.old.context.names.now (both (λ S. fits S first.now) (λ S. fits S second.now)) self.old.base room.old room.new }
         ensures came { Carries self.old.context.script.now self.old.context.names.now self.old.context.steps (both (λ S. fits S first.now) (λ S. fits S second.now)) (λ S k sc d n. On (Eval (erase first.now)) (Then (RightOfOr (erase second.now)) ∷ k) sc d n) self.old.base depth self.old.left self.new.left room.old room.new (O.log self.old.store) (O.log self.new.store) (outcome result self.new.value self.new.leave) }
     {
-        let came = self.walk(first, depth, room);
+        let came = self.evaluate_call(first, depth, room);
         if is_left(came) {
             return came;
         }
         if self.is_true_now(came) {
             return came;
         }
-        self.walk(second, depth, room)
+        self.evaluate_call(second, depth, room)
     }
 
     /// `!value`
@@ -90,7 +90,7 @@ impl<'p, O: OneStore + Drop> Walker<'p, O> {
         ensures kept { Keeps self.old.context.script.now self.old.context.names.now (λ S. fits S value.now) self.old.base room.old room.new }
         ensures came { Carries self.old.context.script.now self.old.context.names.now self.old.context.steps (λ S. fits S value.now) (λ S k sc d n. On (Eval (erase value.now)) (Then Negate ∷ k) sc d n) self.old.base depth self.old.left self.new.left room.old room.new (O.log self.old.store) (O.log self.new.store) (outcome result self.new.value self.new.leave) }
     {
-        let came = self.walk(value, depth, room);
+        let came = self.evaluate_call(value, depth, room);
         if is_left(came) {
             return came;
         }
@@ -121,7 +121,7 @@ impl<'p, O: OneStore + Drop> Walker<'p, O> {
         ensures kept { Keeps self.old.context.script.now self.old.context.names.now (both (λ S. fits S condition.now) (both (λ S. every (map (fits S) first.now)) (λ S. every (map (fits S) second.now)))) self.old.base room.old room.new }
         ensures came { Carries self.old.context.script.now self.old.context.names.now self.old.context.steps (both (λ S. fits S condition.now) (both (λ S. every (map (fits S) first.now)) (λ S. every (map (fits S) second.now)))) (λ S k sc d n. On (Eval (erase condition.now)) (Then (Choose (map erase first.now) (map erase second.now)) ∷ k) sc d n) self.old.base depth self.old.left self.new.left room.old room.new (O.log self.old.store) (O.log self.new.store) (outcome result self.new.value self.new.leave) }
     {
-        let came = self.walk(condition, depth, room);
+        let came = self.evaluate_call(condition, depth, room);
         if is_left(came) {
             return came;
         }
@@ -147,7 +147,7 @@ impl<'p, O: OneStore + Drop> Walker<'p, O> {
     {
         let mut came = Came::Nil;
         'nodes: for node in nodes {
-            came = self.walk(node, depth, room);
+            came = self.walk_here(node, depth, room);
             if is_left(came) {
                 return came;
             }
@@ -175,7 +175,7 @@ impl<'p, O: OneStore + Drop> Walker<'p, O> {
         ensures came { Carries self.old.context.script.now self.old.context.names.now self.old.context.steps (both (λ S. fits S condition.now) (λ S. every (map (fits S) body.now))) (λ S k sc d n. On (Looping (erase condition.now) (map erase body.now)) k sc d n) self.old.base depth self.old.left self.new.left room.old room.new (O.log self.old.store) (O.log self.new.store) (outcome result self.new.value self.new.leave) }
     {
         'turns: loop {
-            let came = self.walk(condition, depth, room);
+            let came = self.evaluate_call(condition, depth, room);
             if is_left(came) {
                 if !self.goes_on(came) {
                     return self.out_of_loop(came);

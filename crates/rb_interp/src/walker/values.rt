@@ -1,7 +1,7 @@
 // Values as they come, and what is done with one.
 
 ghost use Rattle.std.specs.Prelude.{◌≡◌, ◌≤◌, ◌<◌, ℕ, true, false, List, length, map, take, slice_get, Some, None};
-ghost use Rattle.rb_model.specs.Values.{Nil, Int, plain, truthy};
+ghost use Rattle.rb_model.specs.Values.{Nil, Int, Str, plain, truthy};
 ghost use Rattle.rb_model.specs.declared.value.Value.{Value as Held};
 ghost use Rattle.rb_model.specs.Ends.{Raised, Sink, over};
 ghost use Rattle.rb_model.specs.Log.{has_end};
@@ -130,6 +130,24 @@ impl<'p, O: OneStore + Drop> Walker<'p, O> {
     {
         match value.share() {
             Ok(value) => self.give(value),
+            Err(_) => self.over(Cut::Memory),
+        }
+    }
+
+    /// Gives a text that another place has as well.
+    #[inline(never)]
+    pub(super) fn share_text(&mut self, text: &SharedText) -> Came
+        ensures gives { OrMemory (Gave (Str text.now)) (outcome result self.new.value self.new.leave) }
+        ensures base { self.new.base ≡ self.old.base }
+        ensures left { self.new.left ≡ self.old.left }
+        ensures context { self.new.context ≡ self.old.context }
+        ensures store { self.new.store ≡ self.old.store }
+    {
+        match text.share() {
+            Ok(copy) => {
+                self.value = Value::Str(copy);
+                Came::Other
+            }
             Err(_) => self.over(Cut::Memory),
         }
     }

@@ -31,7 +31,7 @@ use Rattle.rb_interp.proofs.Arguments.{passing, passed, joined, only_left, only_
 use Rattle.rb_interp.proofs.Prints.{by_form, printing_is, shown}
 use Rattle.std.specs.Option.{option_map}
 use Rattle.rb_machine.specs.Begin.{begin_return}
-use Rattle.rb_interp.proofs.Pieces.{piece_code, shows_text, shows_code, joining, joins_code, text_long, text_joins, value_long, value_joins}
+use Rattle.rb_interp.proofs.Pieces.{piece_code, shows_text, shows_code, joining, joins_code, text_long, text_joins, value_long, value_joins, whole_text}
 use Rattle.std.proofs.lemmas.Int.{ints, to_z-of_z}
 use Rattle.rb_code.specs.Layout.{bound}
 use Rattle.rb_interp.proofs.Turns.{some_left, none_left, last_done, ends_within, deeper, opens, closes, closes_out, cut, answers_block, block_turns, takes_is}
@@ -40,17 +40,17 @@ use Rattle.rb_interp.proofs.Frames.{enters, other_count, frame_lies}
 use Rattle.rb_interp.proofs.walker.Walker.+walk.Goals.{text-in-Text+in_default, text-in-Code+else-is_left+in_default-add_value}
 use Rattle.rb_interp.proofs.walker.Walker.+walk.Goals as goal
 
-pub walk-returns-then-self-eq0-clause-came : goal.walk-returns-then-self-eq0-clause-came
-walk-returns-then-self-eq0-clause-came g m c = λ S start h k me names size st e l a.
+pub walk_here-returns-then-self-eq0-clause-came : goal.walk_here-returns-then-self-eq0-clause-came
+walk_here-returns-then-self-eq0-clause-came g m c = λ S start h k me names size st e l a.
     rw (c.over.ensures.gives, c.over.ensures.left, c.over.ensures.store) (too_many c.if-self-eq0.true a)
 
-pub walk-returns-then-depth-ge-MAX_DEPTH-clause-came : goal.walk-returns-then-depth-ge-MAX_DEPTH-clause-came
-walk-returns-then-depth-ge-MAX_DEPTH-clause-came g m c = λ S start h k me names size st e l a.
+pub walk_here-returns-then-depth-ge-MAX_DEPTH-clause-came : goal.walk_here-returns-then-depth-ge-MAX_DEPTH-clause-came
+walk_here-returns-then-depth-ge-MAX_DEPTH-clause-came g m c = λ S start h k me names size st e l a.
     let o = c.raise.ensures in
     rw (o.gives, o.left, o.store, c.place_of.ensures) (too_deep (omega (arith, c.if-self-eq0.false)) c.if-depth-ge-MAX_DEPTH.true a)
 
-pub walk-returns-clause-came : goal.walk-returns-clause-came
-walk-returns-clause-came g m c = λ S start h k me names size st e l a.
+pub walk_here-returns-clause-came : goal.walk_here-returns-clause-came
+walk_here-returns-clause-came g m c = λ S start h k me names size st e l a.
     left S _ start h _ _ k _ _ _ _ (c.begin.ensures.came S start h (Under c.args.depth ∷ k) me names size st e l (counts (omega (arith, c.if-self-eq0.false)) (omega (arith, c.if-depth-ge-MAX_DEPTH.false)) a))
 
 pub begin-returns-in-Nil-clause-came : goal.begin-returns-in-Nil-clause-came
@@ -140,13 +140,13 @@ begin_choice-returns-in-If-clause-came g m c = λ S start h k me names size st e
 
 pub both-returns-then-is_left-clause-came : goal.both-returns-then-is_left-clause-came
 both-returns-then-is_left-clause-came g m c = λ S start h k me names size st e l a.
-    let w = c.walk-came in
+    let w = c.evaluate_call-came in
     let came = w.ensures.came S start h (Then (RightOfAnd (erase c.args.second.now)) ∷ k) me names size st e (sub (fits S c.args.first.now) l (fst _ _ l.fits)) a in
     passes S _ start h w.result w.new.self.value w.new.self.leave _ (RightOfAnd (erase c.args.second.now)) k _ _ _ (sym c.is_left.ensures ∙ c.if-is_left.true) came
 
 pub both-returns-then-not-is_true_now-clause-came : goal.both-returns-then-not-is_true_now-clause-came
 both-returns-then-not-is_true_now-clause-came g m c = λ S start h k me names size st e l a.
-    let w = c.walk-came in
+    let w = c.evaluate_call-came in
     let came = w.ensures.came S start h (Then (RightOfAnd (erase c.args.second.now)) ∷ k) me names size st e (sub (fits S c.args.first.now) l (fst _ _ l.fits)) a in
     let none = sym c.is_left.ensures ∙ c.if-is_left.false in
     let g = given w.result w.new.self.value w.new.self.leave none came in
@@ -155,54 +155,54 @@ both-returns-then-not-is_true_now-clause-came g m c = λ S start h k me names si
 
 pub both-returns-clause-came : goal.both-returns-clause-came
 both-returns-clause-came g m c = λ S start h k me names size st e l a.
-    let w = c.walk-came in
+    let w = c.evaluate_call-came in
     let came = w.ensures.came S start h (Then (RightOfAnd (erase c.args.second.now)) ∷ k) me names size st e (sub (fits S c.args.first.now) l (fst _ _ l.fits)) a in
     let none = sym c.is_left.ensures ∙ c.if-is_left.false in
     let g = given w.result w.new.self.value w.new.self.leave none came in
     let t = sym (c.is_true_now.ensures none) in
     let under = moved _ _ w.ensures.base w.ensures.room (sub (fits S c.args.second.now) l (snd _ _ l.fits)) in
-    let f = rw w.ensures.context at c.walk.ensures.came in
+    let f = rw w.ensures.context at c.evaluate_call.ensures.came in
     f S start h k me names size st e under (and_goes (t ∙ c.if-not-is_true_now.false) g)
 
 pub both-returns-then-is_left-clause-kept : goal.both-returns-then-is_left-clause-kept
 both-returns-then-is_left-clause-kept g m c = λ S names size st e l i p q.
-    c.walk-came.ensures.kept S names size st e (sub (fits S c.args.first.now) l (fst _ _ l.fits)) i p q
+    c.evaluate_call-came.ensures.kept S names size st e (sub (fits S c.args.first.now) l (fst _ _ l.fits)) i p q
 
 pub both-returns-clause-kept : goal.both-returns-clause-kept
 both-returns-clause-kept g m c = λ S names size st e l i p q.
-    let w = c.walk-came in
+    let w = c.evaluate_call-came in
     let under = moved _ _ w.ensures.base w.ensures.room (sub (fits S c.args.second.now) l (snd _ _ l.fits)) in
-    let f = rw w.ensures.context at c.walk.ensures.kept in
+    let f = rw w.ensures.context at c.evaluate_call.ensures.kept in
     f S names size st e under i p (omega (arith, q, w.ensures.base)) ∙ w.ensures.kept S names size st e (sub (fits S c.args.first.now) l (fst _ _ l.fits)) i p q
 
 pub either-returns-then-is_left-clause-kept : goal.either-returns-then-is_left-clause-kept
 either-returns-then-is_left-clause-kept g m c = λ S names size st e l i p q.
-    c.walk-came.ensures.kept S names size st e (sub (fits S c.args.first.now) l (fst _ _ l.fits)) i p q
+    c.evaluate_call-came.ensures.kept S names size st e (sub (fits S c.args.first.now) l (fst _ _ l.fits)) i p q
 
 pub either-returns-clause-kept : goal.either-returns-clause-kept
 either-returns-clause-kept g m c = λ S names size st e l i p q.
-    let w = c.walk-came in
+    let w = c.evaluate_call-came in
     let under = moved _ _ w.ensures.base w.ensures.room (sub (fits S c.args.second.now) l (snd _ _ l.fits)) in
-    let f = rw w.ensures.context at c.walk.ensures.kept in
+    let f = rw w.ensures.context at c.evaluate_call.ensures.kept in
     f S names size st e under i p (omega (arith, q, w.ensures.base)) ∙ w.ensures.kept S names size st e (sub (fits S c.args.first.now) l (fst _ _ l.fits)) i p q
 
 pub both-returns-then-not-is_true_now-clause-kept : goal.both-returns-then-not-is_true_now-clause-kept
 both-returns-then-not-is_true_now-clause-kept g m c = λ S names size st e l i p q.
-    c.walk-came.ensures.kept S names size st e (sub (fits S c.args.first.now) l (fst _ _ l.fits)) i p q
+    c.evaluate_call-came.ensures.kept S names size st e (sub (fits S c.args.first.now) l (fst _ _ l.fits)) i p q
 
 pub either-returns-then-is_true_now-clause-kept : goal.either-returns-then-is_true_now-clause-kept
 either-returns-then-is_true_now-clause-kept g m c = λ S names size st e l i p q.
-    c.walk-came.ensures.kept S names size st e (sub (fits S c.args.first.now) l (fst _ _ l.fits)) i p q
+    c.evaluate_call-came.ensures.kept S names size st e (sub (fits S c.args.first.now) l (fst _ _ l.fits)) i p q
 
 pub either-returns-then-is_left-clause-came : goal.either-returns-then-is_left-clause-came
 either-returns-then-is_left-clause-came g m c = λ S start h k me names size st e l a.
-    let w = c.walk-came in
+    let w = c.evaluate_call-came in
     let came = w.ensures.came S start h (Then (RightOfOr (erase c.args.second.now)) ∷ k) me names size st e (sub (fits S c.args.first.now) l (fst _ _ l.fits)) a in
     passes S _ start h w.result w.new.self.value w.new.self.leave _ (RightOfOr (erase c.args.second.now)) k _ _ _ (sym c.is_left.ensures ∙ c.if-is_left.true) came
 
 pub either-returns-then-is_true_now-clause-came : goal.either-returns-then-is_true_now-clause-came
 either-returns-then-is_true_now-clause-came g m c = λ S start h k me names size st e l a.
-    let w = c.walk-came in
+    let w = c.evaluate_call-came in
     let came = w.ensures.came S start h (Then (RightOfOr (erase c.args.second.now)) ∷ k) me names size st e (sub (fits S c.args.first.now) l (fst _ _ l.fits)) a in
     let none = sym c.is_left.ensures ∙ c.if-is_left.false in
     let g = given w.result w.new.self.value w.new.self.leave none came in
@@ -211,24 +211,24 @@ either-returns-then-is_true_now-clause-came g m c = λ S start h k me names size
 
 pub either-returns-clause-came : goal.either-returns-clause-came
 either-returns-clause-came g m c = λ S start h k me names size st e l a.
-    let w = c.walk-came in
+    let w = c.evaluate_call-came in
     let came = w.ensures.came S start h (Then (RightOfOr (erase c.args.second.now)) ∷ k) me names size st e (sub (fits S c.args.first.now) l (fst _ _ l.fits)) a in
     let none = sym c.is_left.ensures ∙ c.if-is_left.false in
     let g = given w.result w.new.self.value w.new.self.leave none came in
     let t = sym (c.is_true_now.ensures none) in
     let under = moved _ _ w.ensures.base w.ensures.room (sub (fits S c.args.second.now) l (snd _ _ l.fits)) in
-    let f = rw w.ensures.context at c.walk.ensures.came in
+    let f = rw w.ensures.context at c.evaluate_call.ensures.came in
     f S start h k me names size st e under (or_goes (t ∙ c.if-is_true_now.false) g)
 
 pub negate-returns-then-is_left-clause-came : goal.negate-returns-then-is_left-clause-came
 negate-returns-then-is_left-clause-came g m c = λ S start h k me names size st e l a.
-    let w = c.walk-came in
+    let w = c.evaluate_call-came in
     let came = w.ensures.came S start h (Then Negate ∷ k) me names size st e (sub (fits S c.args.value.now) l l.fits) a in
     passes S _ start h w.result w.new.self.value w.new.self.leave _ Negate k _ _ _ (sym c.is_left.ensures ∙ c.if-is_left.true) came
 
 pub negate-returns-then-is_true_now-clause-came : goal.negate-returns-then-is_true_now-clause-came
 negate-returns-then-is_true_now-clause-came g m c = λ S start h k me names size st e l a.
-    let w = c.walk-came in
+    let w = c.evaluate_call-came in
     let came = w.ensures.came S start h (Then Negate ∷ k) me names size st e (sub (fits S c.args.value.now) l l.fits) a in
     let none = sym c.is_left.ensures ∙ c.if-is_left.false in
     let g = given w.result w.new.self.value w.new.self.leave none came in
@@ -237,7 +237,7 @@ negate-returns-then-is_true_now-clause-came g m c = λ S start h k me names size
 
 pub negate-returns-else-is_true_now-clause-came : goal.negate-returns-else-is_true_now-clause-came
 negate-returns-else-is_true_now-clause-came g m c = λ S start h k me names size st e l a.
-    let w = c.walk-came in
+    let w = c.evaluate_call-came in
     let came = w.ensures.came S start h (Then Negate ∷ k) me names size st e (sub (fits S c.args.value.now) l l.fits) a in
     let none = sym c.is_left.ensures ∙ c.if-is_left.false in
     let g = given w.result w.new.self.value w.new.self.leave none came in
@@ -246,17 +246,17 @@ negate-returns-else-is_true_now-clause-came g m c = λ S start h k me names size
 
 pub choose-returns-then-is_left-clause-came : goal.choose-returns-then-is_left-clause-came
 choose-returns-then-is_left-clause-came g m c = λ S start h k me names size st e l a.
-    let w = c.walk-came in
+    let w = c.evaluate_call-came in
     let came = w.ensures.came S start h (Then (Choose (map erase c.args.first.now) (map erase c.args.second.now)) ∷ k) me names size st e (sub (fits S c.args.condition.now) l (fst _ _ l.fits)) a in
     passes S _ start h w.result w.new.self.value w.new.self.leave _ (Choose (map erase c.args.first.now) (map erase c.args.second.now)) k _ _ _ (sym c.is_left.ensures ∙ c.if-is_left.true) came
 
 pub choose-returns-then-is_left-clause-kept : goal.choose-returns-then-is_left-clause-kept
 choose-returns-then-is_left-clause-kept g m c = λ S names size st e l i p q.
-    c.walk-came.ensures.kept S names size st e (sub (fits S c.args.condition.now) l (fst _ _ l.fits)) i p q
+    c.evaluate_call-came.ensures.kept S names size st e (sub (fits S c.args.condition.now) l (fst _ _ l.fits)) i p q
 
 pub choose-returns-then-is_true_now-clause-came : goal.choose-returns-then-is_true_now-clause-came
 choose-returns-then-is_true_now-clause-came g m c = λ S start h k me names size st e l a.
-    let w = c.walk-came in
+    let w = c.evaluate_call-came in
     let came = w.ensures.came S start h (Then (Choose (map erase c.args.first.now) (map erase c.args.second.now)) ∷ k) me names size st e (sub (fits S c.args.condition.now) l (fst _ _ l.fits)) a in
     let none = sym c.is_left.ensures ∙ c.if-is_left.false in
     let g = given w.result w.new.self.value w.new.self.leave none came in
@@ -267,7 +267,7 @@ choose-returns-then-is_true_now-clause-came g m c = λ S start h k me names size
 
 pub choose-returns-clause-came : goal.choose-returns-clause-came
 choose-returns-clause-came g m c = λ S start h k me names size st e l a.
-    let w = c.walk-came in
+    let w = c.evaluate_call-came in
     let came = w.ensures.came S start h (Then (Choose (map erase c.args.first.now) (map erase c.args.second.now)) ∷ k) me names size st e (sub (fits S c.args.condition.now) l (fst _ _ l.fits)) a in
     let none = sym c.is_left.ensures ∙ c.if-is_left.false in
     let g = given w.result w.new.self.value w.new.self.leave none came in
@@ -278,14 +278,14 @@ choose-returns-clause-came g m c = λ S start h k me names size st e l a.
 
 pub choose-returns-then-is_true_now-clause-kept : goal.choose-returns-then-is_true_now-clause-kept
 choose-returns-then-is_true_now-clause-kept g m c = λ S names size st e l i p q.
-    let w = c.walk-came in
+    let w = c.evaluate_call-came in
     let under = moved _ _ w.ensures.base w.ensures.room (sub (every (map (fits S) c.args.first.now)) l (fst _ _ (snd _ _ l.fits))) in
     let f = rw w.ensures.context at c.body.ensures.kept in
     f S names size st e under i p (omega (arith, q, w.ensures.base)) ∙ w.ensures.kept S names size st e (sub (fits S c.args.condition.now) l (fst _ _ l.fits)) i p q
 
 pub choose-returns-clause-kept : goal.choose-returns-clause-kept
 choose-returns-clause-kept g m c = λ S names size st e l i p q.
-    let w = c.walk-came in
+    let w = c.evaluate_call-came in
     let under = moved _ _ w.ensures.base w.ensures.room (sub (every (map (fits S) c.args.second.now)) l (snd _ _ (snd _ _ l.fits))) in
     let f = rw w.ensures.context at c.body-2.ensures.kept in
     f S names size st e under i p (omega (arith, q, w.ensures.base)) ∙ w.ensures.kept S names size st e (sub (fits S c.args.condition.now) l (fst _ _ l.fits)) i p q
@@ -297,7 +297,7 @@ body-returns-then-is_left-clause-kept g m c = λ S names size st e l i p q.
     let item = next_item _ _ c.node-item.result c.nodes-test.true c.node-item.is in
     let right = every_item S _ _ c.node-item.result names size c.nodes-test.true c.node-item.is l.fits in
     let under = moved _ _ inv.base inv.room (sub (fits S c.node-item.result) l right) in
-    let f = rw inv.context at c.walk-came.ensures.kept in
+    let f = rw inv.context at c.walk_here-came.ensures.kept in
     f S names size st e under i p (omega (arith, q, inv.base)) ∙ inv.kept S names size st e l i p q
 
 pub body-returns-then-is_left-clause-came : goal.body-returns-then-is_left-clause-came
@@ -308,9 +308,9 @@ body-returns-then-is_left-clause-came g m c = λ S start h k me names size st e 
     let right = every_item S _ _ c.node-item.result names size c.nodes-test.true c.node-item.is l.fits in
     let under = moved _ _ inv.base inv.room (sub (fits S c.node-item.result) l right) in
     let h1 = on _ (follows _ (sym (ap (map erase) item)) (inv.came S start h k me names size st e l a)) refl in
-    let f = rw inv.context at c.walk-came.ensures.came in
+    let f = rw inv.context at c.walk_here-came.ensures.came in
     let come = f S start h (Then (Rest (map erase (drop (loop.node-index + 1) c.args.nodes.now))) ∷ k) me names size st e under h1 in
-    passes S _ start h c.walk-came.result c.walk-came.new.self.value c.walk-came.new.self.leave _ (Rest (map erase (drop (loop.node-index + 1) c.args.nodes.now))) k _ _ _ (sym c.is_left.ensures ∙ c.if-is_left.true) come
+    passes S _ start h c.walk_here-came.result c.walk_here-came.new.self.value c.walk_here-came.new.self.leave _ (Rest (map erase (drop (loop.node-index + 1) c.args.nodes.now))) k _ _ _ (sym c.is_left.ensures ∙ c.if-is_left.true) come
 
 pub body-returns-clause-came : goal.body-returns-clause-came
 body-returns-clause-came g m c = λ S start h k me names size st e l a.
@@ -319,7 +319,7 @@ body-returns-clause-came g m c = λ S start h k me names size st e l a.
 
 pub body-nodes-preserved : goal.body-nodes-preserved
 body-nodes-preserved g m c =
-    let w = c.walk-came.ensures in
+    let w = c.walk_here-came.ensures in
     let old = c.nodes.invariant in
     record {
       base = w.base ∙ old.base;
@@ -334,7 +334,7 @@ body-nodes-preserved g m c =
           let item = next_item _ _ c.node-item.result c.nodes-test.true c.node-item.is in
           let right = every_item S _ _ c.node-item.result names size c.nodes-test.true c.node-item.is l.fits in
           let under = moved _ _ inv.base inv.room (sub (fits S c.node-item.result) l right) in
-          let f = rw inv.context at c.walk-came.ensures.kept in
+          let f = rw inv.context at c.walk_here-came.ensures.kept in
           f S names size st e under i p (omega (arith, q, inv.base)) ∙ inv.kept S names size st e l i p q;
       came = λ S start h k me names size st e l a.
           let loop = c.nodes in
@@ -343,9 +343,9 @@ body-nodes-preserved g m c =
           let right = every_item S _ _ c.node-item.result names size c.nodes-test.true c.node-item.is l.fits in
           let under = moved _ _ inv.base inv.room (sub (fits S c.node-item.result) l right) in
           let h1 = on _ (follows _ (sym (ap (map erase) item)) (inv.came S start h k me names size st e l a)) refl in
-          let f = rw inv.context at c.walk-came.ensures.came in
+          let f = rw inv.context at c.walk_here-came.ensures.came in
           let come = f S start h (Then (Rest (map erase (drop (loop.node-index + 1) c.args.nodes.now))) ∷ k) me names size st e under h1 in
-          on _ (given c.walk-came.result c.walk-came.new.self.value c.walk-came.new.self.leave (sym c.is_left.ensures ∙ c.if-is_left.false) come) refl;
+          on _ (given c.walk_here-came.result c.walk_here-came.new.self.value c.walk_here-came.new.self.leave (sym c.is_left.ensures ∙ c.if-is_left.false) come) refl;
     }
 
 pub begin-returns-in-Local-clause-came : goal.begin-returns-in-Local-clause-came
@@ -400,23 +400,23 @@ leave_with-returns-clause-came g m c = λ S start h k me names size st e l a.
     rw (c.take.ensures.value, c.take.ensures.left, c.take.ensures.store) (on _ g refl)
 
 pub set_local-returns-then-is_left-clause-kept : goal.set_local-returns-then-is_left-clause-kept
-set_local-returns-then-is_left-clause-kept g m c = λ name S names size st e l i p q. c.walk-came.ensures.kept S names size st e (sub (fits S c.args.value.now) l (snd _ _ l.fits)) i p q
+set_local-returns-then-is_left-clause-kept g m c = λ name S names size st e l i p q. c.evaluate_call-came.ensures.kept S names size st e (sub (fits S c.args.value.now) l (snd _ _ l.fits)) i p q
 
 pub set_local-returns-then-is_left-clause-came : goal.set_local-returns-then-is_left-clause-came
 set_local-returns-then-is_left-clause-came g m c = λ name step is S start h k me names size st e l a.
-    let w = c.walk-came in
+    let w = c.evaluate_call-came in
     let came = w.ensures.came S start h (Then step ∷ k) me names size st e (sub (fits S c.args.value.now) l (snd _ _ l.fits)) a in
     passes S _ start h w.result w.new.self.value w.new.self.leave _ step k _ _ _ (sym c.is_left.ensures ∙ c.if-is_left.true) came
 
 pub set_local-returns-clause-kept : goal.set_local-returns-clause-kept
 set_local-returns-clause-kept g m c = λ name S names size st e l i p q.
-    let w = c.walk-came in
+    let w = c.evaluate_call-came in
     let s = slot_within name names c.args.slot (fst _ _ l.fits) in
     kept_write c.args.slot i _ _ _ _ (λ z. omega (arith, z, s, l.within, p)) c.write.ensures.written ∙ w.ensures.kept S names size st e (sub (fits S c.args.value.now) l (snd _ _ l.fits)) i p q
 
 pub set_local-returns-clause-came : goal.set_local-returns-clause-came
 set_local-returns-clause-came g m c = λ name step is S start h k me names size st e l a.
-    let w = c.walk-came in
+    let w = c.evaluate_call-came in
     let come = w.ensures.came S start h (Then step ∷ k) me names size st e (sub (fits S c.args.value.now) l (snd _ _ l.fits)) a in
     let none = sym c.is_left.ensures ∙ c.if-is_left.false in
     let v = given w.result w.new.self.value w.new.self.leave none come in
@@ -426,7 +426,7 @@ set_local-returns-clause-came g m c = λ name step is S start h k me names size 
 pub repeat-returns-then-not-goes_on-clause-came : goal.repeat-returns-then-not-goes_on-clause-came
 repeat-returns-then-not-goes_on-clause-came g m c = λ S start h k me names size st e l a.
     let inv = c.turns.invariant in
-    let w = c.walk-came in
+    let w = c.evaluate_call-came in
     let under = moved _ _ inv.base inv.room (sub (fits S c.args.condition.now) l (fst _ _ l.fits)) in
     let i1 = on _ (inv.came S start h k me names size st e l a) refl in
     let f = rw inv.context at w.ensures.came in
@@ -437,7 +437,7 @@ repeat-returns-then-not-goes_on-clause-came g m c = λ S start h k me names size
 pub repeat-returns-then-not-is_true_now-clause-came : goal.repeat-returns-then-not-is_true_now-clause-came
 repeat-returns-then-not-is_true_now-clause-came g m c = λ S start h k me names size st e l a.
     let inv = c.turns.invariant in
-    let w = c.walk-came in
+    let w = c.evaluate_call-came in
     let under = moved _ _ inv.base inv.room (sub (fits S c.args.condition.now) l (fst _ _ l.fits)) in
     let i1 = on _ (inv.came S start h k me names size st e l a) refl in
     let f = rw inv.context at w.ensures.came in
@@ -450,7 +450,7 @@ repeat-returns-then-not-is_true_now-clause-came g m c = λ S start h k me names 
 pub repeat-returns-then-not-goes_on-2-clause-came : goal.repeat-returns-then-not-goes_on-2-clause-came
 repeat-returns-then-not-goes_on-2-clause-came g m c = λ S start h k me names size st e l a.
     let inv = c.turns.invariant in
-    let w = c.walk-came in
+    let w = c.evaluate_call-came in
     let under = moved _ _ inv.base inv.room (sub (fits S c.args.condition.now) l (fst _ _ l.fits)) in
     let i1 = on _ (inv.came S start h k me names size st e l a) refl in
     let f = rw inv.context at w.ensures.came in
@@ -468,7 +468,7 @@ repeat-returns-then-not-goes_on-2-clause-came g m c = λ S start h k me names si
 
 pub repeat-turns-preserved : goal.repeat-turns-preserved
 repeat-turns-preserved g m c =
-    let w = c.walk-came.ensures in
+    let w = c.evaluate_call-came.ensures in
     let old = c.turns.invariant in
     let y = c.body-came.ensures in
     record {
@@ -479,7 +479,7 @@ repeat-turns-preserved g m c =
       unended = y.unended;
       kept = λ S names size st e l i p q.
           let inv = c.turns.invariant in
-          let w = c.walk-came in
+          let w = c.evaluate_call-came in
           let under = moved _ _ inv.base inv.room (sub (fits S c.args.condition.now) l (fst _ _ l.fits)) in
           let y = c.body-came in
           let within = moved _ _ (w.ensures.base ∙ inv.base) (w.ensures.room ∙ inv.room) (sub (every (map (fits S) c.args.body.now)) l (snd _ _ l.fits)) in
@@ -488,7 +488,7 @@ repeat-turns-preserved g m c =
           j S names size st e within i p (omega (arith, q, w.ensures.base, inv.base)) ∙ (f S names size st e under i p (omega (arith, q, inv.base)) ∙ inv.kept S names size st e l i p q);
       came = λ S start h k me names size st e l a.
           let inv = c.turns.invariant in
-          let w = c.walk-came in
+          let w = c.evaluate_call-came in
           let under = moved _ _ inv.base inv.room (sub (fits S c.args.condition.now) l (fst _ _ l.fits)) in
           let i1 = on _ (inv.came S start h k me names size st e l a) refl in
           let f = rw inv.context at w.ensures.came in
@@ -506,7 +506,7 @@ repeat-turns-preserved g m c =
 
 pub repeat-turns-preserved-then-is_left : goal.repeat-turns-preserved-then-is_left
 repeat-turns-preserved-then-is_left g m c =
-    let w = c.walk-came.ensures in
+    let w = c.evaluate_call-came.ensures in
     let old = c.turns.invariant in
     record {
       base = w.base ∙ old.base;
@@ -516,13 +516,13 @@ repeat-turns-preserved-then-is_left g m c =
       unended = w.unended;
       kept = λ S names size st e l i p q.
           let inv = c.turns.invariant in
-          let w = c.walk-came in
+          let w = c.evaluate_call-came in
           let under = moved _ _ inv.base inv.room (sub (fits S c.args.condition.now) l (fst _ _ l.fits)) in
           let f = rw inv.context at w.ensures.kept in
           f S names size st e under i p (omega (arith, q, inv.base)) ∙ inv.kept S names size st e l i p q;
       came = λ S start h k me names size st e l a.
           let inv = c.turns.invariant in
-          let w = c.walk-came in
+          let w = c.evaluate_call-came in
           let under = moved _ _ inv.base inv.room (sub (fits S c.args.condition.now) l (fst _ _ l.fits)) in
           let i1 = on _ (inv.came S start h k me names size st e l a) refl in
           let f = rw inv.context at w.ensures.came in
@@ -1244,14 +1244,14 @@ begin_other-returns-in-Str-clause-kept g m c = λ S names size st e l i p q.
     let x = c.in-Str in
     let s = sym (ap (λ d. fits S d names size) x.is ∙ fits-str S names size x.pieces x.at) ∙ l.fits in
     let under = sub _ l (rw c.as_slice.ensures s) in
-    c.text.ensures.kept S names size st e under i p q
+    c.literal.ensures.kept S names size st e under i p q
 
 pub begin_other-returns-in-Str-clause-came : goal.begin_other-returns-in-Str-clause-came
 begin_other-returns-in-Str-clause-came g m c = λ S start h k me names size st e l a.
     let x = c.in-Str in
     let s = sym (ap (λ d. fits S d names size) x.is ∙ fits-str S names size x.pieces x.at) ∙ l.fits in
     let under = sub _ l (rw c.as_slice.ensures s) in
-    c.text.ensures.came S start h k me names size st e under (rw c.as_slice.ensures (begins _ _ k _ _ _ (shows-str c.args.code.now x.pieces x.at x.is) a))
+    c.literal.ensures.came S start h k me names size st e under (rw c.as_slice.ensures (begins _ _ k _ _ _ (shows-str c.args.code.now x.pieces x.at x.is) a))
 
 pub turns-returns-then-first-last-clause-came : goal.turns-returns-then-first-last-clause-came
 turns-returns-then-first-last-clause-came g m c = λ S start h k me names size st e l a.
@@ -1816,17 +1816,17 @@ begin_send-returns-after-self-gt0-clause-came g m c = λ S start h k me names si
 
 pub operate-returns-then-is_left-clause-came : goal.operate-returns-then-is_left-clause-came
 operate-returns-then-is_left-clause-came g m c = λ name S start h k me names size st e l a.
-    let w = c.walk-came in
+    let w = c.evaluate_call-came in
     let e1 = w.ensures.came S start h (Then (ReceiverOf (text_of S name) (erase c.args.right.now ∷ []) None c.args.at) ∷ k) me names size st e (sub (fits S c.args.left.now) l (fst _ _ (snd _ _ l.fits))) a in
     passes S _ start h w.result w.new.self.value w.new.self.leave _ (ReceiverOf (text_of S name) (erase c.args.right.now ∷ []) None c.args.at) k _ _ _ (sym c.is_left.ensures ∙ c.if-is_left.true) e1
 
 pub operate-returns-then-is_left-clause-kept : goal.operate-returns-then-is_left-clause-kept
 operate-returns-then-is_left-clause-kept g m c = λ name S names size st e l i p q.
-    c.walk-came.ensures.kept S names size st e (sub (fits S c.args.left.now) l (fst _ _ (snd _ _ l.fits))) i p q
+    c.evaluate_call-came.ensures.kept S names size st e (sub (fits S c.args.left.now) l (fst _ _ (snd _ _ l.fits))) i p q
 
 pub operate-returns-in-Int-clause-kept : goal.operate-returns-in-Int-clause-kept
 operate-returns-in-Int-clause-kept g m c = λ name S names size st e l i p q.
-    let w = c.walk-came in
+    let w = c.evaluate_call-came in
     let right = two _ (fits S c.args.right.now names size) (fst _ _ l.fits) (snd _ _ (snd _ _ l.fits)) in
     let under = moved _ _ w.ensures.base w.ensures.room (sub (numbered c.args.method name (λ S. fits S c.args.right.now) S) l right) in
     let f = rw w.ensures.context at c.operate_integer.ensures.kept in
@@ -1834,7 +1834,7 @@ operate-returns-in-Int-clause-kept g m c = λ name S names size st e l i p q.
 
 pub operate-returns-in-Int-clause-came : goal.operate-returns-in-Int-clause-came
 operate-returns-in-Int-clause-came g m c = λ name S start h k me names size st e l a.
-    let w = c.walk-came in
+    let w = c.evaluate_call-came in
     let e1 = w.ensures.came S start h (Then (ReceiverOf (text_of S name) (erase c.args.right.now ∷ []) None c.args.at) ∷ k) me names size st e (sub (fits S c.args.left.now) l (fst _ _ (snd _ _ l.fits))) a in
     let g1 = given w.result w.new.self.value w.new.self.leave (sym c.is_left.ensures ∙ c.if-is_left.false) e1 in
     let z : to_z w64 (of_z w64 c.in-Int.m) ≡ c.in-Int.m = search rules in
@@ -1848,7 +1848,7 @@ operate-returns-in-Int-clause-came g m c = λ name S start h k me names size st 
 
 pub operate-returns-in_default-clause-kept : goal.operate-returns-in_default-clause-kept
 operate-returns-in_default-clause-kept g m c = λ name S names size st e l i p q.
-    let w = c.walk-came in
+    let w = c.evaluate_call-came in
     let right = two _ (fits S c.args.right.now names size) (fst _ _ l.fits) (snd _ _ (snd _ _ l.fits)) in
     let under = moved _ _ w.ensures.base w.ensures.room (sub (numbered c.args.method name (λ S. fits S c.args.right.now) S) l right) in
     let f = rw w.ensures.context at c.operate_value.ensures.kept in
@@ -1856,7 +1856,7 @@ operate-returns-in_default-clause-kept g m c = λ name S names size st e l i p q
 
 pub operate-returns-in_default-clause-came : goal.operate-returns-in_default-clause-came
 operate-returns-in_default-clause-came g m c = λ name S start h k me names size st e l a.
-    let w = c.walk-came in
+    let w = c.evaluate_call-came in
     let e1 = w.ensures.came S start h (Then (ReceiverOf (text_of S name) (erase c.args.right.now ∷ []) None c.args.at) ∷ k) me names size st e (sub (fits S c.args.left.now) l (fst _ _ (snd _ _ l.fits))) a in
     let g1 = given w.result w.new.self.value w.new.self.leave (sym c.is_left.ensures ∙ c.if-is_left.false) e1 in
     let g2 = g1 in
@@ -1950,21 +1950,21 @@ pub combine-returns-in_default-clause-came : goal.combine-returns-in_default-cla
 combine-returns-in_default-clause-came g m c = c.combine_value.ensures.came
 
 pub combine_integer-returns-then-is_left-clause-kept : goal.combine_integer-returns-then-is_left-clause-kept
-combine_integer-returns-then-is_left-clause-kept g m c = c.walk-came.ensures.kept
+combine_integer-returns-then-is_left-clause-kept g m c = c.evaluate_call-came.ensures.kept
 
 pub combine_integer-returns-then-is_left-clause-came : goal.combine_integer-returns-then-is_left-clause-came
 combine_integer-returns-then-is_left-clause-came g m c = λ S start h k me names size st e l a.
-    let w = c.walk-came in
+    let w = c.evaluate_call-came in
     let step = RightOf (Int c.args.m) c.args.op c.args.at in
     let come = w.ensures.came S start h (Then step ∷ k) me names size st e l a in
     passes S _ start h w.result w.new.self.value w.new.self.leave _ step k _ _ _ (sym c.is_left.ensures ∙ c.if-is_left.true) come
 
 pub combine_integer-returns-clause-kept : goal.combine_integer-returns-clause-kept
-combine_integer-returns-clause-kept g m c = c.walk-came.ensures.kept
+combine_integer-returns-clause-kept g m c = c.evaluate_call-came.ensures.kept
 
 pub combine_integer-returns-clause-came : goal.combine_integer-returns-clause-came
 combine_integer-returns-clause-came g m c = λ S start h k me names size st e l a.
-    let w = c.walk-came in
+    let w = c.evaluate_call-came in
     let step = RightOf (Int c.args.m) c.args.op c.args.at in
     let come = w.ensures.came S start h (Then step ∷ k) me names size st e l a in
     let none = sym c.is_left.ensures ∙ c.if-is_left.false in
@@ -2063,3 +2063,64 @@ evaluate-returns-in-Some-clause-came g m c = λ S start h k me names size st e l
     let len : length names ≤ length c.args.room.now = omega (arith, l.within, l.below, l.room) in
     let z : to_z w64 (of_z w64 c.in-Some.n) ≡ c.in-Some.n = search rules in
     rw z (c.in-Some.ensures S _ names size c.args.depth c.args.self.now.left start h _ k me l.fits len c.if-self-gt0.true c.if-depth-lt-MAX_DEPTH.true a)
+
+pub walk-returns-clause-kept : goal.walk-returns-clause-kept
+walk-returns-clause-kept g m c = c.walk_here.ensures.kept
+
+pub walk-returns-clause-came : goal.walk-returns-clause-came
+walk-returns-clause-came g m c = c.walk_here.ensures.came
+
+pub literal-returns-in-Some-clause-came : goal.literal-returns-in-Some-clause-came
+literal-returns-in-Some-clause-came g m c = λ S start h k me names size st e l a.
+    let o = c.share_text.ensures in
+    rw (o.left, o.store) (whole_text S _ start h _ c.in-Some.text.now c.args.pieces.now c.args.at k _ _ _ _ c.in-Some.ensures o.gives a)
+
+pub literal-returns-in-None-clause-kept : goal.literal-returns-in-None-clause-kept
+literal-returns-in-None-clause-kept g m c = c.text.ensures.kept
+
+pub literal-returns-in-None-clause-came : goal.literal-returns-in-None-clause-came
+literal-returns-in-None-clause-came g m c = c.text.ensures.came
+
+pub evaluate_call-returns-in-Some-clause-came : goal.evaluate_call-returns-in-Some-clause-came
+evaluate_call-returns-in-Some-clause-came g m c = λ S start h k me names size st e l a.
+    let x = c.in-Operate in
+    let s = sym (ap (λ d. fits S d names size) x.is ∙ fits-operate S names size x.method x.field-1 x.left x.right x.at) ∙ l.fits in
+    let first = c.get.result.now in
+    let second = c.get-then-depth.result.now in
+    let fl : fits S first names size ≡ true = rw c.get.ensures (fst _ _ (snd _ _ s)) in
+    let fr : fits S second names size ≡ true = rw c.get-then-depth.ensures (snd _ _ (snd _ _ s)) in
+    let len : length names ≤ length c.args.room.now = omega (arith, l.within, l.below, l.room) in
+    let is = c.in-Some.ensures in
+    let o = c.answer.ensures in
+    let number = same_is (builtin_of (text_of S x.field-1)) x.method (fst _ _ s) in
+    let inside = Under c.args.depth ∷ k in
+    let b = begins _ _ inside _ _ _ (shows-operate c.args.code.now x.method x.field-1 x.left x.right x.at x.is) (counts (omega (arith, c.if-self-gt2.true)) (omega (arith, c.if-depth.true)) a) in
+    let thrice : c.args.self.now.left - 3 ≡ c.args.self.now.left - 1 - 2 = omega arith in
+    rw (o.gives, o.left, o.store, sym (is.4 S.program.names (text_of S x.field-1) number), thrice)
+    (left S _ start h _ _ k _ _ _ _ (calls_pair S _ start h _ inside me names size (c.args.depth + 1) (c.args.self.now.left - 1) c.args.room.now x.field-1 first second x.at (Int is.0) (Int is.1) _ st.classes fl fr len (omega (arith, c.if-self-gt2.true)) (omega (arith, c.if-depth.true)) is.2 is.3 (inl refl) (rw (c.get.ensures, c.get-then-depth.ensures) b)))
+
+pub evaluate_call-returns-then-depth-clause-kept : goal.evaluate_call-returns-then-depth-clause-kept
+evaluate_call-returns-then-depth-clause-kept g m c = c.begin_slow_operate.ensures.kept
+
+pub evaluate_call-returns-then-depth-clause-came : goal.evaluate_call-returns-then-depth-clause-came
+evaluate_call-returns-then-depth-clause-came g m c = λ S start h k me names size st e l a.
+    left S _ start h _ _ k _ _ _ _ (c.begin_slow_operate.ensures.came S start h (Under c.args.depth ∷ k) me names size st e l (counts (omega (arith, c.if-self-gt2.true)) (omega (arith, c.if-depth.true)) a))
+
+pub evaluate_call-returns-then-depth-lt-MAX_DEPTH-clause-kept : goal.evaluate_call-returns-then-depth-lt-MAX_DEPTH-clause-kept
+evaluate_call-returns-then-depth-lt-MAX_DEPTH-clause-kept g m c = c.begin_function.ensures.kept
+
+pub evaluate_call-returns-then-depth-lt-MAX_DEPTH-clause-came : goal.evaluate_call-returns-then-depth-lt-MAX_DEPTH-clause-came
+evaluate_call-returns-then-depth-lt-MAX_DEPTH-clause-came g m c = λ S start h k me names size st e l a.
+    left S _ start h _ _ k _ _ _ _ (c.begin_function.ensures.came S start h (Under c.args.depth ∷ k) me names size st e l (counts c.if-self-gt0.true c.if-depth-lt-MAX_DEPTH.true a))
+
+pub evaluate_call-returns-else-self-gt2-clause-kept : goal.evaluate_call-returns-else-self-gt2-clause-kept
+evaluate_call-returns-else-self-gt2-clause-kept g m c = c.walk.ensures.kept
+
+pub evaluate_call-returns-else-self-gt2-clause-came : goal.evaluate_call-returns-else-self-gt2-clause-came
+evaluate_call-returns-else-self-gt2-clause-came g m c = c.walk.ensures.came
+
+pub evaluate_call-returns-else-self-gt0-clause-kept : goal.evaluate_call-returns-else-self-gt0-clause-kept
+evaluate_call-returns-else-self-gt0-clause-kept g m c = c.walk-in-Function.ensures.kept
+
+pub evaluate_call-returns-else-self-gt0-clause-came : goal.evaluate_call-returns-else-self-gt0-clause-came
+evaluate_call-returns-else-self-gt0-clause-came g m c = c.walk-in-Function.ensures.came

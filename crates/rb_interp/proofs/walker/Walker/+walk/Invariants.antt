@@ -11,124 +11,133 @@ use Rattle.rb_interp.specs.Carries.{Keeps, Reaches, both}
 use Rattle.rb_interp.proofs.walker.Walker.+walk.Given as goal
 
 abbrev pub decreases-walk : goal.decreases-walk
-decreases-walk g l = 12 * (1001 - l.depth)
+decreases-walk g l = 16 * (1001 - l.depth) + 1
+
+abbrev pub decreases-walk_here : goal.decreases-walk_here
+decreases-walk_here g l = 16 * (1001 - l.depth)
+
+abbrev pub decreases-evaluate_call : goal.decreases-evaluate_call
+decreases-evaluate_call g l = 16 * (1001 - l.depth) + 2
 
 abbrev pub decreases-begin : goal.decreases-begin
-decreases-begin g l = 12 * (1001 - l.depth) + 11
+decreases-begin g l = 16 * (1001 - l.depth) + 14
 
 abbrev pub decreases-set_local : goal.decreases-set_local
-decreases-set_local g l = 12 * (1001 - l.depth) + 1
+decreases-set_local g l = 16 * (1001 - l.depth) + 4
 
 abbrev pub decreases-update_local : goal.decreases-update_local
-decreases-update_local g l = 12 * (1001 - l.depth) + 3
+decreases-update_local g l = 16 * (1001 - l.depth) + 6
 
 abbrev pub decreases-operate : goal.decreases-operate
-decreases-operate g l = 12 * (1001 - l.depth) + 3
+decreases-operate g l = 16 * (1001 - l.depth) + 6
 
 abbrev pub decreases-send : goal.decreases-send
-decreases-send g l = 12 * (1001 - l.depth) + 3
+decreases-send g l = 16 * (1001 - l.depth) + 6
 
 abbrev pub decreases-store_by : goal.decreases-store_by
-decreases-store_by g l = 12 * (1001 - l.depth) + 3
+decreases-store_by g l = 16 * (1001 - l.depth) + 6
 
 abbrev pub decreases-send_block : goal.decreases-send_block
-decreases-send_block g l = 12 * (1001 - l.depth) + 4
+decreases-send_block g l = 16 * (1001 - l.depth) + 7
 
 abbrev pub decreases-turns : goal.decreases-turns
-decreases-turns g l = 12 * (1001 - l.depth) + 3
+decreases-turns g l = 16 * (1001 - l.depth) + 6
 
 abbrev pub decreases-function : goal.decreases-function
-decreases-function g l = 12 * (1001 - l.depth) + 3
+decreases-function g l = 16 * (1001 - l.depth) + 6
 
 abbrev pub decreases-print : goal.decreases-print
-decreases-print g l = 12 * (1001 - l.depth) + 3
+decreases-print g l = 16 * (1001 - l.depth) + 6
 
 abbrev pub decreases-read_element : goal.decreases-read_element
-decreases-read_element g l = 12 * (1001 - l.depth) + 1
+decreases-read_element g l = 16 * (1001 - l.depth) + 4
 
 abbrev pub decreases-combine : goal.decreases-combine
-decreases-combine g l = 12 * (1001 - l.depth) + 2
+decreases-combine g l = 16 * (1001 - l.depth) + 5
 
 abbrev pub decreases-update_attribute : goal.decreases-update_attribute
-decreases-update_attribute g l = 12 * (1001 - l.depth) + 4
+decreases-update_attribute g l = 16 * (1001 - l.depth) + 7
 
 abbrev pub decreases-refuse_attribute : goal.decreases-refuse_attribute
-decreases-refuse_attribute g l = 12 * (1001 - l.depth) + 3
+decreases-refuse_attribute g l = 16 * (1001 - l.depth) + 6
 
 abbrev pub decreases-refuse_value : goal.decreases-refuse_value
-decreases-refuse_value g l = 12 * (1001 - l.depth) + 1
+decreases-refuse_value g l = 16 * (1001 - l.depth) + 4
 
 abbrev pub decreases-arguments : goal.decreases-arguments
-decreases-arguments g l = 12 * (1001 - l.depth) + 2
+decreases-arguments g l = 16 * (1001 - l.depth) + 5
+
+abbrev pub decreases-literal : goal.decreases-literal
+decreases-literal g l = 16 * (1001 - l.depth) + 5
 
 abbrev pub decreases-text : goal.decreases-text
-decreases-text g l = 12 * (1001 - l.depth) + 1
+decreases-text g l = 16 * (1001 - l.depth) + 4
 
 abbrev pub decreases-both : goal.decreases-both
-decreases-both g l = 12 * (1001 - l.depth) + 1
+decreases-both g l = 16 * (1001 - l.depth) + 4
 
 abbrev pub decreases-either : goal.decreases-either
-decreases-either g l = 12 * (1001 - l.depth) + 1
+decreases-either g l = 16 * (1001 - l.depth) + 4
 
 abbrev pub decreases-negate : goal.decreases-negate
-decreases-negate g l = 12 * (1001 - l.depth) + 1
+decreases-negate g l = 16 * (1001 - l.depth) + 4
 
 abbrev pub decreases-choose : goal.decreases-choose
-decreases-choose g l = 12 * (1001 - l.depth) + 2
+decreases-choose g l = 16 * (1001 - l.depth) + 5
 
 abbrev pub decreases-body : goal.decreases-body
-decreases-body g l = 12 * (1001 - l.depth) + 1
+decreases-body g l = 16 * (1001 - l.depth) + 4
 
 abbrev pub decreases-repeat : goal.decreases-repeat
-decreases-repeat g l = 12 * (1001 - l.depth) + 2
+decreases-repeat g l = 16 * (1001 - l.depth) + 5
 
 abbrev pub decreases-leave_method : goal.decreases-leave_method
-decreases-leave_method g l = 12 * (1001 - l.depth) + 2
+decreases-leave_method g l = 16 * (1001 - l.depth) + 5
 
 abbrev pub decreases-leave_with : goal.decreases-leave_with
-decreases-leave_with g l = 12 * (1001 - l.depth) + 1
+decreases-leave_with g l = 16 * (1001 - l.depth) + 4
 
 abbrev pub decreases-begin_set : goal.decreases-begin_set
-decreases-begin_set g l = 12 * (1001 - l.depth) + 3
+decreases-begin_set g l = 16 * (1001 - l.depth) + 6
 
 abbrev pub decreases-begin_update : goal.decreases-begin_update
-decreases-begin_update g l = 12 * (1001 - l.depth) + 10
+decreases-begin_update g l = 16 * (1001 - l.depth) + 13
 
 abbrev pub decreases-begin_slow_update : goal.decreases-begin_slow_update
-decreases-begin_slow_update g l = 12 * (1001 - l.depth) + 9
+decreases-begin_slow_update g l = 16 * (1001 - l.depth) + 12
 
 abbrev pub decreases-begin_operate : goal.decreases-begin_operate
-decreases-begin_operate g l = 12 * (1001 - l.depth) + 10
+decreases-begin_operate g l = 16 * (1001 - l.depth) + 13
 
 abbrev pub decreases-begin_slow_operate : goal.decreases-begin_slow_operate
-decreases-begin_slow_operate g l = 12 * (1001 - l.depth) + 9
+decreases-begin_slow_operate g l = 16 * (1001 - l.depth) + 12
 
 abbrev pub decreases-begin_send : goal.decreases-begin_send
-decreases-begin_send g l = 12 * (1001 - l.depth) + 4
+decreases-begin_send g l = 16 * (1001 - l.depth) + 7
 
 abbrev pub decreases-begin_function : goal.decreases-begin_function
-decreases-begin_function g l = 12 * (1001 - l.depth) + 4
+decreases-begin_function g l = 16 * (1001 - l.depth) + 7
 
 abbrev pub decreases-begin_choice : goal.decreases-begin_choice
-decreases-begin_choice g l = 12 * (1001 - l.depth) + 5
+decreases-begin_choice g l = 16 * (1001 - l.depth) + 8
 
 abbrev pub decreases-begin_other : goal.decreases-begin_other
-decreases-begin_other g l = 12 * (1001 - l.depth) + 5
+decreases-begin_other g l = 16 * (1001 - l.depth) + 8
 
 abbrev pub decreases-operate_integer : goal.decreases-operate_integer
-decreases-operate_integer g l = 12 * (1001 - l.depth) + 2
+decreases-operate_integer g l = 16 * (1001 - l.depth) + 5
 
 abbrev pub decreases-operate_value : goal.decreases-operate_value
-decreases-operate_value g l = 12 * (1001 - l.depth) + 1
+decreases-operate_value g l = 16 * (1001 - l.depth) + 4
 
 abbrev pub decreases-combine_integer : goal.decreases-combine_integer
-decreases-combine_integer g l = 12 * (1001 - l.depth) + 1
+decreases-combine_integer g l = 16 * (1001 - l.depth) + 4
 
 abbrev pub decreases-combine_value : goal.decreases-combine_value
-decreases-combine_value g l = 12 * (1001 - l.depth) + 1
+decreases-combine_value g l = 16 * (1001 - l.depth) + 4
 
 abbrev pub decreases-evaluate : goal.decreases-evaluate
-decreases-evaluate g l = 12 * (1001 - l.depth) + 1
+decreases-evaluate g l = 16 * (1001 - l.depth) + 4
 
 abbrev pub invariant-body-nodes : goal.invariant-body-nodes
 invariant-body-nodes g l =
