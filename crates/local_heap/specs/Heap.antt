@@ -4,9 +4,9 @@ use Rattle.std.specs.List.{AllByRecursion}
 use Rattle.rb_model.specs.declared.value.Id.{Id}
 use Rattle.rb_model.specs.declared.act.Make.{Make}
 use Rattle.rb_model.specs.declared.act.Make.TheVariants as make
-use Rattle.rb_model.specs.Acts.{Act, Reply}
-use Rattle.rb_model.specs.Things.{Thing, Object, Field, becomes, gives}
-use Rattle.rb_model.specs.Private.{Private, changed, held}
+use Rattle.rb_model.specs.Acts.{Act}
+use Rattle.rb_model.specs.Things.{Thing, Object, Field}
+use Rattle.rb_model.specs.Private.{Private, held}
 use Rattle.shape_core.specs.declared.edge.Kind.{Kind}
 use Rattle.shape_core.specs.declared.edge.Kind.TheVariants.{IntLoc, AnyLoc}
 use Rattle.shape_core.specs.Path.{Path, kind_on}
@@ -40,14 +40,6 @@ shape_made (make.Object class) = root_of class
 -- the shape of an object behind an act on it
 abbrev pub shape_then : Heap → Id → Act → Shape
 shape_then h id act = shape_behind (shape_of h id) act
-
--- a reply is what the thing of an id gives
-abbrev pub Gives : Private → Id → Act → Reply → Type 0
-Gives h id act reply = (thing : Thing) → held h id ≡ Some thing → reply ≡ gives thing act
-
--- a private store becomes another by an act on the thing of an id
-abbrev pub Becomes : Private → Id → Act → Private → Type 0
-Becomes h id act new = (thing : Thing) → held h id ≡ Some thing → new ≡ changed h id (becomes thing act)
 
 abbrev pub is_wide : Option Kind → Bool
 is_wide None = false

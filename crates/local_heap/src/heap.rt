@@ -1,11 +1,11 @@
 // The private heap.
 
 ghost use Rattle.std.specs.Prelude.{◌≡◌, ◌++◌, ◌∷◌, [], set, IsSome, is_some, Some, None, IfOk, OnOk, OnErr};
-ghost use Rattle.rb_model.specs.Private.{bare, entered, held, next_id};
+ghost use Rattle.rb_model.specs.Private.{Becomes, Gives, bare, entered, held, next_id};
 ghost use Rattle.rb_model.specs.Doing.{doing, said, made, seen, sort_of};
 ghost use Rattle.shape_core.specs.Shape.{Gains, root_of};
 ghost use Rattle.local_heap.specs.Memory.{MayWant};
-ghost use Rattle.local_heap.specs.Heap.{AgreesAt, Becomes, Gives, shape_made, shape_then};
+ghost use Rattle.local_heap.specs.Heap.{AgreesAt, shape_made, shape_then};
 
 use crate::object::Object;
 use crate::room::push_within;

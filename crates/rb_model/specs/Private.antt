@@ -2,7 +2,8 @@
 use Rattle.std.specs.Prelude.{◌≡◌, ℕ, ◌==◌, if◌then◌else◌, List, [], ◌∷◌, ◌++◌, length, set, Option, Some, None, slice_get}
 use Rattle.rb_model.specs.declared.value.Id.{Id}
 use Rattle.rb_model.specs.Values.{Value as Val, To, Reference}
-use Rattle.rb_model.specs.Things.{Thing, mentioned}
+use Rattle.rb_model.specs.Acts.{Act, Reply}
+use Rattle.rb_model.specs.Things.{Thing, mentioned, becomes, gives}
 
 -- What a thread made, by serial number: each thing, where it is still private. Number 0 is no thing's.
 pub record Private : Type 0 where
@@ -36,6 +37,14 @@ changed h id thing = record { thread = h.thread; things = set h.things id.serial
 -- without a thing
 abbrev pub left : Private → Id → Private
 left h id = record { thread = h.thread; things = set h.things id.serial None }
+
+-- a reply is what the thing of an id gives
+abbrev pub Gives : Private → Id → Act → Reply → Type 0
+Gives h id act reply = (thing : Thing) → held h id ≡ Some thing → reply ≡ gives thing act
+
+-- a private store becomes another by an act on the thing of an id
+abbrev pub Becomes : Private → Id → Act → Private → Type 0
+Becomes h id act new = (thing : Thing) → held h id ≡ Some thing → new ≡ changed h id (becomes thing act)
 
 -- a thing with its id
 pub record Item : Type 0 where

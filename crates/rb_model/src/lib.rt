@@ -16,6 +16,6 @@ pub use act::{Act, Make, Reply};
 pub use call::{Answer, Call, End};
 pub use fault::Fault;
 pub use shared_text::SharedText;
-pub use store::OneStore;
+pub use store::{OneStore, ThreadStore};
 pub use thing::{Field, Thing};
 pub use value::{Id, Ref, Sort, Value};

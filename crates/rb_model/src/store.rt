@@ -1,9 +1,14 @@
-// The store of a run with one thread.
+// What one thread works on.
 
-ghost use Rattle.std.specs.Prelude.{◌≡◌, ◌≤◌, true, false, ℕ};
+ghost use Rattle.std.specs.Prelude.{◌≡◌, ◌≤◌, true, false, ℕ, is_some, IsSome, IfOk, OnOk, OnErr};
+ghost use Rattle.rb_model.specs.Doing.{doing, said, made, sort_of};
+ghost use Rattle.rb_model.specs.Private.{Private, Gives, Becomes, held, entered, next_id};
 ghost use Rattle.rb_model.specs.Log.{Log as Calls, Answers, is_sure, has_end, asked};
 
+use crate::act::{Act, Make, Reply};
 use crate::call::{Answer, Call};
+use crate::value::{Id, Ref};
+use std::alloc::AllocError;
 
 /// Where one thread prints and ends.
 pub trait OneStore {
@@ -20,4 +25,41 @@ pub trait OneStore {
         // Room for an end that is no value was taken before.
         ensures sure { is_sure (asked call.now) ≡ true → result ≡ Answer.Done }
         ensures rises { faults self.old ≤ faults self.new };
+}
+
+/// What one thread has: the things that it made and that are still its own, and what it asks of the outside.
+pub trait ThreadStore {
+    /// What the outside was asked, and what it refused.
+    ghost log: { Self → Calls };
+
+    /// The private things.
+    ghost private: { Self → Private };
+
+    /// Makes one entry, of the main thread at this step, exactly where it answers `Done`.
+    fn call(&mut self, step: u64, call: &Call) -> Answer
+        requires open { has_end (log self.old).entries ≡ false }
+        ensures answers { Answers result step (asked call.now) (log self.old) (log self.new) }
+        // Room for an end that is no value was taken before.
+        ensures sure { is_sure (asked call.now) ≡ true → result ≡ Answer.Done }
+        ensures private { private self.new ≡ private self.old };
+
+    /// Makes a thing, under the next number.
+    fn make(&mut self, make: Make) -> Result<Ref, AllocError>
+        ensures id { IfOk result (λ thing. thing.id ≡ next_id (private self.old)) }
+        ensures sort { IfOk result (λ thing. thing.sort ≡ sort_of make) }
+        ensures private { OnOk result (private self.new ≡ entered (private self.old) (made make)) }
+        ensures err { OnErr result (private self.new ≡ private self.old) }
+        ensures log { log self.new ≡ log self.old };
+
+    /// Whether the thing of an id is private here.
+    fn holds(&self, id: Id) -> bool
+        ensures { result ≡ is_some (held (private self.now) id) };
+
+    /// Does what is asked of a thing that is private here.
+    fn apply(&mut self, id: Id, act: Act) -> Result<Reply, AllocError>
+        requires { IsSome (held (private self.old) id) }
+        ensures reply { IfOk result (λ reply. Gives (private self.old) id (doing act) (said reply)) }
+        ensures private { OnOk result (Becomes (private self.old) id (doing act) (private self.new)) }
+        ensures err { OnErr result (private self.new ≡ private self.old) }
+        ensures log { log self.new ≡ log self.old };
 }
