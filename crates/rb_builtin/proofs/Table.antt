@@ -5,6 +5,7 @@ use Rattle.std.specs.Prelude.{◌||◌}
 use Rattle.std.specs.Ordering.{int_eq}
 use Rattle.std.specs.Str.{bytes_eq}
 use Rattle.std.proofs.lemmas.Slice.Eq.{bytes_eq-Decides}
+use Rattle.rb_tree.specs.declared.node.Program.{Program}
 use Rattle.rb_model.specs.declared.fault.Fault.{Fault}
 use Rattle.rb_model.specs.declared.fault.Fault.TheVariants.{NoMethod, TypeMismatch}
 use Rattle.rb_model.specs.Characters.{characters}
@@ -69,13 +70,13 @@ unless_is (Some fault) counts a = refl
 unless_is None true a = refl
 unless_is None false a = refl
 
-module _ (names : List Text) where
+module _ (P : Program) where
   -- what the table says of a method by its name is what is said of it by its number
-  by_name : (v : Value) (b : Builtin) (args : List Value) (given : Option ℕ) → deed names v (name_of b) args given ≡ answer_by_number names v b args given
+  by_name : (v : Value) (b : Builtin) (args : List Value) (given : Option ℕ) → deed P v (name_of b) args given ≡ answer_by_number P v b args given
   by_name v builtin.Equal args given = unless_is (block_fault None given) (nat_eq (length args) 1) (equal v args)
   by_name v builtin.IsNil args given = unless_is (block_fault None given) (nat_eq (length args) 0) (is_nil v args)
-  by_name v builtin.ToS args given = unless_is (block_fault None given) (nat_eq (length args) 0) (text (shown names v))
-  by_name v builtin.Inspect args given = unless_is (block_fault None given) (nat_eq (length args) 0) (text (inspected names v))
+  by_name v builtin.ToS args given = unless_is (block_fault None given) (nat_eq (length args) 0) (text (shown P v))
+  by_name v builtin.Inspect args given = unless_is (block_fault None given) (nat_eq (length args) 0) (text (inspected P v))
   by_name (Int m) builtin.Plus args given = unless_is (block_fault None given) (nat_eq (length args) 1) (on_integers (operated builtin.Plus) (Int m) args)
   by_name (Int m) builtin.Minus args given = unless_is (block_fault None given) (nat_eq (length args) 1) (on_integers (operated builtin.Minus) (Int m) args)
   by_name (Int m) builtin.Times args given = unless_is (block_fault None given) (nat_eq (length args) 1) (on_integers (operated builtin.Times) (Int m) args)
@@ -191,36 +192,36 @@ unfolding look_up all
 name_is name b e = looked_up name b all e
 
 -- the table by numbers
-pub by_number : (names : List Text) (v : Value) (name : Text) (b : Builtin) (args : List Value) (given : Option ℕ) → builtin_of name ≡ Some b
-    → answer_by_number names v b args given ≡ deed names v name args given
-by_number names v name b args given e = sym (by_name names v b args given) ∙ ap (λ n. deed names v n args given) (sym (name_is name b e))
+pub by_number : (P : Program) (v : Value) (name : Text) (b : Builtin) (args : List Value) (given : Option ℕ) → builtin_of name ≡ Some b
+    → answer_by_number P v b args given ≡ deed P v name args given
+by_number P v name b args given e = sym (by_name P v b args given) ∙ ap (λ n. deed P v n args given) (sym (name_is name b e))
 
 -- an operation on two integers is what the table says of the call
-by_operation : (names : List Text) (b : Builtin) (m n : ℤ) → is_operation b ≡ true → answer_by_number names (Int m) b (Int n ∷ []) None ≡ operated b m n
-by_operation names builtin.Plus m n e = refl
-by_operation names builtin.Minus m n e = refl
-by_operation names builtin.Times m n e = refl
-by_operation names builtin.Over m n e = refl
-by_operation names builtin.Modulo m n e = refl
-by_operation names builtin.Less m n e = refl
-by_operation names builtin.AtMost m n e = refl
-by_operation names builtin.More m n e = refl
-by_operation names builtin.AtLeast m n e = refl
-by_operation names builtin.Equal m n e = equal_integers (int_eq m n)
+by_operation : (P : Program) (b : Builtin) (m n : ℤ) → is_operation b ≡ true → answer_by_number P (Int m) b (Int n ∷ []) None ≡ operated b m n
+by_operation P builtin.Plus m n e = refl
+by_operation P builtin.Minus m n e = refl
+by_operation P builtin.Times m n e = refl
+by_operation P builtin.Over m n e = refl
+by_operation P builtin.Modulo m n e = refl
+by_operation P builtin.Less m n e = refl
+by_operation P builtin.AtMost m n e = refl
+by_operation P builtin.More m n e = refl
+by_operation P builtin.AtLeast m n e = refl
+by_operation P builtin.Equal m n e = equal_integers (int_eq m n)
   where
     equal_integers : (t : Bool) → cond (t || true) (Gives (truth t)) (Raises NoMethod) ≡ Gives (truth t)
     equal_integers true = refl
     equal_integers false = refl
-by_operation names builtin.IsNil m n e = absurd (cc)
-by_operation names builtin.ToS m n e = absurd (cc)
-by_operation names builtin.Inspect m n e = absurd (cc)
-by_operation names builtin.Negate m n e = absurd (cc)
-by_operation names builtin.TimesLoop m n e = absurd (cc)
-by_operation names builtin.Upto m n e = absurd (cc)
-by_operation names builtin.Length m n e = absurd (cc)
+by_operation P builtin.IsNil m n e = absurd (cc)
+by_operation P builtin.ToS m n e = absurd (cc)
+by_operation P builtin.Inspect m n e = absurd (cc)
+by_operation P builtin.Negate m n e = absurd (cc)
+by_operation P builtin.TimesLoop m n e = absurd (cc)
+by_operation P builtin.Upto m n e = absurd (cc)
+by_operation P builtin.Length m n e = absurd (cc)
 
-pub operation_is : (names : List Text) (name : Text) (b : Builtin) (m n : ℤ) → is_operation b ≡ true → builtin_of name ≡ Some b → deed names (Int m) name (Int n ∷ []) None ≡ operated b m n
-operation_is names name b m n e f = sym (by_number names (Int m) name b (Int n ∷ []) None f) ∙ by_operation names b m n e
+pub operation_is : (P : Program) (name : Text) (b : Builtin) (m n : ℤ) → is_operation b ≡ true → builtin_of name ≡ Some b → deed P (Int m) name (Int n ∷ []) None ≡ operated b m n
+operation_is P name b m n e f = sym (by_number P (Int m) name b (Int n ∷ []) None f) ∙ by_operation P b m n e
 
 numbered : (b : Builtin) → builtin_of (name_of b) ≡ Some b
 numbered builtin.Equal = refl
@@ -249,8 +250,8 @@ other_name name b true e f =
     absurd (cc)
 
 -- no value has a method of a name that has no number
-pub no_number : (names : List Text) (v : Value) (name : Text) (args : List Value) (given : Option ℕ) → builtin_of name ≡ None → deed names v name args given ≡ Raises NoMethod
-no_number names v name args given e =
+pub no_number : (P : Program) (v : Value) (name : Text) (args : List Value) (given : Option ℕ) → builtin_of name ≡ None → deed P v name args given ≡ Raises NoMethod
+no_number P v name args given e =
     let f : (b : Builtin) → bytes_eq name (name_of b) ≡ false = λ b. other_name name b (bytes_eq name (name_of b)) e refl in
     rw (f builtin.Equal, f builtin.IsNil, f builtin.ToS, f builtin.Inspect, f builtin.Plus, f builtin.Minus, f builtin.Times, f builtin.Over, f builtin.Modulo, f builtin.Negate, f builtin.Less, f builtin.AtMost, f builtin.More, f builtin.AtLeast, f builtin.TimesLoop, f builtin.Upto, f builtin.Length) refl
 

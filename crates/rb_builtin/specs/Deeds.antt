@@ -1,5 +1,6 @@
 -- What the answers of the code say, and the rows of the table by the numbers of methods.
 use Rattle.std.specs.Prelude.{ℕ, ℤ, pos, ◌+ℤ◌, neg_ℤ, nat_eq, Bool, true, false, if◌then◌else◌, List, [], ◌∷◌, length, Option, Some, None}
+use Rattle.rb_tree.specs.declared.node.Program.{Program}
 use Rattle.rb_model.specs.declared.fault.Fault.{Fault}
 use Rattle.rb_model.specs.declared.fault.Fault.TheVariants.{NoMethod, ArgumentCount}
 use Rattle.rb_model.specs.Values.{Value, Nil, Int, Str, plain, truth, same}
@@ -87,9 +88,9 @@ own_answer (Str s) b args given = text_answer s b args given
 own_answer v b args given = Raises NoMethod
 
 -- what values answer to methods by their numbers
-abbrev pub answer_by_number : List Text → Value → Builtin → List Value → Option ℕ → Answer
-answer_by_number names v builtin.Equal args given = by_misfit (misfit args 1 None given) (equal v args)
-answer_by_number names v builtin.IsNil args given = by_misfit (misfit args 0 None given) (Gives (truth (same v Nil)))
-answer_by_number names v builtin.ToS args given = by_misfit (misfit args 0 None given) (text (shown names v))
-answer_by_number names v builtin.Inspect args given = by_misfit (misfit args 0 None given) (text (inspected names v))
-answer_by_number names v b args given = own_answer v b args given
+abbrev pub answer_by_number : Program → Value → Builtin → List Value → Option ℕ → Answer
+answer_by_number P v builtin.Equal args given = by_misfit (misfit args 1 None given) (equal v args)
+answer_by_number P v builtin.IsNil args given = by_misfit (misfit args 0 None given) (Gives (truth (same v Nil)))
+answer_by_number P v builtin.ToS args given = by_misfit (misfit args 0 None given) (text (shown P v))
+answer_by_number P v builtin.Inspect args given = by_misfit (misfit args 0 None given) (text (inspected P v))
+answer_by_number P v b args given = own_answer v b args given

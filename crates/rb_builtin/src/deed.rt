@@ -15,7 +15,7 @@ use crate::builtin::Builtin;
 use crate::integer::{IntegerAnswer, integer_operation};
 use rb_model::{Fault, SharedText, Sort, Value};
 use rb_render::{MAX_BYTES, add_inspected, add_shown};
-use rb_tree::Names;
+use rb_tree::Program;
 use std::alloc::{AllocError, Global};
 
 /// A walk with a block.
@@ -282,12 +282,12 @@ fn equal(receiver: &Value, args: &[Value]) -> Deed
 }
 
 /// The text of a value. That of a text is itself, and no bytes are copied.
-fn shown(alloc: Global, names: &Names, receiver: &Value) -> Result<Deed, AllocError>
-    ensures { IfOk result (λ d. spec.answer_of d ≡ table.text (shown names.now (plain receiver.now))) }
+fn shown(alloc: Global, program: &Program, receiver: &Value) -> Result<Deed, AllocError>
+    ensures { IfOk result (λ d. spec.answer_of d ≡ table.text (shown program.now (plain receiver.now))) }
 {
     let Value::Str(bytes) = receiver else {
         let mut out = Vec::new(alloc);
-        add_shown(alloc, &mut out, names, receiver)?;
+        add_shown(alloc, &mut out, program, receiver)?;
         return text(alloc, out);
     };
     if bytes.as_slice().len() > MAX_BYTES {
@@ -297,11 +297,11 @@ fn shown(alloc: Global, names: &Names, receiver: &Value) -> Result<Deed, AllocEr
 }
 
 /// The inspected form of a value.
-fn inspected(alloc: Global, names: &Names, receiver: &Value) -> Result<Deed, AllocError>
-    ensures { IfOk result (λ d. spec.answer_of d ≡ table.text (inspected names.now (plain receiver.now))) }
+fn inspected(alloc: Global, program: &Program, receiver: &Value) -> Result<Deed, AllocError>
+    ensures { IfOk result (λ d. spec.answer_of d ≡ table.text (inspected program.now (plain receiver.now))) }
 {
     let mut out = Vec::new(alloc);
-    add_inspected(alloc, &mut out, names, receiver)?;
+    add_inspected(alloc, &mut out, program, receiver)?;
     text(alloc, out)
 }
 
@@ -335,24 +335,24 @@ fn own_deed(
 /// What a value answers to a method.
 fn deed_by_number(
     alloc: Global,
-    names: &Names,
+    program: &Program,
     receiver: &Value,
     method: Builtin,
     args: &[Value],
     block: Option<u32>,
 ) -> Result<Deed, AllocError>
-    ensures { IfOk result (λ d. spec.answer_of d ≡ spec.answer_by_number names.now (plain receiver.now) method (map plain args.now) block) }
+    ensures { IfOk result (λ d. spec.answer_of d ≡ spec.answer_by_number program.now (plain receiver.now) method (map plain args.now) block) }
 {
     match method {
         Builtin::Equal => Ok(unless(misfit(args, 1, block), equal(receiver, args))),
         Builtin::IsNil => Ok(unless(misfit(args, 0, block), truth_of(is_nil(receiver)))),
         Builtin::ToS => match misfit(args, 0, block) {
             Some(fault) => Ok(Deed::Raise(fault)),
-            None => shown(alloc, names, receiver),
+            None => shown(alloc, program, receiver),
         },
         Builtin::Inspect => match misfit(args, 0, block) {
             Some(fault) => Ok(Deed::Raise(fault)),
-            None => inspected(alloc, names, receiver),
+            None => inspected(alloc, program, receiver),
         },
         _ => own_deed(alloc, receiver, method, args, block),
     }
@@ -362,17 +362,17 @@ fn deed_by_number(
 /// given, the count of its parameters. It is what the table of methods says.
 pub fn deed_of(
     alloc: Global,
-    names: &Names,
+    program: &Program,
     receiver: &Value,
     method: Option<Builtin>,
     args: &[Value],
     block: Option<u32>,
 ) -> Result<Deed, AllocError>
     ensures { IfOk result (λ d. (name : List ℕ) → numbers.builtin_of name ≡ method
-        → spec.answer_of d ≡ table.deed names.now (plain receiver.now) name (map plain args.now) block) }
+        → spec.answer_of d ≡ table.deed program.now (plain receiver.now) name (map plain args.now) block) }
 {
     match method {
-        Some(method) => deed_by_number(alloc, names, receiver, method, args, block),
+        Some(method) => deed_by_number(alloc, program, receiver, method, args, block),
         None => Ok(Deed::Raise(Fault::NoMethod)),
     }
 }

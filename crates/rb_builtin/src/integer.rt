@@ -1,6 +1,7 @@
 // Operations on two integers.
 
 ghost use Rattle.std.specs.Prelude.{◌≡◌, ℕ, true, List, [], ◌∷◌, Some, None};
+ghost use Rattle.rb_tree.specs.declared.node.Program.{Program};
 ghost use Rattle.rb_model.specs.Values.{truth};
 ghost use Rattle.rb_machine.specs.Methods.{Gives, unless_zero, quotient, modulo, leaves_below};
 ghost use Rattle.rb_model.specs.Values as value;
@@ -128,8 +129,8 @@ fn operation(method: Builtin, m: i64, n: i64) -> IntegerAnswer
 pub fn integer_operation(method: Builtin, m: i64, n: i64) -> IntegerAnswer
     ensures answer { spec.answer_of result ≡ spec.operated method m n }
     // Where the method is an operation, that is what the table says of the call.
-    ensures table { spec.is_operation method ≡ true → (names : List (List ℕ)) (name : List ℕ) → builtin_of name ≡ Some method
-        → deed names (value.Int m) name (value.Int n ∷ []) None ≡ spec.answer_of result }
+    ensures table { spec.is_operation method ≡ true → (P : Program) (name : List ℕ) → builtin_of name ≡ Some method
+        → deed P (value.Int m) name (value.Int n ∷ []) None ≡ spec.answer_of result }
 {
     operation(method, m, n)
 }

@@ -1,13 +1,14 @@
 // Calls of built-in methods, and what they answer.
 
 use crate::{Deed, Loop, builtin_of, deed_of};
-use rb_model::{Fault, SharedText, Value};
+use rb_model::{Fault, Id, Ref, SharedText, Sort, Value};
 use rb_render::add_inspected;
-use rb_tree::Names;
+use rb_tree::{Class, Items, NameId, Names, Program, Span};
 use std::alloc::{AllocError, Global};
 use std::test::Fail;
 
-/// A value by how it is written here: nil, false, true, an integer, `:` and a name, or `'` and the bytes of a text.
+/// A value by how it is written here: nil, false, true, an integer, `:` and a name, `'` and the bytes of a text, or `@` and the digit of
+/// an object's class.
 fn value_of(alloc: Global, names: &mut Names, written: &str) -> Result<Value, AllocError> {
     Ok(match written.as_bytes() {
         b"nil" => Value::Nil,
@@ -15,7 +16,42 @@ fn value_of(alloc: Global, names: &mut Names, written: &str) -> Result<Value, Al
         b"true" => Value::True,
         [b':', name @ ..] if names.len() < 9 => Value::Sym(names.add(name)?),
         [b'\'', text @ ..] => Value::Str(SharedText::from_slice(alloc, text)?),
+        [b'@', digit] => Value::Ref(Ref {
+            sort: Sort::Object(u32::from(digit.saturating_sub(b'0'))),
+            id: Id {
+                thread: 0,
+                serial: 1,
+            },
+        }),
         _ => Value::Int(written.parse::<i64>().unwrap_or(0)),
+    })
+}
+
+/// A class without methods.
+fn class_of(alloc: Global, names: &mut Names, name: &[u8]) -> Result<Class, AllocError> {
+    let name = if names.len() < 9 {
+        names.add(name)?
+    } else {
+        NameId(0)
+    };
+    Ok(Class {
+        name,
+        methods: Items::new(alloc),
+        at: Span { from: 0, to: 0 },
+    })
+}
+
+/// A program with two classes, `Point` and `Line`.
+fn program_of(alloc: Global, mut names: Names) -> Result<Program, AllocError> {
+    let mut classes = Items::new(alloc);
+    classes.push(class_of(alloc, &mut names, b"Point")?)?;
+    classes.push(class_of(alloc, &mut names, b"Line")?)?;
+    Ok(Program {
+        names,
+        classes,
+        functions: Items::new(alloc),
+        bodies: Items::new(alloc),
+        main: Items::new(alloc),
     })
 }
 
@@ -38,10 +74,11 @@ fn answer(alloc: Global, call: &str) -> Result<String, AllocError> {
     let [receiver, args @ ..] = values.as_slice() else {
         return String::from_str(alloc, "no call");
     };
-    match deed_of(alloc, &names, receiver, method, args, block)? {
+    let program = program_of(alloc, names)?;
+    match deed_of(alloc, &program, receiver, method, args, block)? {
         Deed::Give(value) => {
             let mut out = Vec::new(alloc);
-            add_inspected(alloc, &mut out, &names, &value)?;
+            add_inspected(alloc, &mut out, &program, &value)?;
             match String::from_utf8(out) {
                 Ok(text) => Ok(text),
                 Err(_) => String::from_str(alloc, "no text"),
@@ -54,7 +91,7 @@ fn answer(alloc: Global, call: &str) -> Result<String, AllocError> {
 }
 
 /// A call, and what it answers.
-const CALLS: [(&str, &str); 67] = [
+const CALLS: [(&str, &str); 73] = [
     ("1 + 2", "3"),
     ("9223372036854775807 + 1", "IntegerOverflow"),
     ("1 + 'a", "TypeMismatch"),
@@ -109,6 +146,12 @@ const CALLS: [(&str, &str); 67] = [
     (":a to_s", "\"a\""),
     ("'a inspect", "\"\\\"a\\\"\""),
     (":a inspect", "\":a\""),
+    ("@0 to_s", "\"#<Point>\""),
+    ("@1 to_s", "\"#<Line>\""),
+    ("@2 to_s", "\"#<>\""),
+    ("@0 inspect", "\"#<Point>\""),
+    ("@1 inspect", "\"#<Line>\""),
+    ("@0 to_s 1", "ArgumentCount"),
     ("1 to_s 2", "ArgumentCount"),
     ("'ab + 'cd", "\"abcd\""),
     ("'ab + 1", "TypeMismatch"),
@@ -136,7 +179,7 @@ fn calls_answer(rt: HostRuntime) -> Result<(), Fail> {
 
 /// A text and itself behind it, or an argument behind a text.
 fn sum(alloc: Global, args: &[Value]) -> Result<Deed, AllocError> {
-    let names = Names::new(alloc);
+    let program = program_of(alloc, Names::new(alloc))?;
     let [first, ..] = args else {
         return Ok(Deed::Give(Value::Nil));
     };
@@ -144,7 +187,7 @@ fn sum(alloc: Global, args: &[Value]) -> Result<Deed, AllocError> {
     let [_, second @ ..] = args else {
         return Ok(Deed::Give(Value::Nil));
     };
-    deed_of(alloc, &names, &first, builtin_of(b"+"), second, None)
+    deed_of(alloc, &program, &first, builtin_of(b"+"), second, None)
 }
 
 #[test]

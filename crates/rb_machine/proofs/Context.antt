@@ -19,11 +19,11 @@ use Rattle.rb_model.specs.Acts.{Act, GetField, SetField, Reply}
 use Rattle.rb_model.specs.Acts as reply
 use Rattle.rb_model.specs.Ends as ending
 use Rattle.rb_machine.specs.Scopes.{Script, Text, Scope, text_of}
-use Rattle.rb_machine.specs.Control.{State, On, Cont, Then, Under, Test, Again, Turn, Frame, Step, AssignTo, FieldTo, GlobalTo, Rest, Choose, RightOfAnd, RightOfOr, Negate, ReturnOf, ReceiverOf, ReceiverToStore, Argument, Instead, Create, Initialize, PieceOf, IndexedBy, MemberOf, IndexOf, ReadOf, RightOf, WriteTo}
-use Rattle.rb_machine.specs.Control.{Eval, Give, Leave, Following, Looping, Turning, Passing, Joining, Making, Calling, Showing, Ended, Exit, Break, Next, Return, Aim, OnReceiver, ByName, Storing, Creating, Place, OfLocal, OfField, OfGlobal, OfElement, OfAttribute}
+use Rattle.rb_machine.specs.Control.{State, On, Cont, Then, Under, Test, Again, Turn, Frame, Step, AssignTo, FieldTo, GlobalTo, Rest, Choose, RightOfAnd, RightOfOr, Negate, ReturnOf, ReceiverOf, ReceiverToStore, Argument, Instead, Create, Initialize, PieceOf, JoinTo, WriteBehind, TextOf, IndexedBy, MemberOf, IndexOf, ReadOf, RightOf, WriteTo}
+use Rattle.rb_machine.specs.Control.{Eval, Give, Leave, Following, Looping, Turning, Passing, Joining, Making, Calling, Showing, Ended, Exit, Break, Next, Return, Aim, OnReceiver, ByName, Storing, Creating, Place, OfLocal, OfField, OfGlobal, OfElement, OfAttribute, Style, Lines, Plain}
 use Rattle.rb_machine.specs.Methods.{Answer, Gives, Raises, Loops, deed}
-use Rattle.rb_machine.specs.Texts.{max_bytes, shown, puts_text, print_text, p_text}
-use Rattle.rb_machine.specs.Call.{ask_of, named, texted, methods_of, params_of, invoked, top_level, own, last_value, enter, answered, invoke, operator, show, value_of_p, print, perform, read_place, decide, write_place, create, class_from, initialized}
+use Rattle.rb_machine.specs.Texts.{max_bytes, styled, p_text}
+use Rattle.rb_machine.specs.Call.{ask_of, named, texted, methods_of, params_of, invoked, top_level, own, last_value, enter, answered, invoke, operator, show, value_of_p, text_by, own_text, give_text, bytes_of, write, write_behind, put_lines, print, perform, read_place, decide, write_place, create, class_from, initialized}
 use Rattle.rb_machine.specs.Begin.{begin, begin_call, begin_target, begin_return}
 use Rattle.rb_machine.specs.Give.{join, give_step, give, leave}
 use Rattle.rb_machine.specs.Move.{join_piece}
@@ -60,7 +60,7 @@ module _ (S : Script) where
   invoked_local : (m : Option Method) (v : Value) (name : Text) (args : List Value) (block : Option Block) (at : Span) (r k : List Cont) (sc : Scope) (d left : ℕ) → invoked S m v name args block at (k ++ r) sc d left ≡ onto r (invoked S m v name args block at k sc d left)
   invoked_local (Some m) v name args None at r k sc d left = enter_local m v args at r k sc d left
   invoked_local (Some m) v name args (Some block) at r k sc d left = refl
-  invoked_local None v name args block at r k sc d left = answered_local (deed S.program.names v name args (params_of S block)) block at r k sc d left
+  invoked_local None v name args block at r k sc d left = answered_local (deed S.program v name args (params_of S block)) block at r k sc d left
 
   invoke_local : (v : Value) (name : Text) (args : List Value) (block : Option Block) (at : Span) (r k : List Cont) (sc : Scope) (d left : ℕ) → invoke S v name args block at (k ++ r) sc d left ≡ onto r (invoke S v name args block at k sc d left)
   invoke_local v name args block at r k sc d left = invoked_local (texted S name (methods_of S v)) v name args block at r k sc d left
@@ -69,11 +69,30 @@ module _ (S : Script) where
   show_local [] after at r k sc d left = refl
   show_local (b ∷ bs) after at r k sc d left = either (nat_lt max_bytes (length (b ∷ bs))) r _ _ _ _ refl refl
 
+  text_by_local : (m : Option Method) (v : Value) (at : Span) (r k : List Cont) (sc : Scope) (d left : ℕ) → text_by S m v at (k ++ r) sc d left ≡ onto r (text_by S m v at k sc d left)
+  text_by_local (Some m) v at r k sc d left = enter_local m v [] at r (Then (TextOf v) ∷ k) sc d left
+  text_by_local None v at r k sc d left = refl
+
+  give_text_local : (v : Value) (at : Span) (r k : List Cont) (sc : Scope) (d left : ℕ) → give_text S v at (k ++ r) sc d left ≡ onto r (give_text S v at k sc d left)
+  give_text_local v at r k sc d left = text_by_local (own_text S v) v at r k sc d left
+
+  written_local : (style : Style) (bytes : List ℕ) (vs : List Value) (at : Span) (r k : List Cont) (sc : Scope) (d left : ℕ) → write S style bytes vs at (k ++ r) sc d left ≡ onto r (write S style bytes vs at k sc d left)
+  written_local style bytes [] at r k sc d left = show_local bytes (Instead Nil) at r k sc d left
+  written_local style bytes (v ∷ vs) at r k sc d left = give_text_local v at r (Then (WriteBehind style bytes vs at) ∷ k) sc d left
+
+  behind_local : (style : Style) (bytes : List ℕ) (text : Text) (vs : List Value) (at : Span) (r k : List Cont) (sc : Scope) (d left : ℕ) → write_behind S style bytes text vs at (k ++ r) sc d left ≡ onto r (write_behind S style bytes text vs at k sc d left)
+  behind_local style bytes text vs at r k sc d left =
+      either (nat_lt max_bytes (length (bytes ++ styled style text))) r _ _ _ _ refl (written_local style (bytes ++ styled style text) vs at r k sc d left)
+
+  lines_local : (args : List Value) (at : Span) (r k : List Cont) (sc : Scope) (d left : ℕ) → put_lines S args at (k ++ r) sc d left ≡ onto r (put_lines S args at k sc d left)
+  lines_local [] at r k sc d left = show_local (10 ∷ []) (Instead Nil) at r k sc d left
+  lines_local (v ∷ vs) at r k sc d left = written_local Lines [] (v ∷ vs) at r k sc d left
+
   print_local : (name : Text) (args : List Value) (at : Span) (r k : List Cont) (sc : Scope) (d left : ℕ) → print S name args at (k ++ r) sc d left ≡ onto r (print S name args at k sc d left)
   print_local name args at r k sc d left =
-      either (bytes_eq name (codes "puts")) r _ _ _ _ (show_local (puts_text S.program.names args) (Instead Nil) at r k sc d left)
-      (either (bytes_eq name (codes "print")) r _ _ _ _ (show_local (print_text S.program.names args) (Instead Nil) at r k sc d left)
-      (either (bytes_eq name (codes "p")) r _ _ _ _ (show_local (p_text S.program.names args) (value_of_p S args) at r k sc d left) refl))
+      either (bytes_eq name (codes "puts")) r _ _ _ _ (lines_local args at r k sc d left)
+      (either (bytes_eq name (codes "print")) r _ _ _ _ (written_local Plain [] args at r k sc d left)
+      (either (bytes_eq name (codes "p")) r _ _ _ _ (show_local (p_text S.program args) (value_of_p S args) at r k sc d left) refl))
 
   top_level_local : (m : Option Method) (name : NameId) (args : List Value) (at : Span) (r k : List Cont) (sc : Scope) (d left : ℕ) → top_level S m name args at (k ++ r) sc d left ≡ onto r (top_level S m name args at k sc d left)
   top_level_local (Some m) name args at r k sc d left = enter_local m Nil args at r k sc d left
@@ -94,7 +113,7 @@ module _ (S : Script) where
 
   pub perform_local : (aim : Aim) (args : List Value) (at : Span) (r k : List Cont) (sc : Scope) (d left : ℕ) → perform S aim args at (k ++ r) sc d left ≡ onto r (perform S aim args at k sc d left)
   perform_local (OnReceiver v name block) args at r k sc d left = invoke_local v name args block at r k sc d left
-  perform_local (ByName name) args at r k sc d left = own_local (named S name (methods_of S sc.me)) name args at r k sc d left
+  perform_local (ByName name) args at r k sc d left = own_local (texted S (text_of S name) (methods_of S sc.me)) name args at r k sc d left
   perform_local (Storing v name) args at r k sc d left = invoke_local v name args None at r (Then (Instead (last_value S args)) ∷ k) sc d left
   perform_local (Creating class) args at r k sc d left = create_local (class_from S 0 class S.program.classes) args at r k sc d left
 
@@ -144,7 +163,10 @@ module _ (S : Script) where
   give_step_local v (Instead w) r k sc d left = refl
   give_step_local v (Create thing) r k sc d left = refl
   give_step_local v (Initialize args at) r k sc d left = initialized_local (texted S (codes "initialize") (methods_of S v)) v args at r k sc d left
-  give_step_local v (PieceOf bytes pieces at) r k sc d left = join_local bytes (shown S.program.names v) pieces at r k sc d left
+  give_step_local v (PieceOf bytes pieces at) r k sc d left = give_text_local v at r (Then (JoinTo bytes pieces at) ∷ k) sc d left
+  give_step_local v (JoinTo bytes pieces at) r k sc d left = join_local bytes (bytes_of S v) pieces at r k sc d left
+  give_step_local v (WriteBehind style bytes values at) r k sc d left = behind_local style bytes (bytes_of S v) values at r k sc d left
+  give_step_local v (TextOf object) r k sc d left = refl
   give_step_local v (IndexedBy index o value at) r k sc d left = refl
   give_step_local v (MemberOf name o value at) r k sc d left = read_local (OfAttribute v name) o value at r k sc d left
   give_step_local v (IndexOf w o value at) r k sc d left = read_local (OfElement w v) o value at r k sc d left

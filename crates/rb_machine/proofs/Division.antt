@@ -74,7 +74,7 @@ not_zero_itself (pos (suc n)) h = not_zero n
 not_zero_itself (negsuc n) h = grind (arith, ints)
 
 pub divisions_answer : DivisionsAnswer
-divisions_answer names m n = (
+divisions_answer P m n = (
   refl,
   refl,
   λ h. (

@@ -1,5 +1,5 @@
 -- Each silent move takes a step, or makes the work that is left less; so every state comes to a want.
-use Rattle.std.proofs.Common.{◌≡◌, ◌<◌, ◌≤◌, ◌⊎◌, inl, inr, ℕ, zero, suc, ◌+◌, Bool, true, false, cond, List, [], ◌∷◌, Option, Some, None, length, refl, sym, ◌∙◌, subst, arith}
+use Rattle.std.proofs.Common.{◌≡◌, ◌<◌, ◌≤◌, ◌⊎◌, inl, inr, ℕ, zero, suc, ◌+◌, ◌*◌, Bool, true, false, cond, List, [], ◌∷◌, Option, Some, None, length, refl, sym, ◌∙◌, subst, arith}
 use Rattle.std.specs.Prelude.{nat_lt, int_lt}
 use Rattle.rb_tree.specs.declared.span.Span.{Span}
 use Rattle.rb_tree.specs.declared.span.NameId.{NameId}
@@ -90,7 +90,7 @@ module _ (S : Script) where
   down (On (Following v (n ∷ ns)) k sc d left) = inr (refl, omega arith)
   down (On (Looping condition body) k sc d left) = inr (refl, omega arith)
   down (On (Turning turns block) k sc d left) = turn_less turns block k sc d left
-  down (On (Passing aim done [] at) k sc d left) = within_less left (7 + weights k) (On (Passing aim done [] at) k sc d left) _ refl (omega arith) (perform_within S aim done at k sc d left)
+  down (On (Passing aim done [] at) k sc d left) = within_less left (7 + 4 * length done + weights k) (On (Passing aim done [] at) k sc d left) _ refl (omega arith) (perform_within S aim done at k sc d left)
   down (On (Passing aim done (n ∷ ns) at) k sc d left) = inr (refl, omega arith)
   down (On (Joining bytes [] at) k sc d left) = inr (refl, omega arith)
   down (On (Joining bytes (p ∷ ps) at) k sc d left) = piece_less (out-Piece p) bytes p ps at k sc d left

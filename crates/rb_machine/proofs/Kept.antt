@@ -24,11 +24,11 @@ use Rattle.rb_model.specs.Values.{Value, Nil, False, True, Int, Sym, Str, To, tr
 use Rattle.rb_model.specs.Acts.{Act, GetField, SetField}
 use Rattle.rb_model.specs.Ends.{Steps}
 use Rattle.rb_machine.specs.Scopes.{Script, Text, Scope, Locals, text_of, found, assign, fresh, with_locals}
-use Rattle.rb_machine.specs.Control.{State, On, Cont, Then, Under, Test, Again, Turn, Frame, Step, AssignTo, FieldTo, GlobalTo, Rest, Choose, RightOfAnd, RightOfOr, Negate, ReturnOf, ReceiverOf, ReceiverToStore, Argument, Instead, Create, Initialize, PieceOf, IndexedBy, MemberOf, IndexOf, ReadOf, RightOf, WriteTo}
-use Rattle.rb_machine.specs.Control.{Ended, Exit, Break, Next, Return, Aim, OnReceiver, ByName, Storing, Creating, Place, OfLocal, OfField, OfGlobal, OfElement, OfAttribute, Turns, Counting}
+use Rattle.rb_machine.specs.Control.{State, On, Cont, Then, Under, Test, Again, Turn, Frame, Step, AssignTo, FieldTo, GlobalTo, Rest, Choose, RightOfAnd, RightOfOr, Negate, ReturnOf, ReceiverOf, ReceiverToStore, Argument, Instead, Create, Initialize, PieceOf, JoinTo, WriteBehind, TextOf, IndexedBy, MemberOf, IndexOf, ReadOf, RightOf, WriteTo}
+use Rattle.rb_machine.specs.Control.{Ended, Exit, Break, Next, Return, Aim, OnReceiver, ByName, Storing, Creating, Place, OfLocal, OfField, OfGlobal, OfElement, OfAttribute, Turns, Counting, Style, Lines, Plain}
 use Rattle.rb_machine.specs.Methods.{Answer, Gives, Raises, Loops, deed}
-use Rattle.rb_machine.specs.Texts.{max_bytes, shown, puts_text, print_text, p_text}
-use Rattle.rb_machine.specs.Call.{raised, ask_of, named, texted, methods_of, params_of, invoked, top_level, own, last_value, enter, answered, invoke, operator, show, value_of_p, print, perform, read_place, decide, write_place, create, class_from, initialized}
+use Rattle.rb_machine.specs.Texts.{max_bytes, styled, p_text}
+use Rattle.rb_machine.specs.Call.{raised, ask_of, named, texted, methods_of, params_of, invoked, top_level, own, last_value, enter, answered, invoke, operator, show, value_of_p, text_by, own_text, give_text, bytes_of, write, write_behind, put_lines, print, perform, read_place, decide, write_place, create, class_from, initialized}
 use Rattle.rb_machine.specs.Begin.{begin, begin_call, begin_target, begin_return}
 use Rattle.rb_machine.specs.Give.{back, join, give_step, give, leave}
 use Rattle.rb_machine.specs.Move.{start_node, start_turn, turn, join_piece, max_depth, first_of_turn}
@@ -93,7 +93,7 @@ module _ (S : Script) where
   invoked_sound : (m : Option Method) (v : Value) (name : Text) (args : List Value) (block : Option Block) (at : Span) (k : List Cont) (sc : Scope) (d left : ℕ) → Inside k sc → Sound (invoked S m v name args block at k sc d left)
   invoked_sound (Some m) v name args None at k sc d left h = enter_sound m v args at k sc d left h
   invoked_sound (Some m) v name args (Some block) at k sc d left h = raised_sound _ at left
-  invoked_sound None v name args block at k sc d left h = answered_sound (deed S.program.names v name args (params_of S block)) block at k sc d left h
+  invoked_sound None v name args block at k sc d left h = answered_sound (deed S.program v name args (params_of S block)) block at k sc d left h
 
   invoke_sound : (v : Value) (name : Text) (args : List Value) (block : Option Block) (at : Span) (k : List Cont) (sc : Scope) (d left : ℕ) → Inside k sc → Sound (invoke S v name args block at k sc d left)
   invoke_sound v name args block at k sc d left h = invoked_sound (texted S name (methods_of S v)) v name args block at k sc d left h
@@ -102,11 +102,30 @@ module _ (S : Script) where
   show_sound [] after at k sc d left h = h
   show_sound (b ∷ bs) after at k sc d left h = either_sound (nat_lt max_bytes (length (b ∷ bs))) _ _ (raised_sound _ at left) h
 
+  text_by_sound : (m : Option Method) (v : Value) (at : Span) (k : List Cont) (sc : Scope) (d left : ℕ) → Inside k sc → Sound (text_by S m v at k sc d left)
+  text_by_sound (Some m) v at k sc d left h = enter_sound m v [] at (Then (TextOf v) ∷ k) sc d left h
+  text_by_sound None v at k sc d left h = h
+
+  give_text_sound : (v : Value) (at : Span) (k : List Cont) (sc : Scope) (d left : ℕ) → Inside k sc → Sound (give_text S v at k sc d left)
+  give_text_sound v at k sc d left h = text_by_sound (own_text S v) v at k sc d left h
+
+  written_sound : (style : Style) (bytes : List ℕ) (vs : List Value) (at : Span) (k : List Cont) (sc : Scope) (d left : ℕ) → Inside k sc → Sound (write S style bytes vs at k sc d left)
+  written_sound style bytes [] at k sc d left h = show_sound bytes (Instead Nil) at k sc d left h
+  written_sound style bytes (v ∷ vs) at k sc d left h = give_text_sound v at (Then (WriteBehind style bytes vs at) ∷ k) sc d left h
+
+  behind_sound : (style : Style) (bytes : List ℕ) (text : Text) (vs : List Value) (at : Span) (k : List Cont) (sc : Scope) (d left : ℕ) → Inside k sc → Sound (write_behind S style bytes text vs at k sc d left)
+  behind_sound style bytes text vs at k sc d left h =
+      either_sound (nat_lt max_bytes (length (bytes ++ styled style text))) _ _ (raised_sound _ at left) (written_sound style (bytes ++ styled style text) vs at k sc d left h)
+
+  lines_sound : (args : List Value) (at : Span) (k : List Cont) (sc : Scope) (d left : ℕ) → Inside k sc → Sound (put_lines S args at k sc d left)
+  lines_sound [] at k sc d left h = show_sound (10 ∷ []) (Instead Nil) at k sc d left h
+  lines_sound (v ∷ vs) at k sc d left h = written_sound Lines [] (v ∷ vs) at k sc d left h
+
   print_sound : (name : Text) (args : List Value) (at : Span) (k : List Cont) (sc : Scope) (d left : ℕ) → Inside k sc → Sound (print S name args at k sc d left)
   print_sound name args at k sc d left h =
-      either_sound (bytes_eq name (codes "puts")) _ _ (show_sound (puts_text S.program.names args) (Instead Nil) at k sc d left h)
-      (either_sound (bytes_eq name (codes "print")) _ _ (show_sound (print_text S.program.names args) (Instead Nil) at k sc d left h)
-      (either_sound (bytes_eq name (codes "p")) _ _ (show_sound (p_text S.program.names args) (value_of_p S args) at k sc d left h) (raised_sound _ at left)))
+      either_sound (bytes_eq name (codes "puts")) _ _ (lines_sound args at k sc d left h)
+      (either_sound (bytes_eq name (codes "print")) _ _ (written_sound Plain [] args at k sc d left h)
+      (either_sound (bytes_eq name (codes "p")) _ _ (show_sound (p_text S.program args) (value_of_p S args) at k sc d left h) (raised_sound _ at left)))
 
   top_level_sound : (m : Option Method) (name : NameId) (args : List Value) (at : Span) (k : List Cont) (sc : Scope) (d left : ℕ) → Inside k sc → Sound (top_level S m name args at k sc d left)
   top_level_sound (Some m) name args at k sc d left h = enter_sound m Nil args at k sc d left h
@@ -127,7 +146,7 @@ module _ (S : Script) where
 
   pub perform_sound : (aim : Aim) (args : List Value) (at : Span) (k : List Cont) (sc : Scope) (d left : ℕ) → Inside k sc → Sound (perform S aim args at k sc d left)
   perform_sound (OnReceiver v name block) args at k sc d left h = invoke_sound v name args block at k sc d left h
-  perform_sound (ByName name) args at k sc d left h = own_sound (named S name (methods_of S sc.me)) name args at k sc d left h
+  perform_sound (ByName name) args at k sc d left h = own_sound (texted S (text_of S name) (methods_of S sc.me)) name args at k sc d left h
   perform_sound (Storing v name) args at k sc d left h = invoke_sound v name args None at (Then (Instead (last_value S args)) ∷ k) sc d left h
   perform_sound (Creating class) args at k sc d left h = create_sound (class_from S 0 class S.program.classes) args at k sc d left h
 
@@ -180,7 +199,10 @@ module _ (S : Script) where
   give_step_sound v (Instead w) k sc d left h = h
   give_step_sound v (Create thing) k sc d left h = h
   give_step_sound v (Initialize args at) k sc d left h = initialized_sound (texted S (codes "initialize") (methods_of S v)) v args at k sc d left h
-  give_step_sound v (PieceOf bytes pieces at) k sc d left h = join_sound bytes (shown S.program.names v) pieces at k sc d left h
+  give_step_sound v (PieceOf bytes pieces at) k sc d left h = give_text_sound v at (Then (JoinTo bytes pieces at) ∷ k) sc d left h
+  give_step_sound v (JoinTo bytes pieces at) k sc d left h = join_sound bytes (bytes_of S v) pieces at k sc d left h
+  give_step_sound v (WriteBehind style bytes values at) k sc d left h = behind_sound style bytes (bytes_of S v) values at k sc d left h
+  give_step_sound v (TextOf object) k sc d left h = h
   give_step_sound v (IndexedBy index o value at) k sc d left h = h
   give_step_sound v (MemberOf name o value at) k sc d left h = read_sound (OfAttribute v name) o value at k sc d left h
   give_step_sound v (IndexOf w o value at) k sc d left h = read_sound (OfElement w v) o value at k sc d left h

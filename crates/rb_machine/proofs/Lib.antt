@@ -17,3 +17,5 @@ pub mod Budgets
 pub mod Main
 pub mod Examples
 pub mod Making
+pub mod Telling
+pub mod Printing

@@ -1,7 +1,8 @@
 -- The work that is left where no step begins: each silent move makes it less, or takes a step.
-use Rattle.std.proofs.Common.{◌≡◌, ◌≤◌, ℕ, ◌+◌, Bool, true, false, cond, List, [], ◌∷◌, ◌++◌, Option, Some, None, length, refl, arith}
+use Rattle.std.proofs.Common.{◌≡◌, ◌≤◌, ℕ, ◌+◌, ◌*◌, Bool, true, false, cond, List, [], ◌∷◌, ◌++◌, Option, Some, None, length, refl, arith}
 use Rattle.std.specs.Prelude.{nat_lt, nat_eq, codes}
 use Rattle.std.specs.Str.{bytes_eq}
+use Rattle.std.proofs.lemmas.List.{length-append}
 use Rattle.rb_tree.specs.declared.span.Span.{Span}
 use Rattle.rb_tree.specs.declared.span.NameId.{NameId}
 use Rattle.rb_tree.specs.declared.node.AssignOp.{AssignOp}
@@ -13,11 +14,11 @@ use Rattle.rb_tree.specs.declared.node.Method.{Method}
 use Rattle.rb_model.specs.Values.{Value, Nil, False, True, Int, Sym, Str, To, truthy}
 use Rattle.rb_model.specs.Acts.{Act}
 use Rattle.rb_machine.specs.Scopes.{Script, Text, Scope, text_of}
-use Rattle.rb_machine.specs.Control.{State, On, Cont, Then, Under, Test, Again, Turn, Frame, Step, AssignTo, FieldTo, GlobalTo, Rest, Choose, RightOfAnd, RightOfOr, Negate, ReturnOf, ReceiverOf, ReceiverToStore, Argument, Instead, Create, Initialize, PieceOf, IndexedBy, MemberOf, IndexOf, ReadOf, RightOf, WriteTo}
-use Rattle.rb_machine.specs.Control.{Eval, Give, Leave, Following, Looping, Turning, Passing, Joining, Making, Calling, Showing, Ended, Exit, Break, Next, Return, Aim, OnReceiver, ByName, Storing, Creating, Place, OfLocal, OfField, OfGlobal, OfElement, OfAttribute}
+use Rattle.rb_machine.specs.Control.{State, On, Cont, Then, Under, Test, Again, Turn, Frame, Step, AssignTo, FieldTo, GlobalTo, Rest, Choose, RightOfAnd, RightOfOr, Negate, ReturnOf, ReceiverOf, ReceiverToStore, Argument, Instead, Create, Initialize, PieceOf, JoinTo, WriteBehind, TextOf, IndexedBy, MemberOf, IndexOf, ReadOf, RightOf, WriteTo}
+use Rattle.rb_machine.specs.Control.{Eval, Give, Leave, Following, Looping, Turning, Passing, Joining, Making, Calling, Showing, Ended, Exit, Break, Next, Return, Aim, OnReceiver, ByName, Storing, Creating, Place, OfLocal, OfField, OfGlobal, OfElement, OfAttribute, Style, Lines, Plain}
 use Rattle.rb_machine.specs.Methods.{Answer, Gives, Raises, Loops}
-use Rattle.rb_machine.specs.Texts.{max_bytes, shown, puts_text, print_text, p_text}
-use Rattle.rb_machine.specs.Call.{ask_of, named, texted, methods_of, invoked, top_level, own, last_value, enter, answered, invoke, show, value_of_p, print, perform, read_place, decide, write_place, create, class_from, initialized}
+use Rattle.rb_machine.specs.Texts.{max_bytes, styled, p_text}
+use Rattle.rb_machine.specs.Call.{ask_of, named, texted, methods_of, invoked, top_level, own, last_value, enter, answered, invoke, show, value_of_p, text_by, own_text, give_text, bytes_of, write, write_behind, put_lines, print, perform, read_place, decide, write_place, create, class_from, initialized}
 use Rattle.rb_machine.specs.Give.{join, give_step, give, leave}
 use Rattle.rb_machine.specs.Move.{left_in}
 
@@ -29,10 +30,12 @@ step_weight (Rest nodes) = 2
 step_weight (Choose first second) = 2
 step_weight (ReceiverOf name args block at) = 7
 step_weight (ReceiverToStore name args at) = 7
-step_weight (Argument aim done rest at) = 7
+step_weight (Argument aim done rest at) = 11 + 4 * length done
 step_weight (Create thing) = 2
 step_weight (Initialize args at) = 4
-step_weight (PieceOf bytes pieces at) = 2 + length pieces
+step_weight (PieceOf bytes pieces at) = 6 + length pieces
+step_weight (JoinTo bytes pieces at) = 2 + length pieces
+step_weight (WriteBehind style bytes values at) = 4 + 4 * length values
 step_weight (MemberOf name o value at) = 4
 step_weight (IndexOf receiver o value at) = 4
 step_weight (RightOf current o at) = 3
@@ -62,7 +65,7 @@ size (On (Making thing) k sc d left) = 3 + weights k
 size (On (Calling thing act at) k sc d left) = 3 + weights k
 size (On (Showing bytes) k sc d left) = 3 + weights k
 size (On (Joining bytes pieces at) k sc d left) = 3 + length pieces + weights k
-size (On (Passing aim done rest at) k sc d left) = 8 + weights k
+size (On (Passing aim done rest at) k sc d left) = 8 + 4 * length done + weights k
 
 -- no step is taken, and no more than this is left to do
 abbrev pub Within : ℕ → ℕ → State → Type 0
@@ -115,18 +118,39 @@ module _ (S : Script) where
   p_weighs (v ∷ []) = omega arith
   p_weighs (v ∷ w ∷ vs) = omega arith
 
-  pub print_within : (name : Text) (args : List Value) (at : Span) (k : List Cont) (sc : Scope) (d left : ℕ) → Within left (5 + weights k) (print S name args at k sc d left)
-  print_within name args at k sc d left =
-      one_of (bytes_eq name (codes "puts")) left _ _ _ (show_within (puts_text S.program.names args) (Instead Nil) at k sc d left (omega arith))
-      (one_of (bytes_eq name (codes "print")) left _ _ _ (show_within (print_text S.program.names args) (Instead Nil) at k sc d left (omega arith))
-      (one_of (bytes_eq name (codes "p")) left _ _ _ (show_within (p_text S.program.names args) (value_of_p S args) at k sc d left (p_weighs args)) (refl, omega arith)))
+  text_by_within : (m : Option Method) (v : Value) (at : Span) (k : List Cont) (sc : Scope) (d left : ℕ) → Within left (5 + weights k) (text_by S m v at k sc d left)
+  text_by_within (Some m) v at k sc d left = wider left _ _ _ (omega arith) (enter_within m v [] at (Then (TextOf v) ∷ k) sc d left)
+  text_by_within None v at k sc d left = (refl, omega arith)
 
-  pub top_level_within : (m : Option Method) (name : NameId) (args : List Value) (at : Span) (k : List Cont) (sc : Scope) (d left : ℕ) → Within left (5 + weights k) (top_level S m name args at k sc d left)
-  top_level_within (Some m) name args at k sc d left = wider left (4 + weights k) _ _ (omega arith) (enter_within m Nil args at k sc d left)
+  pub give_text_within : (v : Value) (at : Span) (k : List Cont) (sc : Scope) (d left : ℕ) → Within left (5 + weights k) (give_text S v at k sc d left)
+  give_text_within v at k sc d left = text_by_within (own_text S v) v at k sc d left
+
+  -- each value that is left may be asked for its text
+  pub written_within : (style : Style) (bytes : List ℕ) (vs : List Value) (at : Span) (k : List Cont) (sc : Scope) (d left : ℕ) → Within left (5 + 4 * length vs + weights k) (write S style bytes vs at k sc d left)
+  written_within style bytes [] at k sc d left = wider left _ _ _ (omega arith) (show_within bytes (Instead Nil) at k sc d left (omega arith))
+  written_within style bytes (v ∷ vs) at k sc d left = wider left _ _ _ (omega arith) (give_text_within v at (Then (WriteBehind style bytes vs at) ∷ k) sc d left)
+
+  behind_within : (style : Style) (bytes : List ℕ) (text : Text) (vs : List Value) (at : Span) (k : List Cont) (sc : Scope) (d left : ℕ)
+      → Within left (5 + 4 * length vs + weights k) (write_behind S style bytes text vs at k sc d left)
+  behind_within style bytes text vs at k sc d left =
+      one_of (nat_lt max_bytes (length (bytes ++ styled style text))) left _ _ _ (refl, omega arith) (written_within style (bytes ++ styled style text) vs at k sc d left)
+
+  lines_within : (args : List Value) (at : Span) (k : List Cont) (sc : Scope) (d left : ℕ) → Within left (5 + 4 * length args + weights k) (put_lines S args at k sc d left)
+  lines_within [] at k sc d left = (refl, omega arith)
+  lines_within (v ∷ vs) at k sc d left = written_within Lines [] (v ∷ vs) at k sc d left
+
+  pub print_within : (name : Text) (args : List Value) (at : Span) (k : List Cont) (sc : Scope) (d left : ℕ) → Within left (5 + 4 * length args + weights k) (print S name args at k sc d left)
+  print_within name args at k sc d left =
+      one_of (bytes_eq name (codes "puts")) left _ _ _ (lines_within args at k sc d left)
+      (one_of (bytes_eq name (codes "print")) left _ _ _ (written_within Plain [] args at k sc d left)
+      (one_of (bytes_eq name (codes "p")) left _ _ _ (wider left _ _ _ (omega arith) (show_within (p_text S.program args) (value_of_p S args) at k sc d left (p_weighs args))) (refl, omega arith)))
+
+  pub top_level_within : (m : Option Method) (name : NameId) (args : List Value) (at : Span) (k : List Cont) (sc : Scope) (d left : ℕ) → Within left (5 + 4 * length args + weights k) (top_level S m name args at k sc d left)
+  top_level_within (Some m) name args at k sc d left = wider left _ _ _ (omega arith) (enter_within m Nil args at k sc d left)
   top_level_within None name args at k sc d left = print_within (text_of S name) args at k sc d left
 
-  pub own_within : (m : Option Method) (name : NameId) (args : List Value) (at : Span) (k : List Cont) (sc : Scope) (d left : ℕ) → Within left (5 + weights k) (own S m name args at k sc d left)
-  own_within (Some m) name args at k sc d left = wider left (4 + weights k) _ _ (omega arith) (enter_within m sc.me args at k sc d left)
+  pub own_within : (m : Option Method) (name : NameId) (args : List Value) (at : Span) (k : List Cont) (sc : Scope) (d left : ℕ) → Within left (5 + 4 * length args + weights k) (own S m name args at k sc d left)
+  own_within (Some m) name args at k sc d left = wider left _ _ _ (omega arith) (enter_within m sc.me args at k sc d left)
   own_within None name args at k sc d left = top_level_within (named S name S.program.functions) name args at k sc d left
 
   create_within : (class : Option ℕ) (args : List Value) (at : Span) (k : List Cont) (sc : Scope) (d left : ℕ) → Within left (7 + weights k) (create S class args at k sc d left)
@@ -138,11 +162,11 @@ module _ (S : Script) where
   initialized_within None object [] at k sc d left = (refl, omega arith)
   initialized_within None object (v ∷ vs) at k sc d left = (refl, omega arith)
 
-  pub perform_within : (aim : Aim) (args : List Value) (at : Span) (k : List Cont) (sc : Scope) (d left : ℕ) → Within left (7 + weights k) (perform S aim args at k sc d left)
-  perform_within (OnReceiver v name block) args at k sc d left = wider left (4 + weights k) _ _ (omega arith) (invoke_within v name args block at k sc d left)
-  perform_within (ByName name) args at k sc d left = wider left (5 + weights k) _ _ (omega arith) (own_within (named S name (methods_of S sc.me)) name args at k sc d left)
+  pub perform_within : (aim : Aim) (args : List Value) (at : Span) (k : List Cont) (sc : Scope) (d left : ℕ) → Within left (7 + 4 * length args + weights k) (perform S aim args at k sc d left)
+  perform_within (OnReceiver v name block) args at k sc d left = wider left _ _ _ (omega arith) (invoke_within v name args block at k sc d left)
+  perform_within (ByName name) args at k sc d left = wider left _ _ _ (omega arith) (own_within (texted S (text_of S name) (methods_of S sc.me)) name args at k sc d left)
   perform_within (Storing v name) args at k sc d left = wider left _ _ _ (omega arith) (invoke_within v name args None at (Then (Instead (last_value S args)) ∷ k) sc d left)
-  perform_within (Creating class) args at k sc d left = create_within (class_from S 0 class S.program.classes) args at k sc d left
+  perform_within (Creating class) args at k sc d left = wider left _ _ _ (omega arith) (create_within (class_from S 0 class S.program.classes) args at k sc d left)
 
   pub read_within : (place : Place) (o : AssignOp) (value : Node) (at : Span) (k : List Cont) (sc : Scope) (d left : ℕ) → Within left (5 + weights k) (read_place S place o value at k sc d left)
   read_within (OfLocal name) o value at k sc d left = (refl, omega arith)
@@ -182,11 +206,14 @@ module _ (S : Script) where
   give_step_within v ReturnOf k sc d left = (refl, omega arith)
   give_step_within v (ReceiverOf name args block at) k sc d left = (refl, omega arith)
   give_step_within v (ReceiverToStore name args at) k sc d left = (refl, omega arith)
-  give_step_within v (Argument aim done rest at) k sc d left = (refl, omega arith)
+  give_step_within v (Argument aim done rest at) k sc d left = let e = length-append done (v ∷ []) in (refl, omega (arith, e))
   give_step_within v (Instead w) k sc d left = (refl, omega arith)
   give_step_within v (Create thing) k sc d left = (refl, omega arith)
   give_step_within v (Initialize args at) k sc d left = initialized_within (texted S (codes "initialize") (methods_of S v)) v args at k sc d left
-  give_step_within v (PieceOf bytes pieces at) k sc d left = wider left _ _ _ (omega arith) (join_within bytes (shown S.program.names v) pieces at k sc d left)
+  give_step_within v (PieceOf bytes pieces at) k sc d left = wider left _ _ _ (omega arith) (give_text_within v at (Then (JoinTo bytes pieces at) ∷ k) sc d left)
+  give_step_within v (JoinTo bytes pieces at) k sc d left = wider left _ _ _ (omega arith) (join_within bytes (bytes_of S v) pieces at k sc d left)
+  give_step_within v (WriteBehind style bytes values at) k sc d left = wider left _ _ _ (omega arith) (behind_within style bytes (bytes_of S v) values at k sc d left)
+  give_step_within v (TextOf object) k sc d left = (refl, omega arith)
   give_step_within v (IndexedBy index o value at) k sc d left = (refl, omega arith)
   give_step_within v (MemberOf name o value at) k sc d left = read_within (OfAttribute v name) o value at k sc d left
   give_step_within v (IndexOf w o value at) k sc d left = read_within (OfElement w v) o value at k sc d left
@@ -222,6 +249,9 @@ module _ (S : Script) where
       weighs (Create thing) = omega arith
       weighs (Initialize args at) = omega arith
       weighs (PieceOf bytes pieces at) = omega arith
+      weighs (JoinTo bytes pieces at) = omega arith
+      weighs (WriteBehind style bytes values at) = omega arith
+      weighs (TextOf object) = omega arith
       weighs (IndexedBy index o value at) = omega arith
       weighs (MemberOf name o value at) = omega arith
       weighs (IndexOf w o value at) = omega arith

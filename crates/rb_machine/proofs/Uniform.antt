@@ -19,11 +19,11 @@ use Rattle.rb_model.specs.Acts.{Act, GetField, SetField, Reply}
 use Rattle.rb_model.specs.Acts as reply
 use Rattle.rb_model.specs.Ends as ending
 use Rattle.rb_machine.specs.Scopes.{Script, Text, Scope, text_of}
-use Rattle.rb_machine.specs.Control.{State, On, Cont, Then, Under, Test, Again, Turn, Frame, Step, AssignTo, FieldTo, GlobalTo, Rest, Choose, RightOfAnd, RightOfOr, Negate, ReturnOf, ReceiverOf, ReceiverToStore, Argument, Instead, Create, Initialize, PieceOf, IndexedBy, MemberOf, IndexOf, ReadOf, RightOf, WriteTo}
-use Rattle.rb_machine.specs.Control.{Eval, Give, Leave, Following, Looping, Turning, Passing, Joining, Making, Calling, Showing, Ended, Exit, Break, Next, Return, Aim, OnReceiver, ByName, Storing, Creating, Place, OfLocal, OfField, OfGlobal, OfElement, OfAttribute}
+use Rattle.rb_machine.specs.Control.{State, On, Cont, Then, Under, Test, Again, Turn, Frame, Step, AssignTo, FieldTo, GlobalTo, Rest, Choose, RightOfAnd, RightOfOr, Negate, ReturnOf, ReceiverOf, ReceiverToStore, Argument, Instead, Create, Initialize, PieceOf, JoinTo, WriteBehind, TextOf, IndexedBy, MemberOf, IndexOf, ReadOf, RightOf, WriteTo}
+use Rattle.rb_machine.specs.Control.{Eval, Give, Leave, Following, Looping, Turning, Passing, Joining, Making, Calling, Showing, Ended, Exit, Break, Next, Return, Aim, OnReceiver, ByName, Storing, Creating, Place, OfLocal, OfField, OfGlobal, OfElement, OfAttribute, Style, Lines, Plain}
 use Rattle.rb_machine.specs.Methods.{Answer, Gives, Raises, Loops, deed}
-use Rattle.rb_machine.specs.Texts.{max_bytes, shown, puts_text, print_text, p_text}
-use Rattle.rb_machine.specs.Call.{ask_of, named, texted, methods_of, params_of, invoked, top_level, own, last_value, enter, answered, invoke, operator, show, value_of_p, print, perform, read_place, decide, write_place, create, class_from, initialized}
+use Rattle.rb_machine.specs.Texts.{max_bytes, styled, p_text}
+use Rattle.rb_machine.specs.Call.{ask_of, named, texted, methods_of, params_of, invoked, top_level, own, last_value, enter, answered, invoke, operator, show, value_of_p, text_by, own_text, give_text, bytes_of, write, write_behind, put_lines, print, perform, read_place, decide, write_place, create, class_from, initialized}
 use Rattle.rb_machine.specs.Begin.{begin, begin_call, begin_target, begin_return}
 use Rattle.rb_machine.specs.Give.{join, give_step, give, leave}
 use Rattle.rb_machine.specs.Move.{join_piece, replied}
@@ -63,7 +63,7 @@ module _ (S : Script) where
   invoked_uniform : (m : Option Method) (v : Value) (name : Text) (args : List Value) (block : Option Block) (at : Span) (k : List Cont) (sc : Scope) (d : ℕ) → Uniform (invoked S m v name args block at k sc d)
   invoked_uniform (Some m) v name args None at k sc d j left = enter_uniform m v args at k sc d j left
   invoked_uniform (Some m) v name args (Some block) at k sc d j left = refl
-  invoked_uniform None v name args block at k sc d j left = answered_uniform (deed S.program.names v name args (params_of S block)) block at k sc d j left
+  invoked_uniform None v name args block at k sc d j left = answered_uniform (deed S.program v name args (params_of S block)) block at k sc d j left
 
   invoke_uniform : (v : Value) (name : Text) (args : List Value) (block : Option Block) (at : Span) (k : List Cont) (sc : Scope) (d : ℕ) → Uniform (invoke S v name args block at k sc d)
   invoke_uniform v name args block at k sc d j left = invoked_uniform (texted S name (methods_of S v)) v name args block at k sc d j left
@@ -72,11 +72,30 @@ module _ (S : Script) where
   show_uniform [] after at k sc d j left = refl
   show_uniform (b ∷ bs) after at k sc d j left = either (nat_lt max_bytes (length (b ∷ bs))) j _ _ _ _ refl refl
 
+  text_by_uniform : (m : Option Method) (v : Value) (at : Span) (k : List Cont) (sc : Scope) (d : ℕ) → Uniform (text_by S m v at k sc d)
+  text_by_uniform (Some m) v at k sc d j left = enter_uniform m v [] at (Then (TextOf v) ∷ k) sc d j left
+  text_by_uniform None v at k sc d j left = refl
+
+  give_text_uniform : (v : Value) (at : Span) (k : List Cont) (sc : Scope) (d : ℕ) → Uniform (give_text S v at k sc d)
+  give_text_uniform v at k sc d j left = text_by_uniform (own_text S v) v at k sc d j left
+
+  written_uniform : (style : Style) (bytes : List ℕ) (vs : List Value) (at : Span) (k : List Cont) (sc : Scope) (d : ℕ) → Uniform (write S style bytes vs at k sc d)
+  written_uniform style bytes [] at k sc d j left = show_uniform bytes (Instead Nil) at k sc d j left
+  written_uniform style bytes (v ∷ vs) at k sc d j left = give_text_uniform v at (Then (WriteBehind style bytes vs at) ∷ k) sc d j left
+
+  behind_uniform : (style : Style) (bytes : List ℕ) (text : Text) (vs : List Value) (at : Span) (k : List Cont) (sc : Scope) (d : ℕ) → Uniform (write_behind S style bytes text vs at k sc d)
+  behind_uniform style bytes text vs at k sc d j left =
+      either (nat_lt max_bytes (length (bytes ++ styled style text))) j _ _ _ _ refl (written_uniform style (bytes ++ styled style text) vs at k sc d j left)
+
+  lines_uniform : (args : List Value) (at : Span) (k : List Cont) (sc : Scope) (d : ℕ) → Uniform (put_lines S args at k sc d)
+  lines_uniform [] at k sc d j left = show_uniform (10 ∷ []) (Instead Nil) at k sc d j left
+  lines_uniform (v ∷ vs) at k sc d j left = written_uniform Lines [] (v ∷ vs) at k sc d j left
+
   print_uniform : (name : Text) (args : List Value) (at : Span) (k : List Cont) (sc : Scope) (d : ℕ) → Uniform (print S name args at k sc d)
   print_uniform name args at k sc d j left =
-      either (bytes_eq name (codes "puts")) j _ _ _ _ (show_uniform (puts_text S.program.names args) (Instead Nil) at k sc d j left)
-      (either (bytes_eq name (codes "print")) j _ _ _ _ (show_uniform (print_text S.program.names args) (Instead Nil) at k sc d j left)
-      (either (bytes_eq name (codes "p")) j _ _ _ _ (show_uniform (p_text S.program.names args) (value_of_p S args) at k sc d j left) refl))
+      either (bytes_eq name (codes "puts")) j _ _ _ _ (lines_uniform args at k sc d j left)
+      (either (bytes_eq name (codes "print")) j _ _ _ _ (written_uniform Plain [] args at k sc d j left)
+      (either (bytes_eq name (codes "p")) j _ _ _ _ (show_uniform (p_text S.program args) (value_of_p S args) at k sc d j left) refl))
 
   top_level_uniform : (m : Option Method) (name : NameId) (args : List Value) (at : Span) (k : List Cont) (sc : Scope) (d : ℕ) → Uniform (top_level S m name args at k sc d)
   top_level_uniform (Some m) name args at k sc d j left = enter_uniform m Nil args at k sc d j left
@@ -97,7 +116,7 @@ module _ (S : Script) where
 
   pub perform_uniform : (aim : Aim) (args : List Value) (at : Span) (k : List Cont) (sc : Scope) (d : ℕ) → Uniform (perform S aim args at k sc d)
   perform_uniform (OnReceiver v name block) args at k sc d j left = invoke_uniform v name args block at k sc d j left
-  perform_uniform (ByName name) args at k sc d j left = own_uniform (named S name (methods_of S sc.me)) name args at k sc d j left
+  perform_uniform (ByName name) args at k sc d j left = own_uniform (texted S (text_of S name) (methods_of S sc.me)) name args at k sc d j left
   perform_uniform (Storing v name) args at k sc d j left = invoke_uniform v name args None at (Then (Instead (last_value S args)) ∷ k) sc d j left
   perform_uniform (Creating class) args at k sc d j left = create_uniform (class_from S 0 class S.program.classes) args at k sc d j left
 
@@ -147,7 +166,10 @@ module _ (S : Script) where
   give_step_uniform v (Instead w) k sc d j left = refl
   give_step_uniform v (Create thing) k sc d j left = refl
   give_step_uniform v (Initialize args at) k sc d j left = initialized_uniform (texted S (codes "initialize") (methods_of S v)) v args at k sc d j left
-  give_step_uniform v (PieceOf bytes pieces at) k sc d j left = join_uniform bytes (shown S.program.names v) pieces at k sc d j left
+  give_step_uniform v (PieceOf bytes pieces at) k sc d j left = give_text_uniform v at (Then (JoinTo bytes pieces at) ∷ k) sc d j left
+  give_step_uniform v (JoinTo bytes pieces at) k sc d j left = join_uniform bytes (bytes_of S v) pieces at k sc d j left
+  give_step_uniform v (WriteBehind style bytes values at) k sc d j left = behind_uniform style bytes (bytes_of S v) values at k sc d j left
+  give_step_uniform v (TextOf object) k sc d j left = refl
   give_step_uniform v (IndexedBy index o value at) k sc d j left = refl
   give_step_uniform v (MemberOf name o value at) k sc d j left = read_uniform (OfAttribute v name) o value at k sc d j left
   give_step_uniform v (IndexOf w o value at) k sc d j left = read_uniform (OfElement w v) o value at k sc d j left

@@ -14,13 +14,13 @@ use Rattle.rb_model.specs.declared.value.Sort.{Sort}
 use Rattle.rb_model.specs.declared.value.Sort.TheVariants as sort
 use Rattle.rb_model.specs.declared.fault.Fault.{Fault}
 use Rattle.rb_model.specs.declared.fault.Fault.TheVariants.{NoMethod, ArgumentCount, TextTooLong}
-use Rattle.rb_model.specs.Values.{Value, Nil, To, Reference, truthy}
+use Rattle.rb_model.specs.Values.{Value, Nil, Str, To, Reference, truthy}
 use Rattle.rb_model.specs.Acts.{Act, GetField, SetField}
 use Rattle.rb_model.specs.Ends.{End, Raised}
 use Rattle.rb_model.specs.Things as thing
 use Rattle.rb_machine.specs.Scopes.{Script, Text, Scope, text_of, look, assign, fresh, with_locals}
-use Rattle.rb_machine.specs.Control.{State, On, Cont, Then, Frame, Step, Eval, Give, Following, Turning, Making, Calling, Showing, Ended, Aim, OnReceiver, ByName, Storing, Creating, Instead, Create, Initialize, Place, OfLocal, OfField, OfGlobal, OfElement, OfAttribute, ReadOf, RightOf, WriteTo}
-use Rattle.rb_machine.specs.Texts.{max_bytes, puts_text, print_text, p_text}
+use Rattle.rb_machine.specs.Control.{State, On, Cont, Then, Frame, Step, Eval, Give, Following, Turning, Making, Calling, Showing, Ended, Aim, OnReceiver, ByName, Storing, Creating, Instead, Create, Initialize, Place, OfLocal, OfField, OfGlobal, OfElement, OfAttribute, ReadOf, RightOf, WriteTo, Style, Lines, Plain, WriteBehind, TextOf}
+use Rattle.rb_machine.specs.Texts.{max_bytes, shown, styled, p_text}
 use Rattle.rb_machine.specs.Methods.{Answer, Gives, Raises, Loops, deed}
 
 -- the end of a thread
@@ -97,7 +97,7 @@ module _ (S : Script) where
   abbrev pub invoked : Option Method → Value → Text → List Value → Option Block → Span → List Cont → Scope → ℕ → ℕ → State
   invoked (Some m) receiver name args None at k sc d left = enter m receiver args at k sc d left
   invoked (Some m) receiver name args (Some block) at k sc d left = raised NoMethod at left
-  invoked None receiver name args block at k sc d left = answered (deed S.program.names receiver name args (params_of block)) block at k sc d left
+  invoked None receiver name args block at k sc d left = answered (deed S.program receiver name args (params_of block)) block at k sc d left
 
   -- a method of a receiver is called: one of its class, or one that is built in
   abbrev pub invoke : Value → Text → List Value → Option Block → Span → List Cont → Scope → ℕ → ℕ → State
@@ -117,12 +117,54 @@ module _ (S : Script) where
   value_of_p (v ∷ []) = Instead v
   value_of_p (v ∷ w ∷ vs) = Create (thing.Elements (v ∷ w ∷ vs))
 
+  -- ---- texts of values
+
+  abbrev pub without_parameters : Option Method → Option Method
+  without_parameters None = None
+  without_parameters (Some m) = if nat_eq (length m.params) 0 then Some m else None
+
+  -- the method that is asked for the text of a value: `to_s` of its class, where that has no parameters
+  abbrev pub own_text : Value → Option Method
+  own_text v = without_parameters (texted (codes "to_s") (methods_of v))
+
+  abbrev pub text_by : Option Method → Value → Span → List Cont → Scope → ℕ → ℕ → State
+  text_by (Some m) v at k sc d left = enter m v [] at (Then (TextOf v) ∷ k) sc d left
+  text_by None v at k sc d left = On (Give (Str (shown S.program v))) k sc d left
+
+  -- the text of a value, given as a string
+  abbrev pub give_text : Value → Span → List Cont → Scope → ℕ → ℕ → State
+  give_text v at k sc d left = text_by (own_text v) v at k sc d left
+
+  -- an object whose `to_s` answers no string is told by its class
+  abbrev pub text_answered : Value → Value → Value
+  text_answered object (Str bytes) = Str bytes
+  text_answered object other = Str (shown S.program object)
+
+  abbrev pub bytes_of : Value → List ℕ
+  bytes_of (Str bytes) = bytes
+  bytes_of other = []
+
+  -- the values that are left to be printed, behind these bytes
+  abbrev pub write : Style → List ℕ → List Value → Span → List Cont → Scope → ℕ → ℕ → State
+  write style bytes [] at k sc d left = show bytes (Instead Nil) at k sc d left
+  write style bytes (v ∷ vs) at k sc d left = give_text v at (Then (WriteBehind style bytes vs at) ∷ k) sc d left
+
+  -- a text joins what is printed, which may not grow too long
+  abbrev pub write_behind : Style → List ℕ → Text → List Value → Span → List Cont → Scope → ℕ → ℕ → State
+  write_behind style bytes text vs at k sc d left =
+      if nat_lt max_bytes (length (bytes ++ styled style text)) then raised TextTooLong at left else write style (bytes ++ styled style text) vs at k sc d left
+
+  -- `puts` of no value writes a line feed
+  abbrev pub put_lines : List Value → Span → List Cont → Scope → ℕ → ℕ → State
+  put_lines [] at k sc d left = show (10 ∷ []) (Instead Nil) at k sc d left
+  put_lines (v ∷ vs) at k sc d left = write Lines [] (v ∷ vs) at k sc d left
+
   -- `puts`, `print` and `p`
   abbrev pub print : Text → List Value → Span → List Cont → Scope → ℕ → ℕ → State
   print name args at k sc d left =
-      if bytes_eq name (codes "puts") then show (puts_text S.program.names args) (Instead Nil) at k sc d left
-      else (if bytes_eq name (codes "print") then show (print_text S.program.names args) (Instead Nil) at k sc d left
-      else (if bytes_eq name (codes "p") then show (p_text S.program.names args) (value_of_p args) at k sc d left
+      if bytes_eq name (codes "puts") then put_lines args at k sc d left
+      else (if bytes_eq name (codes "print") then write Plain [] args at k sc d left
+      else (if bytes_eq name (codes "p") then show (p_text S.program args) (value_of_p args) at k sc d left
       else raised NoMethod at left))
 
   abbrev pub top_level : Option Method → NameId → List Value → Span → List Cont → Scope → ℕ → ℕ → State
@@ -135,7 +177,7 @@ module _ (S : Script) where
 
   -- a call without receiver finds a method of the class of `self`, one of the top level, which has no `self`, or one that prints
   abbrev pub call_by_name : NameId → List Value → Span → List Cont → Scope → ℕ → ℕ → State
-  call_by_name name args at k sc d left = own (named name (methods_of sc.me)) name args at k sc d left
+  call_by_name name args at k sc d left = own (texted (text_of S name) (methods_of sc.me)) name args at k sc d left
 
   -- ---- new objects
 

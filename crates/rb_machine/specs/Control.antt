@@ -38,6 +38,11 @@ pub data Place : Type 0 where
 pub data Turns : Type 0 where
   Counting : (next last : ℤ) (answer : Value) → Turns
 
+-- how texts are printed: `puts` makes lines of them, `print` writes them as they are
+pub data Style : Type 0 where
+  Lines : Style
+  Plain : Style
+
 -- what is done with a value inside a node
 pub data Step : Type 0 where
   AssignTo : (name : NameId) → Step
@@ -59,6 +64,10 @@ pub data Step : Type 0 where
   -- the object is made, and `initialize` is called with these arguments
   Initialize : (args : List Value) (at : Span) → Step
   PieceOf : (bytes : List ℕ) (pieces : List Piece) (at : Span) → Step
+  -- a text that joins what there is of a literal, or of a print before other values; and the answer of an object's `to_s`
+  JoinTo : (bytes : List ℕ) (pieces : List Piece) (at : Span) → Step
+  WriteBehind : (style : Style) (bytes : List ℕ) (values : List Value) (at : Span) → Step
+  TextOf : (object : Value) → Step
   -- an assignment with an operator: the receiver of its target, the index, the value that the target has, the right side, the value to write
   IndexedBy : (index : Node) (op : AssignOp) (value : Node) (at : Span) → Step
   MemberOf : (name : Text) (op : AssignOp) (value : Node) (at : Span) → Step

@@ -6,9 +6,9 @@ use Rattle.rb_model.specs.declared.fault.Fault.TheVariants.{TextTooLong}
 use Rattle.rb_model.specs.Values.{Value, Nil, truthy, truth}
 use Rattle.rb_model.specs.Acts.{SetField}
 use Rattle.rb_machine.specs.Scopes.{Script, Scope, assign, with_locals}
-use Rattle.rb_machine.specs.Control.{State, On, Cont, Then, Under, Test, Again, Turn, Frame, Step, Eval, Give, Leave, Following, Looping, Turning, Passing, Joining, Making, Exit, Break, Next, Return, AssignTo, FieldTo, GlobalTo, Rest, Choose, RightOfAnd, RightOfOr, Negate, ReturnOf, ReceiverOf, ReceiverToStore, Argument, OnReceiver, Storing, Instead, Create, Initialize, PieceOf, IndexedBy, MemberOf, IndexOf, ReadOf, RightOf, WriteTo, OfElement, OfAttribute}
-use Rattle.rb_machine.specs.Texts.{max_bytes, shown}
-use Rattle.rb_machine.specs.Call.{raised, globals, ask, own_field, invoke, initialize, operator, read_place, decide, write_place}
+use Rattle.rb_machine.specs.Control.{State, On, Cont, Then, Under, Test, Again, Turn, Frame, Step, Eval, Give, Leave, Following, Looping, Turning, Passing, Joining, Making, Exit, Break, Next, Return, AssignTo, FieldTo, GlobalTo, Rest, Choose, RightOfAnd, RightOfOr, Negate, ReturnOf, ReceiverOf, ReceiverToStore, Argument, OnReceiver, Storing, Instead, Create, Initialize, PieceOf, JoinTo, WriteBehind, TextOf, IndexedBy, MemberOf, IndexOf, ReadOf, RightOf, WriteTo, OfElement, OfAttribute}
+use Rattle.rb_machine.specs.Texts.{max_bytes}
+use Rattle.rb_machine.specs.Call.{raised, globals, ask, own_field, invoke, initialize, operator, give_text, text_answered, bytes_of, write_behind, read_place, decide, write_place}
 
 -- bytes join a text that may not grow too long
 abbrev pub join : List ℕ → List ℕ → List Piece → Span → List Cont → Scope → ℕ → ℕ → State
@@ -37,7 +37,10 @@ module _ (S : Script) where
   give_step v (Instead w) k sc d left = On (Give w) k sc d left
   give_step v (Create thing) k sc d left = On (Making thing) k sc d left
   give_step v (Initialize args at) k sc d left = initialize S v args at k sc d left
-  give_step v (PieceOf bytes pieces at) k sc d left = join bytes (shown S.program.names v) pieces at k sc d left
+  give_step v (PieceOf bytes pieces at) k sc d left = give_text S v at (Then (JoinTo bytes pieces at) ∷ k) sc d left
+  give_step v (JoinTo bytes pieces at) k sc d left = join bytes (bytes_of S v) pieces at k sc d left
+  give_step v (WriteBehind style bytes values at) k sc d left = write_behind S style bytes (bytes_of S v) values at k sc d left
+  give_step v (TextOf object) k sc d left = On (Give (text_answered S object v)) k sc d left
   give_step v (IndexedBy index op value at) k sc d left = On (Eval index) (Then (IndexOf v op value at) ∷ k) sc d left
   give_step v (MemberOf name op value at) k sc d left = read_place S (OfAttribute v name) op value at k sc d left
   give_step v (IndexOf receiver op value at) k sc d left = read_place S (OfElement receiver v) op value at k sc d left

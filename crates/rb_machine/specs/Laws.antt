@@ -7,9 +7,13 @@ use Rattle.rb_tree.specs.declared.node.Node.{Node, out-Node}
 use Rattle.rb_tree.specs.declared.node.Node.TheOpen as node
 use Rattle.rb_tree.specs.declared.node.Block.{Block}
 use Rattle.rb_tree.specs.declared.node.Method.{Method}
+use Rattle.rb_tree.specs.declared.node.Class.{Class}
+use Rattle.rb_tree.specs.declared.node.Piece.{Piece}
+use Rattle.rb_tree.specs.declared.node.Program.{Program}
 use Rattle.rb_tree.specs.declared.node.AssignOp.TheVariants.{OrElse, AndThen}
-use Rattle.rb_model.specs.declared.fault.Fault.TheVariants.{TooDeep, ZeroDivision, ArgumentCount}
-use Rattle.rb_model.specs.Values.{Value, Nil, Int, Reference, truthy}
+use Rattle.rb_model.specs.declared.fault.Fault.TheVariants.{TooDeep, ZeroDivision, ArgumentCount, TextTooLong}
+use Rattle.rb_model.specs.declared.value.Sort.TheVariants as sort
+use Rattle.rb_model.specs.Values.{Value, Nil, Int, Str, To, Reference, truthy}
 use Rattle.rb_model.specs.Acts.{Act, Reply}
 use Rattle.rb_model.specs.Private.{Private, held}
 use Rattle.rb_model.specs.Things.{Object}
@@ -18,9 +22,10 @@ use Rattle.rb_model.specs.Ends as ending
 use Rattle.rb_model.specs.Log.{Call, Entry, Log, prints}
 use Rattle.rb_model.specs.Log as log
 use Rattle.rb_machine.specs.Scopes.{Script, Scope, Text, text_of, Locals, with_locals, found, look, assign, fresh}
-use Rattle.rb_machine.specs.Control.{Control, State, On, Eval, Give, Leave, Following, Looping, Turning, Passing, Break, Next, Return, Turns, Counting, Cont, Then, Under, Test, Again, Turn, Frame, Aim, OnReceiver, Creating, Place, Argument, Initialize, Instead, Making, ReceiverOf, RightOfAnd, RightOfOr, ReadOf, WriteTo, Ended}
+use Rattle.rb_machine.specs.Control.{Control, State, On, Eval, Give, Leave, Following, Looping, Turning, Passing, Break, Next, Return, Turns, Counting, Cont, Then, Under, Test, Again, Turn, Frame, Aim, OnReceiver, Creating, Place, Argument, Initialize, Instead, Making, ReceiverOf, RightOfAnd, RightOfOr, ReadOf, WriteTo, PieceOf, JoinTo, WriteBehind, TextOf, Joining, Lines, Plain, Ended}
+use Rattle.rb_machine.specs.Texts.{max_bytes, line_of}
 use Rattle.rb_machine.specs.Methods.{deed, integer, Raises, quotient, modulo}
-use Rattle.rb_machine.specs.Call.{perform, class_from, texted, methods_of, raised}
+use Rattle.rb_machine.specs.Call.{perform, class_from, texted, methods_of, give_text, write, print, raised}
 use Rattle.rb_machine.specs.Give.{back, give, leave}
 use Rattle.rb_machine.specs.Move.{Next as Coming, Go, Ask, Stop, move, replied, left_in, IsWant, max_depth}
 use Rattle.rb_machine.specs.Follows.{Follows}
@@ -147,10 +152,10 @@ DividesOneWay = (m n q rest : ℤ) → (n ≡ pos 0 → ⊥) → m ≡ n *ℤ q 
 
 -- a division by 0 is refused, and any other answers the quotient or the rest, where it has 64 bits
 abbrev pub DivisionsAnswer : Type 0
-DivisionsAnswer = (names : List Text) (m n : ℤ)
-    → (deed names (Int m) (codes "/") (Int (pos 0) ∷ []) None ≡ Raises ZeroDivision)
-    × (deed names (Int m) (codes "%") (Int (pos 0) ∷ []) None ≡ Raises ZeroDivision)
-    × ((n ≡ pos 0 → ⊥) → (deed names (Int m) (codes "/") (Int n ∷ []) None ≡ integer (quotient m n)) × (deed names (Int m) (codes "%") (Int n ∷ []) None ≡ integer (modulo m n)))
+DivisionsAnswer = (P : Program) (m n : ℤ)
+    → (deed P (Int m) (codes "/") (Int (pos 0) ∷ []) None ≡ Raises ZeroDivision)
+    × (deed P (Int m) (codes "%") (Int (pos 0) ∷ []) None ≡ Raises ZeroDivision)
+    × ((n ≡ pos 0 → ⊥) → (deed P (Int m) (codes "/") (Int n ∷ []) None ≡ integer (quotient m n)) × (deed P (Int m) (codes "%") (Int n ∷ []) None ≡ integer (modulo m n)))
 
 -- ---- new objects
 
@@ -177,6 +182,51 @@ NewGivesTheObject = (S : Script) (object : Value) (m : Method) (args : List Valu
     × ((v : Value) (inner : Scope) (deep less : ℕ) → (give S v (Frame sc) (Then (Instead object) ∷ k) inner deep less ≡ On (Give v) (Then (Instead object) ∷ k) sc deep less)
     × (leave (Return v) (Frame sc) (Then (Instead object) ∷ k) inner deep less ≡ On (Give v) (Then (Instead object) ∷ k) sc deep less)
     × (give S v (Then (Instead object)) k sc deep less ≡ On (Give object) k sc deep less))
+
+-- ---- texts of objects
+
+-- a literal asks for the text of each value that is put in, and `puts` and `print` for that of each value in turn
+abbrev pub TextsAreWanted : Type 0
+TextsAreWanted = (S : Script) (v : Value) (vs : List Value) (bytes : List ℕ) (pieces : List Piece) (at : Span) (k : List Cont) (sc : Scope) (d left : ℕ)
+    → (give S v (Then (PieceOf bytes pieces at)) k sc d left ≡ give_text S v at (Then (JoinTo bytes pieces at) ∷ k) sc d left)
+    × (print S (codes "puts") (v ∷ vs) at k sc d left ≡ give_text S v at (Then (WriteBehind Lines [] vs at) ∷ k) sc d left)
+    × (print S (codes "print") (v ∷ vs) at k sc d left ≡ give_text S v at (Then (WriteBehind Plain [] vs at) ∷ k) sc d left)
+
+-- the method `to_s` of the class of an object
+abbrev pub to_s_of : Script → Value → Option Method
+to_s_of S object = texted S (codes "to_s") (methods_of S object)
+
+-- where it has no parameters, it is called as a method of the object, and gives its answer, or what it returns, where the text was asked
+abbrev pub ToSIsAsked : Type 0
+ToSIsAsked = (S : Script) (object : Value) (m : Method) (at : Span) (k : List Cont) (sc : Scope) (d left : ℕ) → to_s_of S object ≡ Some m → length m.params ≡ 0
+    → (give_text S object at k sc d left ≡ On (Following Nil m.body) (Frame sc ∷ Then (TextOf object) ∷ k) (record { me = object; locals = fresh (S.method_names m) [] }) d left)
+    × ((v : Value) (inner : Scope) (deep less : ℕ) → (give S v (Frame sc) (Then (TextOf object) ∷ k) inner deep less ≡ On (Give v) (Then (TextOf object) ∷ k) sc deep less)
+    × (leave (Return v) (Frame sc) (Then (TextOf object) ∷ k) inner deep less ≡ On (Give v) (Then (TextOf object) ∷ k) sc deep less))
+
+-- A string that is answered is the text. It joins a literal as it is, and what `puts` writes as a line, where that does not grow too long.
+abbrev pub StringsAreTexts : Type 0
+StringsAreTexts = (S : Script) (object : Value) (text bytes : List ℕ) (pieces : List Piece) (vs : List Value) (at : Span) (k : List Cont) (sc : Scope) (d left : ℕ)
+    → (give S (Str text) (Then (TextOf object)) k sc d left ≡ On (Give (Str text)) k sc d left)
+    × (length (bytes ++ text) ≤ max_bytes → give S (Str text) (Then (JoinTo bytes pieces at)) k sc d left ≡ On (Joining (bytes ++ text) pieces at) k sc d left)
+    × (max_bytes < length (bytes ++ text) → give S (Str text) (Then (JoinTo bytes pieces at)) k sc d left ≡ raised TextTooLong at left)
+    × (length (bytes ++ line_of text) ≤ max_bytes → give S (Str text) (Then (WriteBehind Lines bytes vs at)) k sc d left ≡ write S Lines (bytes ++ line_of text) vs at k sc d left)
+    × (max_bytes < length (bytes ++ line_of text) → give S (Str text) (Then (WriteBehind Lines bytes vs at)) k sc d left ≡ raised TextTooLong at left)
+
+-- `#<Name>`, by the name of a class
+abbrev pub name_told : Script → Class → Text
+name_told S class = codes "#<" ++ text_of S class.name ++ codes ">"
+
+abbrev pub is_string : Value → Bool
+is_string (Str bytes) = true
+is_string other = false
+
+-- where the answer is another value, where there is no `to_s`, and where it has parameters, the text is told by the name of the class
+abbrev pub OthersAreTold : Type 0
+OthersAreTold = (S : Script) (object : Reference) (number : ℕ) (class : Class) (at : Span) (k : List Cont) (sc : Scope) (d left : ℕ)
+    → object.sort ≡ sort.Object number → slice_get S.program.classes number ≡ Some class
+    → ((v : Value) → is_string v ≡ false → give S v (Then (TextOf (To object))) k sc d left ≡ On (Give (Str (name_told S class))) k sc d left)
+    × (to_s_of S (To object) ≡ None → give_text S (To object) at k sc d left ≡ On (Give (Str (name_told S class))) k sc d left)
+    × ((m : Method) → to_s_of S (To object) ≡ Some m → 0 < length m.params → give_text S (To object) at k sc d left ≡ On (Give (Str (name_told S class))) k sc d left)
 
 -- ---- locals
 

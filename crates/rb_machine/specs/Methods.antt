@@ -3,6 +3,7 @@ use Rattle.std.specs.Prelude.{ℕ, ◌^◌, ℤ, pos, negsuc, neg_ℤ, ◌+ℤ�
 use Rattle.std.specs.Ordering.{int_eq}
 use Rattle.std.specs.Int.{int_div_euclid, int_rem_euclid}
 use Rattle.std.specs.Str.{bytes_eq}
+use Rattle.rb_tree.specs.declared.node.Program.{Program}
 use Rattle.rb_model.specs.declared.value.Sort.{Sort}
 use Rattle.rb_model.specs.declared.value.Sort.TheVariants as sort
 use Rattle.rb_model.specs.declared.fault.Fault.{Fault}
@@ -112,13 +113,13 @@ is_nil v args = Gives (truth (same v Nil))
 
 -- ---- the table
 
-module _ (names : List Text) where
+module _ (P : Program) where
   abbrev pub any_rows : List Row
   any_rows =
       record { of = AnyValue; name = codes "=="; arity = 1; block = None; does = equal }
       ∷ record { of = AnyValue; name = codes "nil?"; arity = 0; block = None; does = is_nil }
-      ∷ record { of = AnyValue; name = codes "to_s"; arity = 0; block = None; does = λ v args. text (shown names v) }
-      ∷ record { of = AnyValue; name = codes "inspect"; arity = 0; block = None; does = λ v args. text (inspected names v) }
+      ∷ record { of = AnyValue; name = codes "to_s"; arity = 0; block = None; does = λ v args. text (shown P v) }
+      ∷ record { of = AnyValue; name = codes "inspect"; arity = 0; block = None; does = λ v args. text (inspected P v) }
       ∷ []
 
   abbrev pub integer_rows : List Row
@@ -166,5 +167,5 @@ answered_by None v args given = Raises NoMethod
 answered_by (Some r) v args given = unless_fault (block_fault r.block given) (nat_eq (length args) r.arity) (r.does v args)
 
 -- what a value answers to the call of a method, with so many parameters of a block where one is given
-abbrev pub deed : List Text → Value → Text → List Value → Option ℕ → Answer
-deed names v name args given = answered_by (row_of names v name) v args given
+abbrev pub deed : Program → Value → Text → List Value → Option ℕ → Answer
+deed P v name args given = answered_by (row_of P v name) v args given

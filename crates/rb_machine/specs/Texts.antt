@@ -2,8 +2,13 @@
 use Rattle.std.specs.Prelude.{ℕ, Bool, false, ◌==◌, ◌||◌, if◌then◌else◌, List, [], ◌∷◌, ◌++◌, Option, Some, None, length, ◌-◌, slice_get, codes}
 use Rattle.std.specs.List.{flat_map}
 use Rattle.std.specs.Fmt.{signed_decimal}
+use Rattle.rb_tree.specs.declared.node.Program.{Program}
+use Rattle.rb_tree.specs.declared.node.Class.{Class}
+use Rattle.rb_model.specs.declared.value.Sort.{Sort}
+use Rattle.rb_model.specs.declared.value.Sort.TheVariants as sort
 use Rattle.rb_model.specs.Values.{Value, Nil, False, True, Int, Sym, Str, To}
 use Rattle.rb_machine.specs.Scopes.{Text, name_text}
+use Rattle.rb_machine.specs.Control.{Style, Lines, Plain}
 
 -- how many bytes one text has at most, and one print
 abbrev pub max_bytes : ℕ
@@ -39,16 +44,28 @@ ends_line text = is_feed (slice_get text (length text - 1))
 abbrev pub line_of : Text → Text
 line_of text = if ends_line text then text else text ++ 10 ∷ []
 
-module _ (names : List Text) where
-  -- The text of a value. Things have none yet.
+module _ (P : Program) where
+  -- the name of a class, empty where there is no such class
+  abbrev pub class_text : Option Class → Text
+  class_text None = []
+  class_text (Some class) = name_text P.names class.name
+
+  -- how a thing is told by its class; arrays and hashes have no text yet
+  abbrev pub told : Sort → Text
+  told (sort.Object class) = codes "#<" ++ class_text (slice_get P.classes class) ++ codes ">"
+  told sort.Thread = codes "#<Thread>"
+  told sort.Mutex = codes "#<Mutex>"
+  told collection = []
+
+  -- the text of a value, as far as no `to_s` of a script is asked for it
   abbrev pub shown : Value → Text
   shown Nil = []
   shown False = codes "false"
   shown True = codes "true"
   shown (Int n) = signed_decimal n
-  shown (Sym name) = name_text names name
+  shown (Sym name) = name_text P.names name
   shown (Str bytes) = bytes
-  shown (To thing) = []
+  shown (To thing) = told thing.sort
 
   -- the inspected form
   abbrev pub inspected : Value → Text
@@ -56,19 +73,15 @@ module _ (names : List Text) where
   inspected False = codes "false"
   inspected True = codes "true"
   inspected (Int n) = signed_decimal n
-  inspected (Sym name) = 58 ∷ name_text names name
+  inspected (Sym name) = 58 ∷ name_text P.names name
   inspected (Str bytes) = 34 ∷ escaped bytes ++ 34 ∷ []
-  inspected (To thing) = []
-
-  -- `puts` writes a line for each value, and one line feed for none
-  abbrev pub puts_text : List Value → Text
-  puts_text [] = 10 ∷ []
-  puts_text (v ∷ vs) = flat_map (λ v. line_of (shown v)) (v ∷ vs)
-
-  -- `print` writes the texts
-  abbrev pub print_text : List Value → Text
-  print_text vs = flat_map shown vs
+  inspected (To thing) = told thing.sort
 
   -- `p` writes the inspected form of each value and a line feed
   abbrev pub p_text : List Value → Text
   p_text vs = flat_map (λ v. inspected v ++ 10 ∷ []) vs
+
+-- how a text joins what is printed
+abbrev pub styled : Style → Text → Text
+styled Lines text = line_of text
+styled Plain text = text

@@ -100,6 +100,15 @@ pub fn new_objects()
     ensures value { law.NewGivesTheObject }
 {}
 
+/// The text of an object in a literal, and as `puts` and `print` write it, is the string that `to_s` of its class answers, where that
+/// has no parameters. Where it answers no string, or is not there, or has parameters, the text is `#<Name>`, with the name of the class.
+pub fn texts_of_objects()
+    ensures wanted { law.TextsAreWanted }
+    ensures asked { law.ToSIsAsked }
+    ensures joined { law.StringsAreTexts }
+    ensures told { law.OthersAreTold }
+{}
+
 /// The right side of `||`, `||=`, `&&` and `&&=` is evaluated only where the left one does not decide.
 pub fn right_sides()
     ensures or { law.OrGoesOnWhereFalse }

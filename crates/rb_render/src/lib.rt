@@ -1,10 +1,12 @@
 //! The texts of values: those that a program shows, those that `inspect` gives, and what `puts`, `print` and `p` write.
 #![tactic(auto)]
 
+mod pieces;
 mod show;
 #[cfg(test)]
 mod tests;
 mod text;
 
+pub use pieces::{Style, add_text, add_value};
 pub use show::{Form, MAX_BYTES, RenderFault, render};
 pub use text::{add_inspected, add_shown, name_text};

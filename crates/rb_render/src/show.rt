@@ -8,7 +8,7 @@ ghost use Rattle.rb_render.specs.Forms as spec;
 
 use crate::text::{add_inspected, add_shown};
 use rb_model::Value;
-use rb_tree::Names;
+use rb_tree::Program;
 use std::alloc::{AllocError, Global};
 
 /// How many bytes one print has at most, and one text.
@@ -34,7 +34,7 @@ pub enum RenderFault {
 }
 
 /// Adds a line feed.
-fn add_feed(out: &mut Vec<u8>) -> Result<(), AllocError>
+pub(crate) fn add_feed(out: &mut Vec<u8>) -> Result<(), AllocError>
     ensures { OnOk result (out.new.items ≡ out.old.items ++ 10 ∷ []) }
 {
     out.push(b'\n')?;
@@ -42,7 +42,7 @@ fn add_feed(out: &mut Vec<u8>) -> Result<(), AllocError>
 }
 
 /// Whether bytes end with a line feed.
-fn ends_line(bytes: &[u8]) -> bool
+pub(crate) fn ends_line(bytes: &[u8]) -> bool
     ensures { result ≡ ends_line bytes.now }
 {
     match bytes.last() {
@@ -52,16 +52,16 @@ fn ends_line(bytes: &[u8]) -> bool
 }
 
 /// Adds the line of a value: its text, and a line feed unless that ends with one.
-fn add_line(
+pub(crate) fn add_line(
     alloc: Global,
     out: &mut Vec<u8>,
-    names: &Names,
+    program: &Program,
     value: &Value,
 ) -> Result<(), AllocError>
-    ensures { OnOk result (out.new.items ≡ out.old.items ++ line_of (shown names.now (plain value.now))) }
+    ensures { OnOk result (out.new.items ≡ out.old.items ++ line_of (shown program.now (plain value.now))) }
 {
     let start = out.len();
-    add_shown(alloc, out, names, value)?;
+    add_shown(alloc, out, program, value)?;
     if !ends_line(&out.as_slice()[start..]) {
         add_feed(out)?;
     }
@@ -72,17 +72,17 @@ fn add_line(
 fn add_part(
     alloc: Global,
     out: &mut Vec<u8>,
-    names: &Names,
+    program: &Program,
     form: Form,
     value: &Value,
 ) -> Result<(), AllocError>
-    ensures { OnOk result (out.new.items ≡ out.old.items ++ spec.part names.now form (plain value.now)) }
+    ensures { OnOk result (out.new.items ≡ out.old.items ++ spec.part program.now form (plain value.now)) }
 {
     match form {
-        Form::Puts => add_line(alloc, out, names, value),
-        Form::Print => add_shown(alloc, out, names, value),
+        Form::Puts => add_line(alloc, out, program, value),
+        Form::Print => add_shown(alloc, out, program, value),
         Form::Inspect => {
-            add_inspected(alloc, out, names, value)?;
+            add_inspected(alloc, out, program, value)?;
             add_feed(out)
         }
     }
@@ -91,17 +91,17 @@ fn add_part(
 /// What a call writes of values one by one.
 fn render_all(
     alloc: Global,
-    names: &Names,
+    program: &Program,
     form: Form,
     values: &[Value],
 ) -> Result<Vec<u8>, RenderFault>
-    ensures text { IfOk result (λ text. text.items ≡ spec.parts names.now form (map plain values.now)) }
+    ensures text { IfOk result (λ text. text.items ≡ spec.parts program.now form (map plain values.now)) }
     ensures fits { IfOk result (λ text. length text.items ≤ max_bytes) }
-    ensures too_long { result ≡ Err RenderFault.TooLong → max_bytes < length (spec.parts names.now form (map plain values.now)) }
+    ensures too_long { result ≡ Err RenderFault.TooLong → max_bytes < length (spec.parts program.now form (map plain values.now)) }
 {
     let mut out = Vec::new(alloc);
     'values: for value in values {
-        if let Err(_) = add_part(alloc, &mut out, names, form, value) {
+        if let Err(_) = add_part(alloc, &mut out, program, form, value) {
             return Err(RenderFault::Memory);
         }
         if out.len() > MAX_BYTES {
@@ -121,20 +121,20 @@ fn is_blank(form: Form, values: &[Value]) -> bool
     }
 }
 
-/// What a call writes of values, where that is not too long.
+/// What a call writes of values of which no `to_s` is asked, where that is not too long.
 #[tactic(auto, using(crate::proofs::Writing::written_is))]
 pub fn render(
     alloc: Global,
-    names: &Names,
+    program: &Program,
     form: Form,
     values: &[Value],
 ) -> Result<Vec<u8>, RenderFault>
-    ensures text { IfOk result (λ text. text.items ≡ spec.written names.now form (map plain values.now)) }
+    ensures text { IfOk result (λ text. text.items ≡ spec.written program.now form (map plain values.now)) }
     ensures fits { IfOk result (λ text. length text.items ≤ max_bytes) }
-    ensures too_long { result ≡ Err RenderFault.TooLong → max_bytes < length (spec.written names.now form (map plain values.now)) }
+    ensures too_long { result ≡ Err RenderFault.TooLong → max_bytes < length (spec.written program.now form (map plain values.now)) }
 {
     if !is_blank(form, values) {
-        return render_all(alloc, names, form, values);
+        return render_all(alloc, program, form, values);
     }
     let mut out = Vec::new(alloc);
     if let Err(_) = add_feed(&mut out) {

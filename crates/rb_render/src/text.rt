@@ -5,8 +5,8 @@ ghost use Rattle.std.specs.Fmt.{signed_decimal};
 ghost use Rattle.rb_model.specs.Values.{plain};
 ghost use Rattle.rb_machine.specs.Texts as spec;
 
-use rb_model::Value;
-use rb_tree::{NameId, Names};
+use rb_model::{Sort, Value};
+use rb_tree::{NameId, Names, Program};
 use std::alloc::{AllocError, Global};
 
 /// The text of a name, empty where there is no such name.
@@ -20,8 +20,18 @@ pub fn name_text(names: &Names, name: NameId) -> &[u8]
     }
 }
 
+/// The name of the class of this number, empty where there is no such class.
+fn class_text(program: &Program, class: u32) -> &[u8]
+    ensures { result.now ≡ spec.class_text program.now (slice_get program.now.classes class) }
+{
+    match program.classes.get(class as usize) {
+        None => b"".as_slice(),
+        Some(class) => name_text(&program.names, class.name),
+    }
+}
+
 /// Adds bytes behind others.
-fn add(out: &mut Vec<u8>, bytes: &[u8]) -> Result<(), AllocError>
+pub(crate) fn add(out: &mut Vec<u8>, bytes: &[u8]) -> Result<(), AllocError>
     ensures { OnOk result (out.new.items ≡ out.old.items ++ bytes.now) }
 {
     out.extend_from_slice(bytes)?;
@@ -36,22 +46,39 @@ fn add_integer(alloc: Global, out: &mut Vec<u8>, n: i64) -> Result<(), AllocErro
     add(out, digits.as_bytes())
 }
 
-/// Adds the text of a value, as `puts`, `print`, `to_s` and the code in a text give it.
+/// Adds how a thing is told by its class.
+fn add_told(out: &mut Vec<u8>, program: &Program, sort: Sort) -> Result<(), AllocError>
+    ensures { OnOk result (out.new.items ≡ out.old.items ++ spec.told program.now sort) }
+{
+    match sort {
+        Sort::Object(class) => {
+            add(out, b"#<".as_slice())?;
+            add(out, class_text(program, class))?;
+            add(out, b">".as_slice())
+        }
+        Sort::Thread => add(out, b"#<Thread>".as_slice()),
+        Sort::Mutex => add(out, b"#<Mutex>".as_slice()),
+        Sort::List | Sort::Pairs => Ok(()),
+    }
+}
+
+/// Adds the text of a value, as the table's `to_s` gives it: a thing is told by its class, whatever its class says of it.
 pub fn add_shown(
     alloc: Global,
     out: &mut Vec<u8>,
-    names: &Names,
+    program: &Program,
     value: &Value,
 ) -> Result<(), AllocError>
-    ensures { OnOk result (out.new.items ≡ out.old.items ++ spec.shown names.now (plain value.now)) }
+    ensures { OnOk result (out.new.items ≡ out.old.items ++ spec.shown program.now (plain value.now)) }
 {
     match value {
-        Value::Nil | Value::Ref(_) => Ok(()),
+        Value::Nil => Ok(()),
         Value::False => add(out, b"false".as_slice()),
         Value::True => add(out, b"true".as_slice()),
         Value::Int(n) => add_integer(alloc, out, *n),
-        Value::Sym(name) => add(out, name_text(names, *name)),
+        Value::Sym(name) => add(out, name_text(&program.names, *name)),
         Value::Str(text) => add(out, text.as_slice()),
+        Value::Ref(thing) => add_told(out, program, thing.sort),
     }
 }
 
@@ -99,10 +126,10 @@ fn add_escaped(out: &mut Vec<u8>, bytes: &[u8]) -> Result<(), AllocError>
 pub fn add_inspected(
     alloc: Global,
     out: &mut Vec<u8>,
-    names: &Names,
+    program: &Program,
     value: &Value,
 ) -> Result<(), AllocError>
-    ensures { OnOk result (out.new.items ≡ out.old.items ++ spec.inspected names.now (plain value.now)) }
+    ensures { OnOk result (out.new.items ≡ out.old.items ++ spec.inspected program.now (plain value.now)) }
 {
     match value {
         Value::Nil => add(out, b"nil".as_slice()),
@@ -111,13 +138,13 @@ pub fn add_inspected(
         Value::Int(n) => add_integer(alloc, out, *n),
         Value::Sym(name) => {
             add(out, b":".as_slice())?;
-            add(out, name_text(names, *name))
+            add(out, name_text(&program.names, *name))
         }
         Value::Str(text) => {
             add(out, b"\"".as_slice())?;
             add_escaped(out, text.as_slice())?;
             add(out, b"\"".as_slice())
         }
-        Value::Ref(_) => Ok(()),
+        Value::Ref(thing) => add_told(out, program, thing.sort),
     }
 }
