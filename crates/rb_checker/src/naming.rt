@@ -185,26 +185,30 @@ fn names_of_methods(
     Ok(all)
 }
 
-/// Adds the locals that the methods of classes give values to.
-fn add_classes(
+/// The names that each method of each class makes known in its own scope. The locals that they give values to are added.
+fn names_of_classes(
     alloc: Global,
     bodies: &Bodies,
-    all: &[Class],
+    classes: &[Class],
     made: &mut Vec<Local>,
-) -> Result<(), AllocError>
-    ensures { OnOk result ((b : ℕ → List Seen) → Tells bodies.now.total (map (λ e. e.items) bodies.now.kept.items) b → made.new.items ≡ made.old.items ++ flat_map (λ (k : Kind). flat_map (λ (m : Function). spec.made_in (uses_in (method_events b m))) k.methods) all.now) }
+) -> Result<Items<Items<Items<NameId>>>, AllocError>
+    ensures names { IfOk result (λ all. (b : ℕ → List Seen) → Tells bodies.now.total (map (λ e. e.items) bodies.now.kept.items) b → all ≡ map (λ (k : Kind). map (λ (m : Function). spec.names_in (uses_in (method_events b m)) None) k.methods) classes.now) }
+    ensures made { OnOk result ((b : ℕ → List Seen) → Tells bodies.now.total (map (λ e. e.items) bodies.now.kept.items) b → made.new.items ≡ made.old.items ++ flat_map (λ (k : Kind). flat_map (λ (m : Function). spec.made_in (uses_in (method_events b m))) k.methods) classes.now) }
 {
-    'classes: for class in all {
-        names_of_methods(alloc, bodies, class.methods.as_slice(), made)?;
+    let mut all = Items::new(alloc);
+    'classes: for class in classes {
+        let names = names_of_methods(alloc, bodies, class.methods.as_slice(), made)?;
+        all.push(names)?;
     }
-    Ok(())
+    Ok(all)
 }
 
-/// The names that the text of a program makes known in its scopes: those of each block and thread by its place, those of each top-level
-/// method, and those of the top level.
+/// The names that the text of a program makes known in its scopes: those of each block and thread by its place, those of each method of
+/// each class, those of each top-level method, and those of the top level.
 #[derive(Drop)]
 pub struct ScopeNames {
     pub blocks: HashMap<u32, Items<NameId>>,
+    pub classes: Items<Items<Items<NameId>>>,
     pub functions: Items<Items<NameId>>,
     pub main: Items<NameId>,
 }
@@ -227,17 +231,19 @@ impl ScopeNames {
 /// Memory is refused.
 pub fn names_of_scopes(alloc: Global, program: &Program) -> Result<ScopeNames, AllocError>
     ensures blocks { IfOk result (λ it. (at : Place) → spec.names_at it.blocks at.from ≡ spec.block_names program.now at) }
+    ensures classes { IfOk result (λ it. it.classes ≡ map (λ (k : Kind). map (spec.method_names program.now) k.methods) program.now.classes) }
     ensures functions { IfOk result (λ it. it.functions ≡ map (spec.method_names program.now) program.now.functions) }
     ensures main { IfOk result (λ it. it.main ≡ spec.main_names program.now) }
 {
     let bodies = Bodies::new(alloc, program.bodies.as_slice())?;
     let mut made = Vec::new(alloc);
-    add_classes(alloc, &bodies, program.classes.as_slice(), &mut made)?;
+    let classes = names_of_classes(alloc, &bodies, program.classes.as_slice(), &mut made)?;
     let functions = names_of_methods(alloc, &bodies, program.functions.as_slice(), &mut made)?;
     let main = names_of_text(alloc, &bodies, &[], program.main.as_slice(), &mut made)?;
     let blocks = names_of_blocks(alloc, made.as_slice())?;
     Ok(ScopeNames {
         blocks,
+        classes,
         functions,
         main,
     })

@@ -29,6 +29,10 @@ pub erase-true : (at : Span) → erase (is.True at) ≡ tree.True at
 unfolding erase erase_piece erase_block
 erase-true at = search (rules, the_lemmas)
 
+pub erase-self_ref : (at : Span) → erase (is.SelfRef at) ≡ tree.SelfRef at
+unfolding erase erase_piece erase_block
+erase-self_ref at = search (rules, the_lemmas)
+
 pub erase-int : (n : ℤ) (at : Span) → erase (is.Int n at) ≡ tree.Int n at
 unfolding erase erase_piece erase_block
 erase-int n at = search (rules, the_lemmas)
@@ -49,17 +53,29 @@ pub erase-set_local : (slot : ℕ) (name : NameId) (value : Code) (at : Span) �
 unfolding erase erase_piece erase_block
 erase-set_local slot name value at = search (rules, the_lemmas)
 
+pub erase-field : (name : NameId) (at : Span) → erase (is.Field name at) ≡ tree.Field name at
+unfolding erase erase_piece erase_block
+erase-field name at = search (rules, the_lemmas)
+
+pub erase-set_field : (name : NameId) (value : Code) (at : Span) → erase (is.SetField name value at) ≡ tree.SetField name (erase value) at
+unfolding erase erase_piece erase_block
+erase-set_field name value at = search (rules, the_lemmas)
+
 pub erase-update_local : (slot : ℕ) (name : NameId) (op : AssignOp) (value : Code) (at : Span) → erase (is.UpdateLocal slot name op value at) ≡ tree.OpAssign (target.Local name) op (erase value) at
 unfolding erase erase_piece erase_block
 erase-update_local slot name op value at = search (rules, the_lemmas)
+
+pub erase-update_field : (name : NameId) (op : AssignOp) (value : Code) (at : Span) → erase (is.UpdateField name op value at) ≡ tree.OpAssign (target.Field name) op (erase value) at
+unfolding erase erase_piece erase_block
+erase-update_field name op value at = search (rules, the_lemmas)
 
 pub erase-update_element : (receiver : Code) (index : Code) (op : AssignOp) (value : Code) (at : Span) → erase (is.UpdateElement receiver index op value at) ≡ tree.OpAssign (target.Index (erase receiver) (erase index)) op (erase value) at
 unfolding erase erase_piece erase_block
 erase-update_element receiver index op value at = search (rules, the_lemmas)
 
-pub erase-update_attribute : (number : Option Builtin) (name : NameId) (receiver : Code) (op : AssignOp) (value : Code) (at : Span) → erase (is.UpdateAttribute number name receiver op value at) ≡ tree.OpAssign (target.Attribute (erase receiver) name) op (erase value) at
+pub erase-update_attribute : (number : Option Builtin) (writer : Option NameId) (name : NameId) (receiver : Code) (op : AssignOp) (value : Code) (at : Span) → erase (is.UpdateAttribute number writer name receiver op value at) ≡ tree.OpAssign (target.Attribute (erase receiver) name) op (erase value) at
 unfolding erase erase_piece erase_block
-erase-update_attribute number name receiver op value at = search (rules, the_lemmas)
+erase-update_attribute number writer name receiver op value at = search (rules, the_lemmas)
 
 pub erase-store : (receiver : Code) (name : NameId) (args : List Code) (at : Span) → erase (is.Store receiver name args at) ≡ tree.Store (erase receiver) name (map erase args) at
 unfolding erase erase_piece erase_block
@@ -80,6 +96,14 @@ erase-walk number name receiver args block at = search (rules, the_lemmas)
 pub erase-function : (number : ℕ) (name : NameId) (args : List Code) (at : Span) → erase (is.Function number name args at) ≡ tree.Call None name (map erase args) None at
 unfolding erase erase_piece erase_block
 erase-function number name args at = search (rules, the_lemmas)
+
+pub erase-own : (name : NameId) (args : List Code) (at : Span) → erase (is.Own name args at) ≡ tree.Call None name (map erase args) None at
+unfolding erase erase_piece erase_block
+erase-own name args at = search (rules, the_lemmas)
+
+pub erase-new : (class : ℕ) (first : Option ℕ) (name : NameId) (args : List Code) (at : Span) → erase (is.New class first name args at) ≡ tree.New name (map erase args) at
+unfolding erase erase_piece erase_block
+erase-new class first name args at = search (rules, the_lemmas)
 
 pub erase-print : (form : Form) (name : NameId) (args : List Code) (at : Span) → erase (is.Print form name args at) ≡ tree.Call None name (map erase args) None at
 unfolding erase erase_piece erase_block

@@ -1,6 +1,6 @@
 -- One layer of where code is right.
 use Rattle.std.proofs.Common.{◌≡◌, ℕ, List, map, Option, rules}
-use Rattle.std.specs.Prelude.{ℤ}
+use Rattle.std.specs.Prelude.{not, ℤ}
 use Rattle.std.specs.Option.{option_map}
 use Rattle.rb_tree.specs.declared.span.Span.{Span}
 use Rattle.rb_tree.specs.declared.span.NameId.{NameId}
@@ -16,7 +16,8 @@ use Rattle.std.specs.Prelude.{◌&&◌, ◌++◌, ◌+◌, ◌==◌, nat_le, tru
 use Rattle.std.specs.Str.{bytes_eq}
 use Rattle.rb_machine.specs.Scopes.{Script, text_of}
 use Rattle.rb_code.specs.Layout.{has_slot, is_at}
-use Rattle.rb_code.specs.Resolved.{every, if_some, form_text, form_takes, function_of, has_number, is_free, fits, piece_fits, block_fits}
+use Rattle.rb_code.specs.Dispatch.{is_writer}
+use Rattle.rb_code.specs.Resolved.{every, if_some, form_text, form_takes, prints, function_of, has_number, is_free, is_made, fits, piece_fits, block_fits}
 
 pub fits-nil : (S : Script) (names : List NameId) (size : ℕ) (at : Span) → fits S (is.Nil at) names size ≡ (true)
 unfolding fits piece_fits block_fits
@@ -29,6 +30,10 @@ fits-false S names size at = search (rules, the_lemmas)
 pub fits-true : (S : Script) (names : List NameId) (size : ℕ) (at : Span) → fits S (is.True at) names size ≡ (true)
 unfolding fits piece_fits block_fits
 fits-true S names size at = search (rules, the_lemmas)
+
+pub fits-self_ref : (S : Script) (names : List NameId) (size : ℕ) (at : Span) → fits S (is.SelfRef at) names size ≡ (true)
+unfolding fits piece_fits block_fits
+fits-self_ref S names size at = search (rules, the_lemmas)
 
 pub fits-int : (S : Script) (names : List NameId) (size : ℕ) (n : ℤ) (at : Span) → fits S (is.Int n at) names size ≡ (true)
 unfolding fits piece_fits block_fits
@@ -50,18 +55,30 @@ pub fits-set_local : (S : Script) (names : List NameId) (size : ℕ) (slot : ℕ
 unfolding fits piece_fits block_fits
 fits-set_local S names size slot name value at = search (rules, the_lemmas)
 
+pub fits-field : (S : Script) (names : List NameId) (size : ℕ) (name : NameId) (at : Span) → fits S (is.Field name at) names size ≡ (true)
+unfolding fits piece_fits block_fits
+fits-field S names size name at = search (rules, the_lemmas)
+
+pub fits-set_field : (S : Script) (names : List NameId) (size : ℕ) (name : NameId) (value : Code) (at : Span) → fits S (is.SetField name value at) names size ≡ (fits S value names size)
+unfolding fits piece_fits block_fits
+fits-set_field S names size name value at = search (rules, the_lemmas)
+
 pub fits-update_local : (S : Script) (names : List NameId) (size : ℕ) (slot : ℕ) (name : NameId) (op : AssignOp) (value : Code) (at : Span) → fits S (is.UpdateLocal slot name op value at) names size ≡ (has_slot name names slot && fits S value names size)
 unfolding fits piece_fits block_fits
 fits-update_local S names size slot name op value at = search (rules, the_lemmas)
+
+pub fits-update_field : (S : Script) (names : List NameId) (size : ℕ) (name : NameId) (op : AssignOp) (value : Code) (at : Span) → fits S (is.UpdateField name op value at) names size ≡ (fits S value names size)
+unfolding fits piece_fits block_fits
+fits-update_field S names size name op value at = search (rules, the_lemmas)
 
 pub fits-update_element : (S : Script) (names : List NameId) (size : ℕ) (receiver : Code) (index : Code) (op : AssignOp) (value : Code) (at : Span) → fits S (is.UpdateElement receiver index op value at) names size ≡ (fits S receiver names size && (fits S index names size && fits S value names size))
 unfolding fits piece_fits block_fits
 fits-update_element S names size receiver index op value at = search (rules, the_lemmas)
 
-pub fits-update_attribute : (S : Script) (names : List NameId) (size : ℕ) (number : Option Builtin) (name : NameId) (receiver : Code) (op : AssignOp) (value : Code) (at : Span)
-    → fits S (is.UpdateAttribute number name receiver op value at) names size ≡ (has_number S number name && (is_free (text_of S name ++ codes "=") && (fits S receiver names size && fits S value names size)))
+pub fits-update_attribute : (S : Script) (names : List NameId) (size : ℕ) (number : Option Builtin) (writer : Option NameId) (name : NameId) (receiver : Code) (op : AssignOp) (value : Code) (at : Span)
+    → fits S (is.UpdateAttribute number writer name receiver op value at) names size ≡ (has_number S number name && (is_writer S writer name && (is_free (text_of S name ++ codes "=") && (fits S receiver names size && fits S value names size))))
 unfolding fits piece_fits block_fits
-fits-update_attribute S names size number name receiver op value at = search (rules, the_lemmas)
+fits-update_attribute S names size number writer name receiver op value at = search (rules, the_lemmas)
 
 pub fits-store : (S : Script) (names : List NameId) (size : ℕ) (receiver : Code) (name : NameId) (args : List Code) (at : Span) → fits S (is.Store receiver name args at) names size ≡ (is_free (text_of S name) && (fits S receiver names size && every (map (fits S) args) names size))
 unfolding fits piece_fits block_fits
@@ -82,6 +99,14 @@ fits-walk S names size number name receiver args block at = search (rules, the_l
 pub fits-function : (S : Script) (names : List NameId) (size : ℕ) (number : ℕ) (name : NameId) (args : List Code) (at : Span) → fits S (is.Function number name args at) names size ≡ (is_at (function_of S name) number && every (map (fits S) args) names size)
 unfolding fits piece_fits block_fits
 fits-function S names size number name args at = search (rules, the_lemmas)
+
+pub fits-own : (S : Script) (names : List NameId) (size : ℕ) (name : NameId) (args : List Code) (at : Span) → fits S (is.Own name args at) names size ≡ (is_none (function_of S name) && (not (prints (text_of S name)) && every (map (fits S) args) names size))
+unfolding fits piece_fits block_fits
+fits-own S names size name args at = search (rules, the_lemmas)
+
+pub fits-new : (S : Script) (names : List NameId) (size : ℕ) (class : ℕ) (first : Option ℕ) (name : NameId) (args : List Code) (at : Span) → fits S (is.New class first name args at) names size ≡ (is_made S class first name && every (map (fits S) args) names size)
+unfolding fits piece_fits block_fits
+fits-new S names size class first name args at = search (rules, the_lemmas)
 
 pub fits-print : (S : Script) (names : List NameId) (size : ℕ) (form : Form) (name : NameId) (args : List Code) (at : Span) → fits S (is.Print form name args at) names size ≡ (is_none (function_of S name) && (bytes_eq (text_of S name) (form_text form) && (form_takes form (length (map (fits S) args)) && every (map (fits S) args) names size)))
 unfolding fits piece_fits block_fits

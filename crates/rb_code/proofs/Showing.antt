@@ -16,7 +16,7 @@ use Rattle.rb_code.specs.declared.code.Code.TheVariants as is
 use Rattle.rb_code.specs.declared.code.CodePiece.{CodePiece}
 use Rattle.rb_code.specs.declared.code.CodeBlock.{CodeBlock}
 use Rattle.rb_code.specs.Erase.{erase, erase_piece, erase_block}
-use Rattle.rb_code.proofs.Erasing.{erase-nil, erase-false, erase-true, erase-int, erase-sym, erase-str, erase-local, erase-set_local, erase-update_local, erase-update_element, erase-update_attribute, erase-store, erase-operate, erase-send, erase-walk, erase-function, erase-print, erase-and, erase-or, erase-not, erase-if, erase-while, erase-return, erase-break, erase-next}
+use Rattle.rb_code.proofs.Erasing.{erase-nil, erase-false, erase-true, erase-self_ref, erase-int, erase-sym, erase-str, erase-local, erase-set_local, erase-field, erase-set_field, erase-update_local, erase-update_field, erase-update_element, erase-update_attribute, erase-store, erase-operate, erase-send, erase-walk, erase-function, erase-own, erase-new, erase-print, erase-and, erase-or, erase-not, erase-if, erase-while, erase-return, erase-break, erase-next}
 
 pub shows-nil : (c : Code) (at : Span) → c ≡ is.Nil at → out-Node (erase c) ≡ node.Nil at
 shows-nil c at e = ap (λ c. out-Node (erase c)) e ∙ (ap out-Node (erase-nil at) ∙ search (rules, the_lemmas))
@@ -26,6 +26,9 @@ shows-false c at e = ap (λ c. out-Node (erase c)) e ∙ (ap out-Node (erase-fal
 
 pub shows-true : (c : Code) (at : Span) → c ≡ is.True at → out-Node (erase c) ≡ node.True at
 shows-true c at e = ap (λ c. out-Node (erase c)) e ∙ (ap out-Node (erase-true at) ∙ search (rules, the_lemmas))
+
+pub shows-self_ref : (c : Code) (at : Span) → c ≡ is.SelfRef at → out-Node (erase c) ≡ node.SelfRef at
+shows-self_ref c at e = ap (λ c. out-Node (erase c)) e ∙ (ap out-Node (erase-self_ref at) ∙ search (rules, the_lemmas))
 
 pub shows-int : (c : Code) (n : ℤ) (at : Span) → c ≡ is.Int n at → out-Node (erase c) ≡ node.Int n at
 shows-int c n at e = ap (λ c. out-Node (erase c)) e ∙ (ap out-Node (erase-int n at) ∙ search (rules, the_lemmas))
@@ -42,14 +45,23 @@ shows-local c slot name at e = ap (λ c. out-Node (erase c)) e ∙ (ap out-Node 
 pub shows-set_local : (c : Code) (slot : ℕ) (name : NameId) (value : Code) (at : Span) → c ≡ is.SetLocal slot name value at → out-Node (erase c) ≡ node.SetLocal name (erase value) at
 shows-set_local c slot name value at e = ap (λ c. out-Node (erase c)) e ∙ (ap out-Node (erase-set_local slot name value at) ∙ search (rules, the_lemmas))
 
+pub shows-field : (c : Code) (name : NameId) (at : Span) → c ≡ is.Field name at → out-Node (erase c) ≡ node.«Node::Field» name at
+shows-field c name at e = ap (λ c. out-Node (erase c)) e ∙ (ap out-Node (erase-field name at) ∙ search (rules, the_lemmas))
+
+pub shows-set_field : (c : Code) (name : NameId) (value : Code) (at : Span) → c ≡ is.SetField name value at → out-Node (erase c) ≡ node.SetField name (erase value) at
+shows-set_field c name value at e = ap (λ c. out-Node (erase c)) e ∙ (ap out-Node (erase-set_field name value at) ∙ search (rules, the_lemmas))
+
 pub shows-update_local : (c : Code) (slot : ℕ) (name : NameId) (op : AssignOp) (value : Code) (at : Span) → c ≡ is.UpdateLocal slot name op value at → out-Node (erase c) ≡ node.OpAssign (target.Local name) op (erase value) at
 shows-update_local c slot name op value at e = ap (λ c. out-Node (erase c)) e ∙ (ap out-Node (erase-update_local slot name op value at) ∙ search (rules, the_lemmas))
+
+pub shows-update_field : (c : Code) (name : NameId) (op : AssignOp) (value : Code) (at : Span) → c ≡ is.UpdateField name op value at → out-Node (erase c) ≡ node.OpAssign (target.Field name) op (erase value) at
+shows-update_field c name op value at e = ap (λ c. out-Node (erase c)) e ∙ (ap out-Node (erase-update_field name op value at) ∙ search (rules, the_lemmas))
 
 pub shows-update_element : (c : Code) (receiver : Code) (index : Code) (op : AssignOp) (value : Code) (at : Span) → c ≡ is.UpdateElement receiver index op value at → out-Node (erase c) ≡ node.OpAssign (target.Index (erase receiver) (erase index)) op (erase value) at
 shows-update_element c receiver index op value at e = ap (λ c. out-Node (erase c)) e ∙ (ap out-Node (erase-update_element receiver index op value at) ∙ search (rules, the_lemmas))
 
-pub shows-update_attribute : (c : Code) (number : Option Builtin) (name : NameId) (receiver : Code) (op : AssignOp) (value : Code) (at : Span) → c ≡ is.UpdateAttribute number name receiver op value at → out-Node (erase c) ≡ node.OpAssign (target.Attribute (erase receiver) name) op (erase value) at
-shows-update_attribute c number name receiver op value at e = ap (λ c. out-Node (erase c)) e ∙ (ap out-Node (erase-update_attribute number name receiver op value at) ∙ search (rules, the_lemmas))
+pub shows-update_attribute : (c : Code) (number : Option Builtin) (writer : Option NameId) (name : NameId) (receiver : Code) (op : AssignOp) (value : Code) (at : Span) → c ≡ is.UpdateAttribute number writer name receiver op value at → out-Node (erase c) ≡ node.OpAssign (target.Attribute (erase receiver) name) op (erase value) at
+shows-update_attribute c number writer name receiver op value at e = ap (λ c. out-Node (erase c)) e ∙ (ap out-Node (erase-update_attribute number writer name receiver op value at) ∙ search (rules, the_lemmas))
 
 pub shows-store : (c : Code) (receiver : Code) (name : NameId) (args : List Code) (at : Span) → c ≡ is.Store receiver name args at → out-Node (erase c) ≡ node.Store (erase receiver) name (map erase args) at
 shows-store c receiver name args at e = ap (λ c. out-Node (erase c)) e ∙ (ap out-Node (erase-store receiver name args at) ∙ search (rules, the_lemmas))
@@ -65,6 +77,12 @@ shows-walk c number name receiver args block at e = ap (λ c. out-Node (erase c)
 
 pub shows-function : (c : Code) (number : ℕ) (name : NameId) (args : List Code) (at : Span) → c ≡ is.Function number name args at → out-Node (erase c) ≡ node.Call None name (map erase args) None at
 shows-function c number name args at e = ap (λ c. out-Node (erase c)) e ∙ (ap out-Node (erase-function number name args at) ∙ search (rules, the_lemmas))
+
+pub shows-own : (c : Code) (name : NameId) (args : List Code) (at : Span) → c ≡ is.Own name args at → out-Node (erase c) ≡ node.Call None name (map erase args) None at
+shows-own c name args at e = ap (λ c. out-Node (erase c)) e ∙ (ap out-Node (erase-own name args at) ∙ search (rules, the_lemmas))
+
+pub shows-new : (c : Code) (class : ℕ) (first : Option ℕ) (name : NameId) (args : List Code) (at : Span) → c ≡ is.New class first name args at → out-Node (erase c) ≡ node.New name (map erase args) at
+shows-new c class first name args at e = ap (λ c. out-Node (erase c)) e ∙ (ap out-Node (erase-new class first name args at) ∙ search (rules, the_lemmas))
 
 pub shows-print : (c : Code) (form : Form) (name : NameId) (args : List Code) (at : Span) → c ≡ is.Print form name args at → out-Node (erase c) ≡ node.Call None name (map erase args) None at
 shows-print c form name args at e = ap (λ c. out-Node (erase c)) e ∙ (ap out-Node (erase-print form name args at) ∙ search (rules, the_lemmas))

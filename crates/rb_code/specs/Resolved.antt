@@ -1,10 +1,11 @@
 -- Where the numbers of a resolved tree are right for a script.
-use Rattle.std.specs.Prelude.{ℕ, ◌+◌, Bool, true, ◌&&◌, ◌==◌, nat_le, is_none, List, [], ◌∷◌, ◌++◌, length, map, position, Option, Some, None, codes}
+use Rattle.std.specs.Prelude.{ℕ, ◌+◌, Bool, true, not, ◌&&◌, ◌||◌, ◌==◌, nat_le, is_none, List, [], ◌∷◌, ◌++◌, length, map, position, Option, Some, None, codes}
 use Rattle.std.specs.List.{list_all}
 use Rattle.std.specs.Str.{bytes_eq}
 use Rattle.rb_tree.specs.declared.span.NameId.{NameId}
 use Rattle.rb_tree.specs.declared.node.Method.{Method}
 use Rattle.rb_machine.specs.Scopes.{Script, text_of}
+use Rattle.rb_machine.specs.Call.{class_from}
 use Rattle.rb_builtin.specs.declared.builtin.Builtin.{Builtin}
 use Rattle.rb_builtin.specs.Names.{builtin_of, same_number}
 use Rattle.rb_render.specs.declared.show.Form.{Form}
@@ -15,8 +16,10 @@ use Rattle.rb_code.specs.declared.code.CodeBlock.{CodeBlock, fold-CodeBlock}
 use Rattle.rb_code.specs.declared.code.Code.TheOpen.{Code-F, CodePiece-F, CodeBlock-F}
 use Rattle.rb_code.specs.declared.code.Code.TheOpen as code
 use Rattle.rb_code.specs.declared.scripted.CodeMethod.{CodeMethod}
+use Rattle.rb_code.specs.declared.scripted.CodeClass.{CodeClass}
 use Rattle.rb_code.specs.declared.scripted.CodeScript.{CodeScript}
 use Rattle.rb_code.specs.Layout.{is_at, has_slot}
+use Rattle.rb_code.specs.Dispatch.{method_number, is_writer}
 use Rattle.rb_code.specs.Erase.{erase_method}
 
 -- whether code is right where these names are in scope, in a frame of this size
@@ -37,10 +40,19 @@ form_text form.Puts = codes "puts"
 form_text form.Print = codes "print"
 form_text form.Inspect = codes "p"
 
+-- whether a text is that of a method that prints
+abbrev pub prints : List ℕ → Bool
+prints text = bytes_eq text (codes "puts") || (bytes_eq text (codes "print") || bytes_eq text (codes "p"))
+
 -- `p` of several values makes an array, which is not built yet
 abbrev pub form_takes : Form → ℕ → Bool
 form_takes form.Inspect count = nat_le count 1
 form_takes other count = true
+
+-- the same number, or none
+abbrev pub same_place : Option ℕ → Option ℕ → Bool
+same_place None other = is_none other
+same_place (Some n) other = is_at other n
 
 -- whether a text is the name of no built-in method
 abbrev pub is_free : List ℕ → Bool
@@ -57,6 +69,10 @@ module _ (S : Script) where
   abbrev pub has_number : Option Builtin → NameId → Bool
   has_number number name = same_number (builtin_of (text_of S name)) number
 
+  -- whether these are the number of a class and of its `initialize`
+  abbrev pub is_made : ℕ → Option ℕ → NameId → Bool
+  is_made class first name = is_at (class_from S 0 name S.program.classes) class && same_place (method_number S (codes "initialize") class) first
+
   abbrev pub piece_step : CodePiece-F Fits Fits Fits → Fits
   piece_step (code.Text text) names size = true
   piece_step (code.Code c) names size = c names size
@@ -72,14 +88,18 @@ module _ (S : Script) where
   node_step (code.Local slot name at) names size = has_slot name names slot
   node_step (code.SetLocal slot name value at) names size = has_slot name names slot && value names size
   node_step (code.UpdateLocal slot name op value at) names size = has_slot name names slot && value names size
+  node_step (code.SetField name value at) names size = value names size
+  node_step (code.UpdateField name op value at) names size = value names size
   node_step (code.UpdateElement receiver index op value at) names size = receiver names size && (index names size && value names size)
-  node_step (code.UpdateAttribute number name receiver op value at) names size =
-      has_number number name && (is_free (text_of S name ++ codes "=") && (receiver names size && value names size))
+  node_step (code.UpdateAttribute number writer name receiver op value at) names size =
+      has_number number name && (is_writer S writer name && (is_free (text_of S name ++ codes "=") && (receiver names size && value names size)))
   node_step (code.Store receiver name args at) names size = is_free (text_of S name) && (receiver names size && every args names size)
   node_step (code.Operate number name left right at) names size = has_number number name && (left names size && right names size)
   node_step (code.Send number name receiver args at) names size = has_number number name && (receiver names size && every args names size)
   node_step (code.Walk number name receiver args block at) names size = has_number number name && (receiver names size && (every args names size && block names size))
   node_step (code.Function number name args at) names size = is_at (function_of name) number && every args names size
+  node_step (code.Own name args at) names size = is_none (function_of name) && (not (prints (text_of S name)) && every args names size)
+  node_step (code.New class first name args at) names size = is_made class first name && every args names size
   node_step (code.Print form name args at) names size =
       is_none (function_of name) && (bytes_eq (text_of S name) (form_text form) && (form_takes form (length args) && every args names size))
   node_step (code.And left right at) names size = left names size && right names size
@@ -109,5 +129,8 @@ module _ (S : Script) where
       let names = S.method_names (erase_method m) in
       nat_le (length m.params) m.size && (nat_le (length names) m.size && body_fits m.body names m.size)
 
+  abbrev pub class_fits : CodeClass → Bool
+  class_fits c = list_all method_fits c.methods
+
   abbrev pub script_fits : CodeScript → Bool
-  script_fits c = list_all method_fits c.functions && (nat_le (length S.main_names) c.main_size && body_fits c.main S.main_names c.main_size)
+  script_fits c = list_all method_fits c.functions && (list_all class_fits c.classes && (nat_le (length S.main_names) c.main_size && body_fits c.main S.main_names c.main_size))

@@ -33,6 +33,7 @@ pub enum Code {
     Nil(Span),
     False(Span),
     True(Span),
+    SelfRef(Span),
     Int(i64, Span),
     /// A symbol.
     Sym(NameId, Span),
@@ -41,10 +42,23 @@ pub enum Code {
     /// A local, by its slot.
     Local(u32, NameId, Span),
     SetLocal(u32, NameId, Boxed<Code>, Span),
-    /// An assignment with an operator to a local, to an element, and to an attribute, with the number of the method that reads it.
+    /// An instance variable of `self` that is read, and one that is written.
+    Field(NameId, Span),
+    SetField(NameId, Boxed<Code>, Span),
+    /// An assignment with an operator to a local, to an instance variable, to an element, and to an attribute. That to an attribute has
+    /// the number of the built-in method that reads it, and the name of the methods that write it, where there is such a name.
     UpdateLocal(u32, NameId, AssignOp, Boxed<Code>, Span),
+    UpdateField(NameId, AssignOp, Boxed<Code>, Span),
     UpdateElement(Boxed<Code>, Boxed<Code>, AssignOp, Boxed<Code>, Span),
-    UpdateAttribute(Option<Builtin>, NameId, Boxed<Code>, AssignOp, Boxed<Code>, Span),
+    UpdateAttribute(
+        Option<Builtin>,
+        Option<NameId>,
+        NameId,
+        Boxed<Code>,
+        AssignOp,
+        Boxed<Code>,
+        Span,
+    ),
     /// An assignment by the call of a method, which is not built in.
     Store(Boxed<Code>, NameId, Items<Code>, Span),
     /// A call with one argument and without a block.
@@ -55,6 +69,10 @@ pub enum Code {
     Walk(Option<Builtin>, NameId, Boxed<Code>, Items<Code>, Boxed<CodeBlock>, Span),
     /// A call of a top-level method, by its number.
     Function(u32, NameId, Items<Code>, Span),
+    /// A call without receiver of a name that no top-level method has and none that prints.
+    Own(NameId, Items<Code>, Span),
+    /// A new object of the class of this number, whose method `initialize`, where it has one, is the one of this number among its methods.
+    New(u32, Option<u32>, NameId, Items<Code>, Span),
     /// A call of `puts`, `print` or `p`.
     Print(Form, NameId, Items<Code>, Span),
     And(Boxed<Code>, Boxed<Code>, Span),

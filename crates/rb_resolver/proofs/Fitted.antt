@@ -1,14 +1,16 @@
 -- Where code is right, by its parts.
-use Rattle.std.proofs.Common.{◌≡◌, ℕ, ◌+◌, ◌<◌, ◌≤◌, Bool, true, false, List, [], ◌∷◌, ◌++◌, length, map, take, get_or, Option, refl, sym, ap, ◌∙◌, eq-eqb, arith}
-use Rattle.std.specs.Prelude.{◌&&◌, nat_le}
+use Rattle.std.proofs.Common.{◌≡◌, ℕ, ◌+◌, ◌<◌, ◌≤◌, Bool, true, List, [], ◌∷◌, ◌++◌, length, map, take, get_or, Option, refl, sym, ap, ◌∙◌, eq-eqb, arith}
+use Rattle.std.specs.Prelude.{nat_le}
 use Rattle.std.specs.List.{list_all}
 use Rattle.std.specs.Option.{option_map}
 use Rattle.std.proofs.lemmas.Bool.Decides.{nat_tests}
-use Rattle.std.proofs.lemmas.List.{take_more, take_at, map-append}
+use Rattle.std.proofs.lemmas.List.{take_more, take_at, map-append, length-map, get_or-map}
 use Rattle.rb_tree.specs.declared.span.Span.{Span}
 use Rattle.rb_tree.specs.declared.span.NameId.{NameId}
 use Rattle.rb_tree.specs.declared.node.AssignOp.{AssignOp}
 use Rattle.rb_tree.specs.declared.node.Block.{Block}
+use Rattle.rb_tree.specs.declared.node.Class.{Class}
+use Rattle.rb_tree.specs.declared.node.Method.{Method}
 use Rattle.rb_tree.specs.declared.node.Node.{Node}
 use Rattle.rb_tree.specs.declared.node.Param.{Param}
 use Rattle.rb_machine.specs.Scopes.{Script}
@@ -20,6 +22,7 @@ use Rattle.rb_code.specs.Erase.{erase, erase_block}
 use Rattle.rb_code.specs.Layout.{has_slot}
 use Rattle.rb_code.specs.Resolved.{Fits, every, if_some, fits, piece_fits, block_fits}
 use Rattle.rb_code.proofs.Fitting.{fits-str, fits-local, fits-set_local, fits-update_local, fits-update_element, fits-and, fits-or, fits-not, fits-if, fits-while, fits-return, block_fits-parts}
+use Rattle.rb_code.proofs.Dispatched.{conjunction, conjunction_rest}
 use Rattle.rb_code.proofs.Erasing.{erase_block-parts}
 use Rattle.rb_resolver.proofs.Numbered.{both}
 
@@ -78,13 +81,10 @@ module _ {A B : Type 0} where
   map_pushed f xs new x ys y i is old e h at =
       ap (map f) is ∙ map-append f xs (x ∷ []) ∙ ap (λ zs. zs ++ f x ∷ []) old ∙ ap (λ z. take i ys ++ z ∷ []) (e ∙ at) ∙ sym (take_more ys i y h)
 
-conjunction : (a b : Bool) → (a && b) ≡ true → a ≡ true
-conjunction true b h = refl
-conjunction false b h = h
-
-conjunction_rest : (a b : Bool) → (a && b) ≡ true → b ≡ true
-conjunction_rest true b h = h
-conjunction_rest false b h = absurd (cc)
+  -- and what is made of their elements
+  pub map_next : (f : B → A) (xs new : List A) (x : A) (ys : List B) (y : B) (i : ℕ) → new ≡ xs ++ x ∷ [] → xs ≡ map f (take i ys) → x ≡ f y → i < length ys → y ≡ get_or ys i y → new ≡ map f (take (i + 1) ys)
+  map_next f xs new x ys y i is old e h at =
+      is ∙ ap (λ zs. zs ++ x ∷ []) old ∙ ap (λ z. map f (take i ys) ++ z ∷ []) (e ∙ ap f at) ∙ sym (map-append f (take i ys) (get_or ys i y ∷ [])) ∙ sym (ap (map f) (take_more ys i y h))
 
 pub every_pushed : {A : Type 0} (f : A → Fits) (xs new : List A) (x : A) (names : List NameId) (size : ℕ) → new ≡ xs ++ x ∷ [] → every (map f xs) names size ≡ true → f x names size ≡ true → every (map f new) names size ≡ true
 every_pushed {A = A} f xs new x names size is old h = ap (λ zs. every (map f zs) names size) is ∙ more xs old
@@ -111,6 +111,16 @@ all_pushed {A = A} p xs new x is old h = ap (list_all p) is ∙ more xs old
     more [] old = both _ _ h refl
     more (y ∷ ys) old = both _ _ (conjunction _ _ old) (more ys (conjunction_rest _ _ old))
 
-pub none_left : {A : Type 0} (xs : List A) → length xs < 1 → xs ≡ []
-none_left [] h = refl
-none_left (x ∷ xs) h = absurd (omega (arith, h))
+-- the names of methods of classes, as many as there are methods
+pub names_of_each : (f : Method → List NameId) (ks : List Class) → map length (map (λ (k : Class). map f k.methods) ks) ≡ map (λ (k : Class). length k.methods) ks
+names_of_each f [] = refl
+names_of_each f (k ∷ ks) = ap (λ n. n ∷ map length (map (λ (k : Class). map f k.methods) ks)) (length-map k.methods f) ∙ ap (λ ns. length k.methods ∷ ns) (names_of_each f ks)
+
+module _ (own : List (List (List NameId))) (ks : List Class) (same : map length own ≡ map (λ (k : Class). length k.methods) ks) where
+  pub as_many : length own ≡ length ks
+  as_many = sym (length-map own length) ∙ ap length same ∙ length-map ks (λ (k : Class). length k.methods)
+
+  pub as_many_at : (i : ℕ) (o : List (List NameId)) (k : Class) → i < length ks → o ≡ get_or own i o → k ≡ get_or ks i k → length o ≡ length k.methods
+  as_many_at i o k h there is =
+      ap length there ∙ sym (get_or-map length own i o 0 (omega (arith, h, as_many))) ∙ ap (λ ns. get_or ns i 0) same ∙ get_or-map (λ (k : Class). length k.methods) ks i k 0 h
+      ∙ ap (λ (k : Class). length k.methods) (sym is)

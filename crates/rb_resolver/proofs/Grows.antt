@@ -6,10 +6,10 @@ use Rattle.std.specs.Option.{option_map}
 use Rattle.std.proofs.lemmas.Bool.Decides.{nat_tests}
 use Rattle.std.proofs.lemmas.List.{take_more, length-take-le}
 use Rattle.rb_tree.specs.declared.span.NameId.{NameId}
-use Rattle.rb_tree.specs.declared.node.Method.{Method}
 use Rattle.rb_machine.specs.Scopes.{or_else}
 use Rattle.rb_code.specs.Layout.{slot_of}
-use Rattle.rb_resolver.specs.Known.{number_of, number_behind}
+use Rattle.rb_code.proofs.Dispatched.{other_number}
+use Rattle.rb_resolver.specs.Known.{number_behind}
 
 later : (b c : Bool) (o : Option ℕ) (n : ℕ) → or_else (option_map suc (cond b (Some n) o)) (cond c (Some 0) None) ≡ cond b (Some (suc n)) (or_else (option_map suc o) (cond c (Some 0) None))
 later true c o n = refl
@@ -29,9 +29,6 @@ slot_at name names left d some within =
     let h' : left - 1 ≤ length names = omega (arith, within) in
     ap (λ n. slot_of name (take n names)) e ∙ ap (slot_of name) (take_more names (left - 1) d h) ∙ slot_of_next name (take (left - 1) names) (get_or names (left - 1) d)
     ∙ ap (λ n. cond ((get_or names (left - 1) d).0 == name.0) (Some n) (slot_of name (take (left - 1) names))) (length-take-le (left - 1) names h')
-
-other_number : (m n : ℕ) → (m ≡ n → ⊥) → (m == n) ≡ false
-other_number m n h = grind (arith, nat_tests, h)
 
 pub slot_here : (name : NameId) (names : List NameId) (left : ℕ) (d : NameId) → 0 < left → left ≤ length names
     → slot_of name (take left names) ≡ slot_of name names → (get_or names (left - 1) d).0 ≡ name.0 → Some (left - 1) ≡ slot_of name names
@@ -55,7 +52,7 @@ first_is false a n = there (nat_lt a n) (nat_lt (1 + a) (suc n)) (grind (arith, 
     there true u h = ap (λ u. cond u (Some (1 + a)) None) h ∙ ap Some (omega arith)
     there false u h = ap (λ u. cond u (Some (1 + a)) None) h
 
-position_cons : {A : Type 0} (p : A → Bool) (x : A) (xs : List A) → position p (x ∷ xs) ≡ cond (p x) (Some 0) (option_map suc (position p xs))
+pub position_cons : {A : Type 0} (p : A → Bool) (x : A) (xs : List A) → position p (x ∷ xs) ≡ cond (p x) (Some 0) (option_map suc (position p xs))
 position_cons p x xs = first_is (p x) (position_or_len p xs) (length xs)
 
 or_last : Option ℕ → Bool → ℕ → Option ℕ
@@ -81,9 +78,10 @@ unfolding or_last
 behind_is None name other n = refl
 behind_is (Some i) name other n = refl
 
--- the number of a name, with one more method behind
-pub number_next : (name : NameId) (ms more : List Method) (m : Method) (n : ℕ) (old new : Option ℕ) → more ≡ ms ++ m ∷ [] → n ≡ length ms
-    → old ≡ number_of name ms → new ≡ number_behind old m.name name n → new ≡ number_of name more
-number_next name ms more m n old new is count o h =
-    h ∙ ap (λ o. number_behind o m.name name n) o ∙ ap (number_behind (number_of name ms) m.name name) count ∙ sym (behind_is (number_of name ms) m.name name (length ms))
-    ∙ sym (position-more (λ (k : Method). k.name.0 == name.0) ms m) ∙ sym (ap (number_of name) is)
+-- the number of a name, with one more behind that has a name
+pub number_next : {A : Type 0} (named : A → NameId) (name : NameId) (xs more : List A) (x : A) (n : ℕ) (old new : Option ℕ) → more ≡ xs ++ x ∷ [] → n ≡ length xs
+    → old ≡ position (λ y. (named y).0 == name.0) xs → new ≡ number_behind old (named x) name n → new ≡ position (λ y. (named y).0 == name.0) more
+number_next {A = A} named name xs more x n old new is count o h =
+    let first : List A → Option ℕ = λ ys. position (λ y. (named y).0 == name.0) ys in
+    h ∙ ap (λ o. number_behind o (named x) name n) o ∙ ap (number_behind (first xs) (named x) name) count ∙ sym (behind_is (first xs) (named x) name (length xs))
+    ∙ sym (position-more (λ y. (named y).0 == name.0) xs x) ∙ sym (ap first is)

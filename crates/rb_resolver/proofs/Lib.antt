@@ -2,3 +2,4 @@ pub mod Layers
 pub mod Grows
 pub mod Numbered
 pub mod Fitted
+pub mod Rows

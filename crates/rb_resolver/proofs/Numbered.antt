@@ -1,14 +1,17 @@
 -- Where the code of calls is right.
 use Rattle.std.proofs.Common.{◌≡◌, ℕ, Bool, true, false, cond, List, [], ◌∷◌, ◌++◌, length, map, Option, Some, None, refl, sym, ap, ◌∙◌, eq-eqb, length-append, rules, arith}
-use Rattle.std.specs.Prelude.{◌&&◌, is_none}
+use Rattle.std.specs.Prelude.{◌&&◌, ◌||◌, not, is_none, slice_get, unwrap_or}
 use Rattle.std.specs.Str.{bytes_eq}
 use Rattle.std.specs.HashMap as hash
 use Rattle.std.specs.Prelude.{nat_eq, codes}
 use Rattle.std.proofs.lemmas.List.{length-map}
+use Rattle.rb_tree.specs.Texts.{number_of as numbered}
+use Rattle.rb_tree.proofs.Numbering.{bytes_eq-same, slice_get-number_of}
 use Rattle.rb_tree.specs.declared.span.Span.{Span}
 use Rattle.rb_tree.specs.declared.span.NameId.{NameId}
 use Rattle.rb_tree.specs.declared.node.AssignOp.{AssignOp}
 use Rattle.rb_machine.specs.Scopes.{Script, Text, name_text, text_of}
+use Rattle.rb_machine.specs.Call.{class_from}
 use Rattle.rb_builtin.specs.declared.builtin.Builtin.{Builtin}
 use Rattle.rb_builtin.specs.Names.{builtin_of, same_number}
 use Rattle.rb_render.specs.declared.show.Form.{Form}
@@ -17,8 +20,9 @@ use Rattle.rb_code.specs.declared.code.Code.{Code}
 use Rattle.rb_code.specs.declared.code.Code.TheVariants as is
 use Rattle.rb_code.specs.declared.code.CodeBlock.{CodeBlock}
 use Rattle.rb_code.specs.Layout.{is_at}
-use Rattle.rb_code.specs.Resolved.{every, form_text, form_takes, function_of, has_number, is_free, fits, block_fits}
-use Rattle.rb_code.proofs.Fitting.{fits-function, fits-print, fits-send, fits-operate, fits-walk, fits-store, fits-update_attribute}
+use Rattle.rb_code.specs.Dispatch.{method_number, in_no_class, is_writer}
+use Rattle.rb_code.specs.Resolved.{every, form_text, form_takes, prints, function_of, has_number, is_free, same_place, fits, block_fits}
+use Rattle.rb_code.proofs.Fitting.{fits-function, fits-own, fits-print, fits-send, fits-operate, fits-walk, fits-store, fits-update_attribute, fits-new}
 use Rattle.rb_resolver.specs.Known.{form_of, IsKnown}
 use Rattle.rb_resolver.specs.declared.known.Known.{Known}
 use Rattle.rb_resolver.proofs.Layers.{same_number_itself}
@@ -28,6 +32,10 @@ both a b h q = rw h q
 
 is_at_itself : (o : Option ℕ) (n : ℕ) → o ≡ Some n → is_at o n ≡ true
 is_at_itself o n h = ap (λ o. is_at o n) h ∙ eq-eqb n n refl
+
+same_place_as : (o p : Option ℕ) → p ≡ o → same_place o p ≡ true
+same_place_as None p h = ap is_none h
+same_place_as (Some n) p h = is_at_itself p n h
 
 -- the form of a text is one whose text it is
 chosen : Form → Bool → Bool → Bool → Bool
@@ -50,6 +58,18 @@ choose false false true form.Puts h = absurd (cc)
 choose false false true form.Print h = absurd (cc)
 choose false false true form.Inspect h = refl
 choose false false false f h = absurd (cc)
+
+-- a text without a form prints nothing
+none_chosen : (a b c : Bool) → None ≡ choice a b c → not (a || (b || c)) ≡ true
+unfolding choice
+none_chosen true b c h = absurd (cc)
+none_chosen false true c h = absurd (cc)
+none_chosen false false true h = absurd (cc)
+none_chosen false false false h = refl
+
+no_form : (text : Text) → None ≡ form_of text → not (prints text) ≡ true
+unfolding choice
+no_form text h = none_chosen (bytes_eq text (codes "puts")) (bytes_eq text (codes "print")) (bytes_eq text (codes "p")) h
 
 form_is : (text : Text) (f : Form) → form_of text ≡ Some f → bytes_eq text (form_text f) ≡ true
 unfolding chosen choice
@@ -138,13 +158,6 @@ pub store_fits : (S : Script) (scope : List NameId) (size : ℕ) (names : List T
 store_fits S scope size names name receiver args at texts free r a =
     fits-store S scope size receiver name args at ∙ both _ _ (ap (λ ns. is_free (name_text ns name)) texts ∙ free) (both _ _ r a)
 
-pub update_attribute_fits : (S : Script) (scope : List NameId) (size : ℕ) (names : List Text) (number : Option Builtin) (name : NameId) (receiver : Code) (op : AssignOp) (value : Code) (at : Span)
-    → S.program.names ≡ names → number ≡ builtin_of (name_text names name) → is_free (name_text names name ++ codes "=") ≡ true
-    → fits S receiver scope size ≡ true → fits S value scope size ≡ true → fits S (is.UpdateAttribute number name receiver op value at) scope size ≡ true
-update_attribute_fits S scope size names number name receiver op value at texts n free r v =
-    fits-update_attribute S scope size number name receiver op value at
-    ∙ both _ _ (number_fits S names name number texts n) (both _ _ (ap (λ ns. is_free (name_text ns name ++ codes "=")) texts ∙ free) (both _ _ r v))
-
 module _ (known : Known) (names : List Text) (S : Script) (k : IsKnown known names S) (scope : List NameId) (size : ℕ) where
   pub function_fits : (number : ℕ) (name : NameId) (args : List Code) (at : Span) → Some number ≡ hash.get nat_eq known.functions name.0
       → every (map (fits S) args) scope size ≡ true → fits S (is.Function number name args at) scope size ≡ true
@@ -156,6 +169,32 @@ module _ (known : Known) (names : List Text) (S : Script) (k : IsKnown known nam
   print_fits f name args at h is takes a =
       fits-print S scope size f name args at ∙ both _ _ (sym (ap is_none (h ∙ k.functions name)))
       (both _ _ (form_is (text_of S name) f (ap (λ ns. form_of (name_text ns name)) k.texts ∙ sym is)) (both _ _ (ap (form_takes f) (length-map args (fits S)) ∙ takes) a))
+
+  pub own_fits : (name : NameId) (args : List Code) (at : Span) → None ≡ hash.get nat_eq known.functions name.0 → None ≡ form_of (name_text names name)
+      → every (map (fits S) args) scope size ≡ true → fits S (is.Own name args at) scope size ≡ true
+  own_fits name args at h none a =
+      fits-own S scope size name args at ∙ both _ _ (sym (ap is_none (h ∙ k.functions name)))
+      (both _ _ (no_form (text_of S name) (none ∙ sym (ap (λ ns. form_of (name_text ns name)) k.texts))) a)
+
+  writer_fits : (writer : Option NameId) (name : NameId) → writer ≡ numbered (name_text names name ++ codes "=") names → is_writer S writer name ≡ true
+  writer_fits None name h = ap (λ ns. in_no_class S (name_text ns name ++ codes "=")) k.texts ∙ k.absent (name_text names name ++ codes "=") (sym h)
+  writer_fits (Some writer) name h =
+      let text = ap (λ ns. name_text ns writer) k.texts ∙ ap (λ o. unwrap_or o []) (slice_get-number_of (name_text names name ++ codes "=") names writer (sym h)) in
+      bytes_eq-same (text_of S writer) (text_of S name ++ codes "=") (text ∙ sym (ap (λ ns. name_text ns name ++ codes "=") k.texts))
+
+  pub update_attribute_fits : (number : Option Builtin) (writer : Option NameId) (name : NameId) (receiver : Code) (op : AssignOp) (value : Code) (at : Span)
+      → number ≡ builtin_of (name_text names name) → writer ≡ numbered (name_text names name ++ codes "=") names → is_free (name_text names name ++ codes "=") ≡ true
+      → fits S receiver scope size ≡ true → fits S value scope size ≡ true → fits S (is.UpdateAttribute number writer name receiver op value at) scope size ≡ true
+  update_attribute_fits number writer name receiver op value at n w free r v =
+      fits-update_attribute S scope size number writer name receiver op value at
+      ∙ both _ _ (number_fits S names name number k.texts n)
+      (both _ _ (writer_fits writer name w) (both _ _ (ap (λ ns. is_free (name_text ns name ++ codes "=")) k.texts ∙ free) (both _ _ r v)))
+
+  pub new_fits : (class : ℕ) (first : Option ℕ) (name : NameId) (args : List Code) (at : Span) → Some class ≡ hash.get nat_eq known.classes name.0 → first ≡ unwrap_or (slice_get known.firsts class) None
+      → every (map (fits S) args) scope size ≡ true → fits S (is.New class first name args at) scope size ≡ true
+  new_fits class first name args at h f a =
+      fits-new S scope size class first name args at
+      ∙ both _ _ (both _ _ (is_at_itself (class_from S 0 name S.program.classes) class (sym (h ∙ k.classes name))) (same_place_as (method_number S (codes "initialize") class) first (f ∙ k.firsts class))) a
 
 -- a list of one
 pub only_one : (args rest : List Code) (right : Code) → length args ≡ 1 → args ≡ rest ++ right ∷ [] → args ≡ right ∷ []

@@ -1,11 +1,11 @@
-// Which code a call becomes, once its parts are resolved.
+// Which code a call or a new object becomes, once its parts are resolved.
 
 ghost use Rattle.std.specs.Prelude.{◌≡◌, ℕ, ◌∷◌, [], List, Some, None, true, map, IfOk};
 ghost use Rattle.std.specs.Option.{option_map};
 ghost use Rattle.rb_code.specs.Erase.{erase, erase_block};
 ghost use Rattle.rb_code.specs.Resolved.{every, if_some, fits, block_fits, form_takes};
 ghost use Rattle.rb_builtin.specs.Names as builtin;
-ghost use Rattle.rb_machine.specs.Scopes.{Script, name_text};
+ghost use Rattle.rb_machine.specs.Scopes.{Script, Text, name_text};
 ghost use Rattle.rb_resolver.specs.Known as spec;
 ghost use Rattle.rb_tree.specs.declared.node.Node.TheVariants as tree;
 ghost use Rattle.rb_tree.specs.declared.span.NameId.{NameId as Id};
@@ -62,7 +62,7 @@ fn named(
         return Ok(Code::Function(number, name, args, at));
     }
     let Some(form) = form_of(name_text(names, name)) else {
-        return Err(ResolveFault::NotBuilt(at));
+        return Ok(Code::Own(name, args, at));
     };
     if !is_built(form, args.len()) {
         return Err(ResolveFault::NotBuilt(at));
@@ -116,4 +116,21 @@ pub(crate) fn called(
             Ok(Code::Walk(number, name, receiver, args, block, at))
         }
     }
+}
+
+/// A new object of a class of the script.
+pub(crate) fn made(
+    known: &Known,
+    class: NameId,
+    args: Items<Code>,
+    at: Span,
+) -> Result<Code, ResolveFault>
+    ensures erases { IfOk result (λ code. erase code ≡ tree.New class (map erase args) at) }
+    ensures fits { IfOk result (λ code. (S : Script) (names : List Text) (scope : List Id) (size : ℕ) → spec.IsKnown known.now names S → every (map (fits S) args) scope size ≡ true → fits S code scope size ≡ true) }
+{
+    let Some(number) = known.class(class) else {
+        return Err(ResolveFault::NotBuilt(at));
+    };
+    let first = known.first(number);
+    Ok(Code::New(number, first, class, args, at))
 }

@@ -2,6 +2,7 @@
 #![tactic(auto)]
 
 mod calls;
+mod dispatch;
 mod fault;
 mod frame;
 mod known;

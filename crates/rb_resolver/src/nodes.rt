@@ -7,7 +7,7 @@ ghost use Rattle.rb_code.specs.Resolved.{every, if_some, fits, piece_fits, block
 ghost use Rattle.rb_machine.specs.Scopes.{Script};
 ghost use Rattle.rb_resolver.specs.Known as spec;
 
-use crate::calls::called;
+use crate::calls::{called, made};
 use crate::fault::ResolveFault;
 use crate::frame::Frame;
 use crate::known::Known;
@@ -34,6 +34,7 @@ fn node(
         Node::Nil(at) => Ok(Code::Nil(*at)),
         Node::False(at) => Ok(Code::False(*at)),
         Node::True(at) => Ok(Code::True(*at)),
+        Node::SelfRef(at) => Ok(Code::SelfRef(*at)),
         Node::Int(n, at) => Ok(Code::Int(*n, *at)),
         Node::Sym(name, at) => Ok(Code::Sym(*name, *at)),
         Node::Str(pieces, at) => {
@@ -48,6 +49,11 @@ fn node(
             let slot = frame.slot(*name, *at)?;
             let value = boxed(known, names, value.get(), frame)?;
             Ok(Code::SetLocal(slot, *name, value, *at))
+        }
+        Node::Field(name, at) => Ok(Code::Field(*name, *at)),
+        Node::SetField(name, value, at) => {
+            let value = boxed(known, names, value.get(), frame)?;
+            Ok(Code::SetField(*name, value, *at))
         }
         Node::Store {
             receiver,
@@ -70,6 +76,10 @@ fn node(
                 let value = boxed(known, names, value.get(), frame)?;
                 Ok(Code::UpdateLocal(slot, *name, *op, value, *at))
             }
+            Target::Field(name) => {
+                let value = boxed(known, names, value.get(), frame)?;
+                Ok(Code::UpdateField(*name, *op, value, *at))
+            }
             Target::Index(receiver, index) => {
                 let receiver = boxed(known, names, receiver.get(), frame)?;
                 let index = boxed(known, names, index.get(), frame)?;
@@ -79,9 +89,9 @@ fn node(
             Target::Attribute(receiver, name) => {
                 let receiver = boxed(known, names, receiver.get(), frame)?;
                 let value = boxed(known, names, value.get(), frame)?;
-                attribute_updated(names, *name, receiver, *op, value, *at)
+                attribute_updated(known, names, *name, receiver, *op, value, *at)
             }
-            Target::Field(_) | Target::Global(_) => Err(ResolveFault::NotBuilt(*at)),
+            Target::Global(_) => Err(ResolveFault::NotBuilt(*at)),
         },
         Node::Call {
             receiver,
@@ -94,6 +104,10 @@ fn node(
             let args = body(known, names, args.as_slice(), frame)?;
             let block = optional_block(known, names, block, frame)?;
             called(known, names, receiver, *name, args, block, *at)
+        }
+        Node::New { class, args, at } => {
+            let args = body(known, names, args.as_slice(), frame)?;
+            made(known, *class, args, *at)
         }
         Node::And(left, right, at) => {
             let left = boxed(known, names, left.get(), frame)?;
@@ -126,14 +140,10 @@ fn node(
         }
         Node::Break(at) => Ok(Code::Break(*at)),
         Node::Next(at) => Ok(Code::Next(*at)),
-        Node::SelfRef(at)
-        | Node::Array(_, at)
+        Node::Array(_, at)
         | Node::Hash(_, at)
-        | Node::Field(_, at)
         | Node::Global(_, at)
-        | Node::SetField(_, _, at)
         | Node::SetGlobal(_, _, at)
-        | Node::New { at, .. }
         | Node::ThreadNew { at, .. } => Err(ResolveFault::NotBuilt(*at)),
     }
 }

@@ -2,20 +2,22 @@
 
 ghost use Rattle.std.specs.Prelude.{◌≡◌, ◌≤◌, ℕ, true, length, map, IfOk};
 ghost use Rattle.std.specs.List.{list_all};
-ghost use Rattle.rb_code.specs.Erase.{erase, erase_method};
-ghost use Rattle.rb_code.specs.Resolved.{body_fits, method_fits};
+ghost use Rattle.rb_code.specs.Erase.{erase, erase_method, erase_class};
+ghost use Rattle.rb_code.specs.Resolved.{body_fits, method_fits, class_fits};
 ghost use Rattle.rb_code.specs.Stands.{StandsFor};
 ghost use Rattle.rb_machine.specs.Scopes.{Script};
 ghost use Rattle.rb_resolver.specs.Known as spec;
 ghost use Rattle.rb_resolver.specs.Names.{script_of};
+ghost use Rattle.rb_tree.specs.declared.node.Class.{Class as Kind};
 
+use crate::dispatch::dispatch_of;
 use crate::fault::ResolveFault;
 use crate::frame::Frame;
-use crate::known::{Known, numbers_of};
+use crate::known::{Known, firsts_of, numbers_of, numbers_of_classes};
 use crate::nodes::body;
 use rb_checker::names_of_scopes;
-use rb_code::{Code, CodeMethod, CodeScript};
-use rb_tree::{Items, Method, NameId, Names, Node, Program};
+use rb_code::{Code, CodeClass, CodeMethod, CodeScript};
+use rb_tree::{Class, Items, Method, NameId, Names, Node, Program};
 use std::alloc::Global;
 
 /// Resolves the statements of a text whose own names are these. Answers the size of its frame too, which is at least this.
@@ -88,6 +90,30 @@ fn methods(
     Ok(codes)
 }
 
+/// Resolves classes, the names of whose methods are given in their order.
+fn classes(
+    known: &Known,
+    names: &Names,
+    own: &[Items<Items<NameId>>],
+    sources: &[Class],
+) -> Result<Items<CodeClass>, ResolveFault>
+    requires { map length own.now ≡ map (λ (k : Kind). length k.methods) sources.now }
+    ensures erases { IfOk result (λ classes. map erase_class classes ≡ sources.now) }
+    ensures fits { IfOk result (λ classes. (S : Script) → spec.IsKnown known.now names.now S → own.now ≡ map (λ (k : Kind). map S.method_names k.methods) sources.now → list_all (class_fits S) classes ≡ true) }
+{
+    let mut codes = Items::new(known.alloc);
+    'classes: for (i, source) in sources.iter().enumerate() {
+        let Class { name, methods, at } = source;
+        let methods = self::methods(known, names, own[i].as_slice(), methods.as_slice())?;
+        codes.push(CodeClass {
+            name: *name,
+            methods,
+            at: *at,
+        })?;
+    }
+    Ok(codes)
+}
+
 /// Resolves a program. What comes stands for that very program, whose locals lie in the scopes that its text gives them.
 ///
 /// # Errors
@@ -95,23 +121,29 @@ fn methods(
 pub fn resolve(alloc: Global, program: &Program) -> Result<CodeScript, ResolveFault>
     ensures { IfOk result (λ script. StandsFor script (script_of program.now)) }
 {
-    if let [first, ..] = program.classes.as_slice() {
-        return Err(ResolveFault::NotBuilt(first.at));
-    }
-    let scopes = names_of_scopes(alloc, program)?;
+    let names = &program.names;
+    let dispatch = dispatch_of(alloc, names, program.classes.as_slice())?;
+    let firsts = firsts_of(alloc, names, program.classes.as_slice())?;
+    let numbers = numbers_of_classes(alloc, program.classes.as_slice())?;
     let functions = numbers_of(alloc, program.functions.as_slice())?;
+    let scopes = names_of_scopes(alloc, program)?;
     let known = Known {
         alloc,
         functions,
+        classes: numbers,
+        firsts,
         scopes,
     };
-    let names = &program.names;
+    let own = known.scopes.classes.as_slice();
+    let classes = classes(&known, names, own, program.classes.as_slice())?;
     let own = known.scopes.functions.as_slice();
     let functions = methods(&known, names, own, program.functions.as_slice())?;
     let own = known.scopes.main.as_slice();
     let (main, main_size) = text(&known, names, own, program.main.as_slice(), 0)?;
     Ok(CodeScript {
         functions,
+        classes,
+        dispatch,
         main,
         main_size,
     })

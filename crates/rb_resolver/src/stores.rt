@@ -4,17 +4,21 @@ ghost use Rattle.std.specs.Prelude.{◌≡◌, ◌++◌, ℕ, List, codes, true,
 ghost use Rattle.rb_code.specs.Erase.{erase};
 ghost use Rattle.rb_code.specs.Resolved.{every, fits};
 ghost use Rattle.rb_code.specs.Resolved as resolved;
-ghost use Rattle.rb_machine.specs.Scopes.{Script};
+ghost use Rattle.rb_machine.specs.Scopes.{Script, name_text};
+ghost use Rattle.rb_resolver.specs.Known as spec;
+ghost use Rattle.rb_tree.specs.Texts.{number_of as numbered};
 ghost use Rattle.rb_tree.specs.declared.node.Node.TheVariants as tree;
 ghost use Rattle.rb_tree.specs.declared.node.Target.TheVariants as target;
 ghost use Rattle.rb_tree.specs.declared.span.NameId.{NameId as Id};
 
 use crate::calls::number_of;
 use crate::fault::ResolveFault;
+use crate::known::Known;
 use rb_builtin::builtin_of;
 use rb_code::Code;
 use rb_render::name_text;
 use rb_tree::{AssignOp, Boxed, Items, NameId, Names, Span};
+use std::alloc::Global;
 
 /// Whether a text is the name of no built-in method.
 fn is_free(text: &[u8]) -> bool
@@ -54,9 +58,19 @@ pub(crate) fn stored(
     Ok(Code::Store(receiver, name, args, at))
 }
 
+/// The name of the methods that write an attribute, where there is one.
+fn writer_of(alloc: Global, names: &Names, name: NameId) -> Result<Option<NameId>, ResolveFault>
+    ensures { IfOk result (λ writer. writer ≡ numbered (name_text names.now name ++ codes "=") names.now) }
+{
+    let mut text = Vec::from_slice(alloc, name_text(names, name))?;
+    text.push(b'=')?;
+    Ok(names.find(text.as_slice()))
+}
+
 /// An assignment with an operator to an attribute. The name of an attribute is a word, so that with `=` behind it it is never that of a
 /// built-in method.
 pub(crate) fn attribute_updated(
+    known: &Known,
     names: &Names,
     name: NameId,
     receiver: Boxed<Code>,
@@ -65,11 +79,12 @@ pub(crate) fn attribute_updated(
     at: Span,
 ) -> Result<Code, ResolveFault>
     ensures erases { IfOk result (λ code. erase code ≡ tree.OpAssign (target.Attribute (erase receiver) name) op (erase value) at) }
-    ensures fits { IfOk result (λ code. (S : Script) (scope : List Id) (size : ℕ) → S.program.names ≡ names.now → fits S receiver scope size ≡ true → fits S value scope size ≡ true → fits S code scope size ≡ true) }
+    ensures fits { IfOk result (λ code. (S : Script) (scope : List Id) (size : ℕ) → spec.IsKnown known.now names.now S → fits S receiver scope size ≡ true → fits S value scope size ≡ true → fits S code scope size ≡ true) }
 {
     if !is_writer_free(name_text(names, name)) {
         return Err(ResolveFault::NotBuilt(at));
     }
     let number = number_of(names, name);
-    Ok(Code::UpdateAttribute(number, name, receiver, op, value, at))
+    let writer = writer_of(known.alloc, names, name)?;
+    Ok(Code::UpdateAttribute(number, writer, name, receiver, op, value, at))
 }

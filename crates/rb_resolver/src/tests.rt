@@ -140,22 +140,91 @@ fn calls_have_the_numbers_of_built_in_methods(rt: HostRuntime) -> Result<(), Fai
 }
 
 #[test]
+fn methods_of_classes_are_found_by_names(rt: HostRuntime) -> Result<(), Fail> {
+    for (source, script) in [
+        (
+            "class A\ndef f(a)\n@x = a\nend\ndef g\n@x += 1\nself.f(@x)\nend\nend",
+            "A(f[1]: (set @x a/0); g[0]: (update @x 1) (operate f? self @x); ) f@0.0 g@0.1 [0]:",
+        ),
+        // The names of a method are its own.
+        (
+            "class A\ndef f(a)\nb = a\nend\ndef g(b)\n2.times { |a| b }\nend\nend\nb = 1",
+            "A(f[2]: (set b/1 a/0); g[2]: (walk times 2 {1+1 b/0}); ) f@0.0 g@0.1 [1]: (set b/0 1)",
+        ),
+        // One name finds a method in two classes.
+        (
+            "class A\ndef f\nend\nend\nclass B\ndef g\nend\ndef f\nend\nend",
+            "A(f[0]:; ) B(g[0]:; f[0]:; ) f@0.0 f@1.1 g@1.0 [0]:",
+        ),
+        // Of two methods of one name the first is found.
+        (
+            "class A\ndef f\n1\nend\ndef f\n2\nend\nend",
+            "A(f[0]: 1; f[0]: 2; ) f@0.0 f@0.1 [0]:",
+        ),
+        // A call has the number of the built-in method too, for receivers of other classes.
+        (
+            "class A\ndef to_s\n\"a\"\nend\nend\nA.new.to_s",
+            "A(to_s[0]: (text 'a'); ) to_s@0.0 [0]: (send to_s (new A/0))",
+        ),
+        // A call without receiver has the number of the top-level method too, which is called where the class of `self` has none.
+        (
+            "class A\ndef f\n2\nend\ndef g\nf\nend\nend\ndef f\n1\nend",
+            "A(f[0]: 2; g[0]: (call f/0); ) f@0.0 g@0.1 f[0]: 1; [0]:",
+        ),
+        // One that only classes have has no number.
+        (
+            "class A\ndef f\ng 1\nend\ndef g(x)\nend\nend",
+            "A(f[0]: (own g 1); g[1]:; ) f@0.0 g@0.1 [0]:",
+        ),
+        (
+            "class A\ndef puts(x)\nx\nend\ndef g\nputs 1\nend\nend",
+            "A(puts[1]: x/0; g[0]: (Puts 1); ) puts@0.0 g@0.1 [0]:",
+        ),
+    ] {
+        let found = told(rt.alloc(), source)?;
+        assert_eq!(rt; found.as_str(), script);
+    }
+    Ok(())
+}
+
+#[test]
+fn objects_are_made_by_the_numbers_of_classes(rt: HostRuntime) -> Result<(), Fail> {
+    for (source, script) in [
+        (
+            "class A\ndef f\nend\ndef initialize(x)\n@x = x\nend\nend\nclass B\nend\nA.new(1)\nB.new",
+            "A(f[0]:; initialize[1]: (set @x x/0); ) B() f@0.0 initialize@0.1 [0]: (new A/0.1 1) (new B/1)",
+        ),
+        // Of two classes of one name the first is made.
+        (
+            "class A\nend\nclass A\ndef initialize\nend\nend\nA.new",
+            "A() A(initialize[0]:; ) initialize@1.0 [0]: (new A/0)",
+        ),
+        // An assignment with an operator to an attribute has the name of what writes it, where there is such a name.
+        (
+            "class A\nattr_accessor :x\nend\na = A.new\na.x = 1\na.x += 2\na.y += 3\na.x",
+            "A(x[0]: @x; x=[1]: (set @x v/0); ) x@0.0 x=@0.1 [1]: (set a/0 (new A/0)) (store x= a/0 1) (update .x?/x= a/0 2) (update .y? a/0 3) (send x? a/0)",
+        ),
+        ("1\nself", "[0]: 1 self"),
+    ] {
+        let found = told(rt.alloc(), source)?;
+        assert_eq!(rt; found.as_str(), script);
+    }
+    Ok(())
+}
+
+#[test]
 fn what_is_not_built_is_told_at_its_place(rt: HostRuntime) -> Result<(), Fail> {
     for (source, fault) in [
-        ("1\nself", "not built 2"),
         ("1\n[2]", "not built 2"),
         ("x = {}", "not built 4"),
-        ("@x", "not built 0"),
         ("$x", "not built 0"),
-        ("@x = 1", "not built 3"),
         ("$x = 1", "not built 3"),
-        ("@x += 1", "not built 3"),
         ("$x += 1", "not built 3"),
         ("Foo.new", "not built 4"),
+        ("Array.new(2)", "not built 6"),
         ("Thread.new { 1 }", "not built 7"),
-        ("1\nclass A\nend\nclass B\nend", "not built 8"),
+        ("class A\ndef f\n[1]\nend\nend", "not built 14"),
         ("p 1, 2", "not built 0"),
-        ("foo 1", "not built 0"),
     ] {
         let found = told(rt.alloc(), source)?;
         assert_eq!(rt; found.as_str(), fault);

@@ -1,27 +1,63 @@
 // A resolved script as a text. A local is its name and its slot, as `x/0`; a block `{2+1 ..}` has one local of its own, in slot 2; a text
-// that has a frame of 3 slots is `f[3]: ..`. A call of a name that no built-in method has is written with `?`.
+// that has a frame of 3 slots is `f[3]: ..`. A call of a name that no built-in method has is written with `?`. A class is `A(..)`, and
+// behind the classes stands what each name finds in them, as `f@0.1`, the second method of the first class.
 
 use rb_builtin::Builtin;
-use rb_code::{Code, CodeBlock, CodePiece, CodeScript};
+use rb_code::{Code, CodeBlock, CodeMethod, CodePiece, CodeScript, Found};
 use rb_tree::{Boxed, NameId, Names};
 use std::alloc::{AllocError, Global};
 
-/// A script: its methods, and its top level.
+/// A script: its classes and what names find there, its methods, and its top level.
 pub(crate) fn printed(
     alloc: Global,
     names: &Names,
     script: &CodeScript,
 ) -> Result<String, AllocError> {
     let mut out = String::new(alloc);
-    for method in script.functions.as_slice() {
-        write_name(&mut out, names, method.name)?;
-        write!(out, "[{}]:", method.size)?;
-        write_codes(&mut out, names, method.body.as_slice())?;
-        out.push_str("; ")?;
+    for class in script.classes.as_slice() {
+        write_name(&mut out, names, class.name)?;
+        out.push('(')?;
+        write_methods(&mut out, names, class.methods.as_slice())?;
+        out.push_str(") ")?;
     }
+    for (i, row) in script.dispatch.as_slice().iter().enumerate() {
+        write_row(&mut out, names, i, row.as_slice())?;
+    }
+    write_methods(&mut out, names, script.functions.as_slice())?;
     write!(out, "[{}]:", script.main_size)?;
     write_codes(&mut out, names, script.main.as_slice())?;
     Ok(out)
+}
+
+fn write_methods(
+    out: &mut String,
+    names: &Names,
+    methods: &[CodeMethod],
+) -> Result<(), AllocError> {
+    for method in methods {
+        write_name(out, names, method.name)?;
+        write!(out, "[{}]:", method.size)?;
+        write_codes(out, names, method.body.as_slice())?;
+        out.push_str("; ")?;
+    }
+    Ok(())
+}
+
+/// What the name of a number finds in classes, where it finds something.
+fn write_row(
+    out: &mut String,
+    names: &Names,
+    name: usize,
+    row: &[Found],
+) -> Result<(), AllocError> {
+    let Ok(name) = u32::try_from(name) else {
+        return Ok(());
+    };
+    for found in row {
+        write_name(out, names, NameId(name))?;
+        write!(out, "@{}.{} ", found.class, found.method)?;
+    }
+    Ok(())
 }
 
 fn write_bytes(out: &mut String, bytes: &[u8]) -> Result<(), AllocError> {
@@ -57,12 +93,30 @@ fn write_called(
     }
 }
 
+/// The name of the methods that write an attribute, where there is one.
+fn write_writer(out: &mut String, names: &Names, writer: Option<NameId>) -> Result<(), AllocError> {
+    let Some(writer) = writer else {
+        return Ok(());
+    };
+    out.push('/')?;
+    write_name(out, names, writer)
+}
+
+/// The number of the method that a new object begins with, where there is one.
+fn write_first(out: &mut String, first: Option<u32>) -> Result<(), AllocError> {
+    match first {
+        Some(first) => write!(out, ".{first}"),
+        None => Ok(()),
+    }
+}
+
 /// Code that has no other in it.
 fn write_leaf(out: &mut String, names: &Names, code: &Code) -> Result<(), AllocError> {
     match code {
         Code::Nil(_) => out.push_str("nil"),
         Code::False(_) => out.push_str("false"),
         Code::True(_) => out.push_str("true"),
+        Code::SelfRef(_) => out.push_str("self"),
         Code::Break(_) => out.push_str("break"),
         Code::Next(_) => out.push_str("next"),
         Code::Int(value, _) => write!(out, "{value}"),
@@ -71,6 +125,7 @@ fn write_leaf(out: &mut String, names: &Names, code: &Code) -> Result<(), AllocE
             write_name(out, names, *name)
         }
         Code::Local(slot, name, _) => write_local(out, names, *slot, *name),
+        Code::Field(name, _) => write_name(out, names, *name),
         _ => out.push_str("NO LEAF"),
     }
 }
@@ -93,15 +148,26 @@ fn write_code(out: &mut String, names: &Names, code: &Code) -> Result<(), AllocE
             write_local(out, names, *slot, *name)?;
             write_inner(out, names, value.get())?;
         }
+        Code::SetField(name, value, _) => {
+            out.push_str("(set ")?;
+            write_name(out, names, *name)?;
+            write_inner(out, names, value.get())?;
+        }
+        Code::UpdateField(name, _, value, _) => {
+            out.push_str("(update ")?;
+            write_name(out, names, *name)?;
+            write_inner(out, names, value.get())?;
+        }
         Code::UpdateElement(receiver, index, _, value, _) => {
             out.push_str("(update element")?;
             write_inner(out, names, receiver.get())?;
             write_inner(out, names, index.get())?;
             write_inner(out, names, value.get())?;
         }
-        Code::UpdateAttribute(number, name, receiver, _, value, _) => {
+        Code::UpdateAttribute(number, writer, name, receiver, _, value, _) => {
             out.push_str("(update .")?;
             write_called(out, names, *number, *name)?;
+            write_writer(out, names, *writer)?;
             write_inner(out, names, receiver.get())?;
             write_inner(out, names, value.get())?;
         }
@@ -134,6 +200,18 @@ fn write_code(out: &mut String, names: &Names, code: &Code) -> Result<(), AllocE
             out.push_str("(call ")?;
             write_name(out, names, *name)?;
             write!(out, "/{number}")?;
+            write_codes(out, names, args.as_slice())?;
+        }
+        Code::Own(name, args, _) => {
+            out.push_str("(own ")?;
+            write_name(out, names, *name)?;
+            write_codes(out, names, args.as_slice())?;
+        }
+        Code::New(class, first, name, args, _) => {
+            out.push_str("(new ")?;
+            write_name(out, names, *name)?;
+            write!(out, "/{class}")?;
+            write_first(out, *first)?;
             write_codes(out, names, args.as_slice())?;
         }
         Code::Print(form, _, args, _) => {

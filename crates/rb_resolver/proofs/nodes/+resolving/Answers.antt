@@ -10,7 +10,7 @@ use Rattle.rb_tree.specs.declared.node.Block.{Block}
 use Rattle.rb_code.specs.declared.code.CodeBlock.{CodeBlock}
 use Rattle.rb_code.specs.Erase.{erase, erase_piece, erase_block}
 use Rattle.rb_code.specs.Resolved.{every, if_some, fits, piece_fits, block_fits}
-use Rattle.rb_code.proofs.Fitting.{fits-nil, fits-false, fits-true, fits-int, fits-sym, fits-break, fits-next, piece_fits-text, piece_fits-code}
+use Rattle.rb_code.proofs.Fitting.{fits-nil, fits-false, fits-true, fits-self_ref, fits-field, fits-set_field, fits-update_field, fits-int, fits-sym, fits-break, fits-next, piece_fits-text, piece_fits-code}
 use Rattle.rb_resolver.proofs.Fitted.{at_names, str_fits, local_fits, set_local_fits, update_local_fits, update_element_fits, and_fits, or_fits, not_fits, if_fits, while_fits, return_fits, block_of, names_left, block_is_right, map_pushed, every_pushed}
 use Rattle.rb_resolver.proofs.nodes.+resolving.Goals as goal
 
@@ -40,7 +40,7 @@ pub node-returns-in_ok-value-in-Index-clause-fits : goal.node-returns-in_ok-valu
 node-returns-in_ok-value-in-Index-clause-fits t c = λ S k size h. update_element_fits S _ size _ _ _ _ _ (c.in_ok-receiver-in-Index.ensures.fits S k size (omega (arith, h, c.in_ok-index-in-Index.ensures.rises, c.in_ok-value-in-Index.ensures.rises))) (at_names (fits S c.in_ok-index-in-Index.index) _ _ size (c.in_ok-receiver-in-Index.ensures.names) (c.in_ok-index-in-Index.ensures.fits S k size (omega (arith, h, c.in_ok-value-in-Index.ensures.rises)))) (at_names (fits S c.in_ok-value-in-Index.value) _ _ size (c.in_ok-index-in-Index.ensures.names ∙ c.in_ok-receiver-in-Index.ensures.names) (c.in_ok-value-in-Index.ensures.fits S k size h))
 
 pub node-returns-in_ok-value-in-Attribute-clause-fits : goal.node-returns-in_ok-value-in-Attribute-clause-fits
-node-returns-in_ok-value-in-Attribute-clause-fits t c = IfOk-weaker c.attribute_updated.result _ _ (λ code is S k size h. is S _ size k.texts (c.in_ok-receiver-in-Attribute.ensures.fits S k size (omega (arith, h, c.in_ok-value-in-Attribute.ensures.rises))) (at_names (fits S c.in_ok-value-in-Attribute.value) _ _ size (c.in_ok-receiver-in-Attribute.ensures.names) (c.in_ok-value-in-Attribute.ensures.fits S k size h))) c.attribute_updated.ensures.fits
+node-returns-in_ok-value-in-Attribute-clause-fits t c = IfOk-weaker c.attribute_updated.result _ _ (λ code is S k size h. is S _ size k (c.in_ok-receiver-in-Attribute.ensures.fits S k size (omega (arith, h, c.in_ok-value-in-Attribute.ensures.rises))) (at_names (fits S c.in_ok-value-in-Attribute.value) _ _ size (c.in_ok-receiver-in-Attribute.ensures.names) (c.in_ok-value-in-Attribute.ensures.fits S k size h))) c.attribute_updated.ensures.fits
 
 pub node-returns-in_ok-value-in-Attribute-clause-erases : goal.node-returns-in_ok-value-in-Attribute-clause-erases
 node-returns-in_ok-value-in-Attribute-clause-erases t c =
@@ -190,3 +190,24 @@ pub block-returns-clause-names : goal.block-returns-clause-names
 block-returns-clause-names t c =
     names_left c.args.frame.now.names.items c.of_block.result.now c.body.new.frame.names.items c.leave.new.self.names.items c.in_ok-from.from c.in_ok-from.ensures.from
     (c.in_ok-nodes.ensures.names ∙ c.in_ok-from.ensures.names) c.leave.ensures.names
+
+pub node-returns-in-SelfRef-clause-fits : goal.node-returns-in-SelfRef-clause-fits
+node-returns-in-SelfRef-clause-fits t c = λ S k size h. fits-self_ref S _ size _
+
+pub node-returns-in-Field-clause-fits : goal.node-returns-in-Field-clause-fits
+node-returns-in-Field-clause-fits t c = λ S k size h. fits-field S _ size _ _
+
+pub node-returns-in_ok-value-in-SetField-clause-fits : goal.node-returns-in_ok-value-in-SetField-clause-fits
+node-returns-in_ok-value-in-SetField-clause-fits t c = λ S k size h. fits-set_field S _ size _ _ _ ∙ c.in_ok-value-in-SetField.ensures.fits S k size h
+
+pub node-returns-in_ok-value-in-Field-target-clause-fits : goal.node-returns-in_ok-value-in-Field-target-clause-fits
+node-returns-in_ok-value-in-Field-target-clause-fits t c = λ S k size h. fits-update_field S _ size _ _ _ _ ∙ c.in_ok-value-in-Field-target.ensures.fits S k size h
+
+pub node-returns-in_ok-args-in-New-clause-fits : goal.node-returns-in_ok-args-in-New-clause-fits
+node-returns-in_ok-args-in-New-clause-fits t c = IfOk-weaker c.made.result _ _ (λ code is S k size h. is S _ _ size k (c.in_ok-args-in-New.ensures.fits S k size h)) c.made.ensures.fits
+
+pub node-returns-in_ok-args-in-New-clause-erases : goal.node-returns-in_ok-args-in-New-clause-erases
+node-returns-in_ok-args-in-New-clause-erases t c =
+    IfOk-weaker c.made.result _ _ (λ code is. is
+    ∙ ap (λ (ns : List Node). tree.New c.in-New.class ns c.in-New.at) (c.in_ok-args-in-New.ensures.erases ∙ c.as_slice-in-New.ensures)
+    ∙ sym c.in-New.is) c.made.ensures.erases

@@ -5,9 +5,9 @@ use Rattle.rb_resolver.proofs.Numbered.{update_attribute_fits}
 use Rattle.rb_resolver.proofs.stores.attribute_updated.Goals as goal
 
 pub returns-clause-erases : goal.returns-clause-erases
-returns-clause-erases c = erase-update_attribute c.number_of-number.result c.args.name c.args.receiver c.args.op c.args.value c.args.at
+returns-clause-erases c = erase-update_attribute c.number_of-number.result c.in_ok-writer.writer c.args.name c.args.receiver c.args.op c.args.value c.args.at
 
 pub returns-clause-fits : goal.returns-clause-fits
-returns-clause-fits c = λ S scope size texts r v.
-    update_attribute_fits S scope size c.args.names.now c.number_of-number.result c.args.name c.args.receiver c.args.op c.args.value c.args.at texts c.number_of-number.ensures
-    (sym (c.is_writer_free.ensures ∙ ap (λ (text : List ℕ). is_free (text ++ codes "=")) c.name_text.ensures) ∙ c.if-not-is_writer_free.false) r v
+returns-clause-fits c = λ S scope size k r v.
+    update_attribute_fits c.args.known.now c.args.names.now S k scope size c.number_of-number.result c.in_ok-writer.writer c.args.name c.args.receiver c.args.op c.args.value c.args.at c.number_of-number.ensures
+    c.in_ok-writer.ensures (sym (c.is_writer_free.ensures ∙ ap (λ (text : List ℕ). is_free (text ++ codes "=")) c.name_text.ensures) ∙ c.if-not-is_writer_free.false) r v
