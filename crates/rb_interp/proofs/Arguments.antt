@@ -1,9 +1,10 @@
 -- Arguments, which come to stand behind a frame one by one.
-use Rattle.std.proofs.Common.{◌≡◌, ℕ, ◌+◌, ◌≤◌, ◌<◌, Bool, true, false, List, [], ◌∷◌, ◌++◌, length, map, drop, take, refl, sym, ap, ◌∙◌, arith}
+use Rattle.std.proofs.Common.{◌≡◌, ℕ, ◌+◌, ◌≤◌, ◌<◌, Bool, true, false, List, [], ◌∷◌, ◌++◌, length, map, drop, take, refl, sym, ap, ◌∙◌, subst, arith}
 use Rattle.std.specs.Prelude.{slice_get, slice_set}
 use Rattle.rb_tree.specs.declared.span.Span.{Span}
 use Rattle.rb_tree.specs.declared.span.NameId.{NameId}
 use Rattle.rb_tree.specs.declared.node.Node.{Node}
+use Rattle.rb_tree.specs.declared.node.Method.{Method}
 use Rattle.rb_model.specs.Values.{Value as Val, plain}
 use Rattle.rb_model.specs.declared.value.Value.{Value as Held}
 use Rattle.rb_model.specs.Ends.{End}
@@ -11,6 +12,7 @@ use Rattle.rb_model.specs.Log.{Log}
 use Rattle.rb_model.specs.Private.{Private}
 use Rattle.rb_machine.specs.Scopes.{Script, Scope}
 use Rattle.rb_machine.specs.Control.{State, On, Cont, Then, Give, Passing, Argument, Aim}
+use Rattle.rb_machine.specs.Call.{enter}
 use Rattle.rb_machine.specs.Follows.{At}
 use Rattle.rb_code.specs.Layout.{bound}
 use Rattle.rb_interp.specs.declared.came.Came.{Came as Registers}
@@ -31,6 +33,21 @@ arg_joins : (base i : ℕ) (before after : List Held) (w : Held) (v : Val) → p
     → map plain (take (i + 1) (drop base (slice_set after (base + i) w))) ≡ map plain (take i (drop base before)) ++ v ∷ []
 arg_joins base i before after w v e h g =
     ap (map plain) (arg_values base i before after w h g) ∙ (map_append plain (take i (drop base before)) (w ∷ []) ∙ ap (λ u. map plain (take i (drop base before)) ++ u ∷ []) e)
+
+-- one argument that is written behind the frame
+one_arg : (base : ℕ) (room : List Held) (w : Held) → base < length room → map plain (take 1 (drop base (slice_set room base w))) ≡ plain w ∷ []
+one_arg base room w q =
+    let z : base + 0 ≡ base = omega arith in
+    subst (λ b. map plain (take 1 (drop base (slice_set room b w))) ≡ plain w ∷ []) z (arg_joins base 0 room room w (plain w) refl (omega (arith, q)) (λ j p. absurd (omega (arith, p))))
+
+module _ {S : Script} {N : ℕ} {start : State} {h : Private} where
+  -- a method is entered with it
+  pub placed : {l : Log} (m : Method) (to : Val) (at : Span) (k : List Cont) (d n : ℕ) (me : Val) (names : List NameId) (base : ℕ) (room : List Held) (w : Held) → length names ≤ base → base < length room
+      → At S 0 N start l h (enter S m to (plain w ∷ []) at k (scope_of me names room) d n)
+      → At S 0 N start l h (enter S m to (map plain (take 1 (drop base (slice_set room base w)))) at k (scope_of me names (slice_set room base w)) d n)
+  placed m to at k d n me names base room w b q a =
+      same a (ap (λ vs. enter S m to vs at k (scope_of me names room) d n) (sym (one_arg base room w q))
+      ∙ ap (λ ls. enter S m to (map plain (take 1 (drop base (slice_set room base w)))) at k (record { me = me; locals = ls }) d n) (sym (room_beyond names room base w b)))
 
 module _ {S : Script} {N : ℕ} {start : State} {h : Private} where
   -- the arguments that are left, under another name

@@ -1,58 +1,52 @@
--- Calls of methods of values: no value that there is yet has a method of the script.
-use Rattle.std.proofs.Common.{◌≡◌, ℕ, true, List, [], Option, Some, None, refl, sym, ap, ◌∙◌, subst}
+-- Calls of methods of values.
+use Rattle.std.proofs.Common.{◌≡◌, ℕ, true, false, List, [], Option, Some, None, refl, sym, ap, ◌∙◌, subst}
 use Rattle.std.specs.Prelude.{is_none}
 use mathlib.Core.Logic.{inl, inr}
 use Rattle.rb_tree.specs.declared.span.Span.{Span}
 use Rattle.rb_tree.specs.declared.node.Block.{Block}
-use Rattle.rb_model.specs.declared.value.Sort.{Sort}
-use Rattle.rb_model.specs.declared.value.Sort.TheVariants as sort
 use Rattle.rb_model.specs.declared.fault.Fault.TheVariants.{NoMethod}
 use Rattle.rb_model.specs.Values.{Value as Val, Nil, False, True, Int, Sym, Str, To}
 use Rattle.rb_model.specs.Log.{Log}
 use Rattle.rb_model.specs.Private.{Private}
 use Rattle.rb_machine.specs.Scopes.{Script, Scope, Text}
 use Rattle.rb_machine.specs.Control.{State, Cont}
-use Rattle.rb_machine.specs.Call.{invoke, invoked, answered, methods_of, methods_of_sort, texted, raised, params_of}
+use Rattle.rb_machine.specs.Call.{invoke, invoked, answered, methods_of, texted, raised, params_of}
 use Rattle.rb_machine.specs.Methods.{Answer, Gives, Raises, Loops, deed}
 use Rattle.rb_machine.specs.Move.{left_in}
 use Rattle.rb_machine.specs.Follows.{At}
 use Rattle.rb_builtin.specs.Names.{builtin_of}
 use Rattle.rb_builtin.proofs.Table.{no_number}
 use Rattle.rb_interp.specs.Outcome.{Outcome, Came}
-use Rattle.rb_interp.specs.Answers.{OrMemory, outcome_of}
+use Rattle.rb_interp.specs.Answers.{OrMemory, is_thing, outcome_of}
 use Rattle.rb_interp.proofs.Moves.{same}
 
-none_of_sort : (S : Script) (s : Sort) → S.program.classes ≡ [] → methods_of_sort S s ≡ []
-none_of_sort S (sort.Object class) e = rw e refl
-none_of_sort S sort.List e = refl
-none_of_sort S sort.Pairs e = refl
-none_of_sort S sort.Mutex e = refl
-none_of_sort S sort.Thread e = refl
-
--- where there are no classes, no value has a method of the script
-pub no_methods : (S : Script) (v : Val) → S.program.classes ≡ [] → methods_of S v ≡ []
+-- a value that is no thing has no method of the script
+no_methods : (S : Script) (v : Val) → is_thing v ≡ false → methods_of S v ≡ []
 no_methods S Nil e = refl
 no_methods S False e = refl
 no_methods S True e = refl
 no_methods S (Int n) e = refl
 no_methods S (Sym other) e = refl
 no_methods S (Str bytes) e = refl
-no_methods S (To thing) e = none_of_sort S thing.sort e
+no_methods S (To thing) e = absurd (cc)
 
--- so a call is answered by the table
-pub by_table : (S : Script) (v : Val) (name : Text) (args : List Val) (block : Option Block) (at : Span) (k : List Cont) (sc : Scope) (d n : ℕ) → S.program.classes ≡ []
-    → invoke S v name args block at k sc d n ≡ answered S (deed S.program.names v name args (params_of S block)) block at k sc d n
-by_table S v name args block at k sc d n e = ap (λ ms. invoked S (texted S name ms) v name args block at k sc d n) (no_methods S v e)
+pub none_plain : (S : Script) (v : Val) (name : Text) → is_thing v ≡ false → texted S name (methods_of S v) ≡ None
+none_plain S v name e = ap (texted S name) (no_methods S v e)
+
+-- where the script has no method for a call it is answered by the table
+pub by_table : (S : Script) (v : Val) (name : Text) (args : List Val) (block : Option Block) (at : Span) (k : List Cont) (sc : Scope) (d n : ℕ) → texted S name (methods_of S v) ≡ None
+    → invoke S v name args block at k sc d n ≡ answered S (deed S.program v name args (params_of S block)) block at k sc d n
+by_table S v name args block at k sc d n e = ap (λ m. invoked S m v name args block at k sc d n) e
 
 none_is : {A : Type 0} (o : Option A) → is_none o ≡ true → o ≡ None
 none_is None e = refl
 none_is (Some x) e = absurd (cc)
 
 -- and one of a name that no built-in method has raises NoMethod
-pub no_such : (S : Script) (v : Val) (name : Text) (args : List Val) (block : Option Block) (at : Span) (k : List Cont) (sc : Scope) (d n : ℕ) → S.program.classes ≡ [] → is_none (builtin_of name) ≡ true
+pub no_such : (S : Script) (v : Val) (name : Text) (args : List Val) (block : Option Block) (at : Span) (k : List Cont) (sc : Scope) (d n : ℕ) → texted S name (methods_of S v) ≡ None → is_none (builtin_of name) ≡ true
     → invoke S v name args block at k sc d n ≡ raised NoMethod at n
 no_such S v name args block at k sc d n e f =
-    by_table S v name args block at k sc d n e ∙ ap (λ a. answered S a block at k sc d n) (no_number S.program.names v name args (params_of S block) (none_is (builtin_of name) f))
+    by_table S v name args block at k sc d n e ∙ ap (λ a. answered S a block at k sc d n) (no_number S.program v name args (params_of S block) (none_is (builtin_of name) f))
 
 left_answered : (S : Script) (a : Answer) (at : Span) (k : List Cont) (sc : Scope) (d n : ℕ) → left_in (answered S a None at k sc d n) ≡ n
 left_answered S (Gives v) at k sc d n = refl
@@ -72,9 +66,9 @@ module _ (S : Script) (N : ℕ) (start : State) (h : Private) where
   or_memory l k sc d n wanted o s (inr e) a q c = subst (λ o. Came S N start l h o k sc d n) (sym e) (s, a, q)
 
   -- a call of a method of a value without a block comes out so
-  pub calls : (l : Log) (v : Val) (name : Text) (args : List Val) (at : Span) (k : List Cont) (sc : Scope) (d n : ℕ) (o : Outcome) → S.program.classes ≡ []
-      → OrMemory (outcome_of (deed S.program.names v name args None) at) o → At S 0 N start l h (invoke S v name args None at k sc d n) → Came S N start l h o k sc d n
+  pub calls : (l : Log) (v : Val) (name : Text) (args : List Val) (at : Span) (k : List Cont) (sc : Scope) (d n : ℕ) (o : Outcome) → texted S name (methods_of S v) ≡ None
+      → OrMemory (outcome_of (deed S.program v name args None) at) o → At S 0 N start l h (invoke S v name args None at k sc d n) → Came S N start l h o k sc d n
   calls l v name args at k sc d n o e m a =
-      let answer = deed S.program.names v name args None in
+      let answer = deed S.program v name args None in
       let b = same a (by_table S v name args None at k sc d n e) in
       or_memory l k sc d n (outcome_of answer at) o (answered S answer None at k sc d n) m b (left_answered S answer at k sc d n) (answers l answer at k sc d n b)

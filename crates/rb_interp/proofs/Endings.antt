@@ -25,14 +25,14 @@ use Rattle.rb_interp.specs.Outcome.{Outcome, Gave, Left, Over, Came}
 use Rattle.rb_interp.specs.Ending.{ending as ends_with, Closes, tells, lacks}
 use Rattle.rb_code.specs.declared.scripted.CodeScript.{CodeScript}
 use Rattle.rb_code.specs.Layout.{bound}
-use Rattle.rb_code.specs.Resolved.{every, fits, method_fits, script_fits}
+use Rattle.rb_code.specs.Resolved.{every, fits, method_fits, class_fits, script_fits}
 use Rattle.rb_interp.proofs.Lists.{fst, snd, le_test}
 use Rattle.rb_interp.proofs.Moves.{on}
 use Rattle.rb_interp.proofs.Rooms.{frame_opens}
 
 module _ (S : Script) (N : ℕ) (start : State) (h : Private) where
   -- in silence the machine gets to where it wants something
-  quietly : (l : Log) (s t : State) → Quiet S s t → At S 0 N start l h s → At S 0 N start l h t
+  pub quietly : (l : Log) (s t : State) → Quiet S s t → At S 0 N start l h s → At S 0 N start l h t
   quietly l s t (stays u) a = a
   quietly l s t (moves u v w e q) a = quietly l v t q (on v a e)
 
@@ -153,5 +153,6 @@ pub main_fits : (c : CodeScript) (S : Script) → script_fits S c ≡ true → (
 main_fits c S h =
     let own = nat_le (length S.main_names) c.main_size in
     let body = every (map (fits S) c.main) S.main_names c.main_size in
-    let rest = snd (list_all (method_fits S) c.functions) (own && body) h in
+    let classes = list_all (class_fits S) c.classes in
+    let rest = snd classes (own && body) (snd (list_all (method_fits S) c.functions) (classes && (own && body)) h) in
     (le_test (length S.main_names) c.main_size (fst own body rest), snd own body rest)

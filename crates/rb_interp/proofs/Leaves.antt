@@ -1,4 +1,5 @@
 -- Leaves that are integers.
+use Rattle.rb_tree.specs.declared.node.Program.{Program}
 use Rattle.std.proofs.Common.{◌≡◌, ℕ, true, List, [], ◌∷◌, Option, Some, None, refl, sym, ap, ◌∙◌}
 use Rattle.std.specs.Prelude.{ℤ, slice_get, map, IfSome}
 use Rattle.std.specs.Borrow.{Bor}
@@ -48,14 +49,14 @@ small_if c slot name at room (Some n) e g = held_local c slot name at room (held
 
 -- an operation over two leaves
 pub quick_if : (method : Option Builtin) (left right : Code) (room : List Held) (o : Option IntegerAnswer) (m n : ℤ) → IsSmall left room m → IsSmall right room n
-    → IfSome o (λ answer. (texts : List (List ℕ)) (name : List ℕ) → builtin_of name ≡ method → deed texts (Int m) name (Int n ∷ []) None ≡ answer_of answer)
+    → IfSome o (λ answer. (program : Program) (name : List ℕ) → builtin_of name ≡ method → deed program (Int m) name (Int n ∷ []) None ≡ answer_of answer)
     → IfSome o (λ answer. IsQuick method left right room (answer_of answer))
 quick_if method left right room None m n l r h = h
 quick_if method left right room (Some answer) m n l r h = (m, n, l, r, h)
 
 -- what a text answers
 pub text_if : (b : Builtin) (method : Option Builtin) (receiver : Value) (s : List ℕ) (args : List Value) (o : Option IntegerAnswer) → method ≡ Some b → receiver ≡ Str s
-    → IfSome o (λ answer. (texts : List (List ℕ)) → answer_by_number texts (Str s) b args None ≡ answer_of answer)
-    → IfSome o (λ answer. (texts : List (List ℕ)) (name : List ℕ) → builtin_of name ≡ method → deed texts receiver name args None ≡ answer_of answer)
+    → IfSome o (λ answer. (program : Program) → answer_by_number program (Str s) b args None ≡ answer_of answer)
+    → IfSome o (λ answer. (program : Program) (name : List ℕ) → builtin_of name ≡ method → deed program receiver name args None ≡ answer_of answer)
 text_if b method receiver s args None e f h = h
-text_if b method receiver s args (Some answer) e f h = λ texts name n. ap (λ v. deed texts v name args None) f ∙ (sym (by_number texts (Str s) name b args None (n ∙ e)) ∙ h texts)
+text_if b method receiver s args (Some answer) e f h = λ program name n. ap (λ v. deed program v name args None) f ∙ (sym (by_number program (Str s) name b args None (n ∙ e)) ∙ h program)

@@ -4,6 +4,10 @@ use Rattle.std.proofs.Math.Seq.{drop-cons}
 use Rattle.std.proofs.lemmas.Bool.Decides.{nat_tests}
 use Rattle.std.specs.Prelude.{◌&&◌, slice_get, slice_set, nat_le, ◌==◌}
 use Rattle.std.specs.Option.{option_map}
+use Rattle.rb_machine.specs.Call.{last_value}
+use Rattle.rb_machine.specs.Scopes.{Script}
+use Rattle.rb_model.specs.declared.value.Value.{Value as Held}
+use Rattle.rb_model.specs.Values.{plain}
 
 -- both halves of a test
 pub fst : (a b : Bool) → (a && b) ≡ true → a ≡ true
@@ -151,3 +155,11 @@ fst_two false b c h = h
 pub nothing : {A : Type 0} (o : Option A) → ((x : A) → o ≡ Some x → ⊥) → o ≡ None
 nothing None h = refl
 nothing (Some x) h = absurd (h x refl)
+
+-- the value in the last place is the last of the values
+pub last_is : (S : Script) (vs : List Held) (v : Held) → slice_get vs (length vs - 1) ≡ Some v → plain v ≡ last_value S (map plain vs)
+last_is S [] v e = absurd (cc)
+last_is S (w ∷ []) v e = let f : w ≡ v = cc in ap plain (sym f)
+last_is S (w ∷ x ∷ vs) v e =
+    let f : length (w ∷ x ∷ vs) - 1 ≡ suc (length (x ∷ vs) - 1) = omega arith in
+    last_is S (x ∷ vs) v (rw f at e)

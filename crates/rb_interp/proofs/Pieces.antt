@@ -12,9 +12,9 @@ use Rattle.rb_model.specs.declared.fault.Fault.TheVariants.{TextTooLong}
 use Rattle.rb_model.specs.Log.{Log}
 use Rattle.rb_model.specs.Private.{Private}
 use Rattle.rb_machine.specs.Scopes.{Script, Scope}
-use Rattle.rb_machine.specs.Texts.{max_bytes, shown}
-use Rattle.rb_machine.specs.Control.{State, On, Cont, Then, Eval, Give, Joining, PieceOf}
-use Rattle.rb_machine.specs.Call.{raised}
+use Rattle.rb_machine.specs.Texts.{max_bytes}
+use Rattle.rb_machine.specs.Control.{State, On, Cont, Then, Eval, Give, Joining, PieceOf, JoinTo}
+use Rattle.rb_machine.specs.Call.{raised, give_text}
 use Rattle.rb_machine.specs.Give.{join}
 use Rattle.rb_machine.specs.Move.{Go, join_piece}
 use Rattle.rb_machine.specs.Follows.{At}
@@ -60,12 +60,12 @@ module _ {S : Script} {N : ℕ} {start : State} {h : Private} where
   joins_code {bytes = bytes} {ps = ps} {at = at} {k = k} {sc = sc} {d = d} {n = n} c e a = on _ a (ap (λ f. Go (join_piece S f bytes ps at k sc d n)) e)
 
   -- bytes that join others are too many with them, or not
-  too_long : {l : Log} (bytes more : List ℕ) (ps : List Piece) (at : Span) (k : List Cont) (sc : Scope) (d n : ℕ) (all : List ℕ) → all ≡ bytes ++ more → max_bytes < length all → At S 0 N start l h (join bytes more ps at k sc d n) → At S 0 N start l h (raised TextTooLong at n)
+  pub too_long : {l : Log} (bytes more : List ℕ) (ps : List Piece) (at : Span) (k : List Cont) (sc : Scope) (d n : ℕ) (all : List ℕ) → all ≡ bytes ++ more → max_bytes < length all → At S 0 N start l h (join bytes more ps at k sc d n) → At S 0 N start l h (raised TextTooLong at n)
   too_long bytes more ps at k sc d n all e q a =
       let t : nat_lt max_bytes (length (bytes ++ more)) ≡ true = ap (λ b. nat_lt max_bytes (length b)) (sym e) ∙ grind (arith, nat_tests) in
       same a (ap (λ t. cond t (raised TextTooLong at n) (On (Joining (bytes ++ more) ps at) k sc d n)) t)
 
-  not_long : {l : Log} (bytes more : List ℕ) (ps : List Piece) (at : Span) (k : List Cont) (sc : Scope) (d n : ℕ) (all : List ℕ) → all ≡ bytes ++ more → length all ≤ max_bytes → At S 0 N start l h (join bytes more ps at k sc d n) → At S 0 N start l h (On (Joining all ps at) k sc d n)
+  pub not_long : {l : Log} (bytes more : List ℕ) (ps : List Piece) (at : Span) (k : List Cont) (sc : Scope) (d n : ℕ) (all : List ℕ) → all ≡ bytes ++ more → length all ≤ max_bytes → At S 0 N start l h (join bytes more ps at k sc d n) → At S 0 N start l h (On (Joining all ps at) k sc d n)
   not_long bytes more ps at k sc d n all e q a =
       let t : nat_lt max_bytes (length (bytes ++ more)) ≡ false = ap (λ b. nat_lt max_bytes (length b)) (sym e) ∙ grind (arith, nat_tests) in
       same (same a (ap (λ t. cond t (raised TextTooLong at n) (On (Joining (bytes ++ more) ps at) k sc d n)) t)) (ap (λ b. On (Joining b ps at) k sc d n) (sym e))
@@ -79,14 +79,9 @@ module _ {S : Script} {N : ℕ} {start : State} {h : Private} where
       → At S 0 N start l h (On (Joining bytes (p ∷ ps) at) k sc d n) → At S 0 N start l h (On (Joining all ps at) k sc d n)
   text_joins bytes more p ps at k sc d n all f e q a = not_long bytes more ps at k sc d n all e q (on _ a (ap (λ f. Go (join_piece S f bytes ps at k sc d n)) f))
 
-  -- and so does the text of a value
-  pub value_long : {l : Log} (bytes : List ℕ) (v : Val) (ps : List Piece) (at : Span) (k : List Cont) (sc : Scope) (d n : ℕ) (all : List ℕ) → all ≡ bytes ++ shown S.program.names v → max_bytes < length all
-      → At S 0 N start l h (On (Give v) (Then (PieceOf bytes ps at) ∷ k) sc d n) → At S 0 N start l h (raised TextTooLong at n)
-  value_long bytes v ps at k sc d n all e q a = too_long bytes (shown S.program.names v) ps at k sc d n all e q (on _ a refl)
-
-  pub value_joins : {l : Log} (bytes : List ℕ) (v : Val) (ps : List Piece) (at : Span) (k : List Cont) (sc : Scope) (d n : ℕ) (all : List ℕ) → all ≡ bytes ++ shown S.program.names v → length all ≤ max_bytes
-      → At S 0 N start l h (On (Give v) (Then (PieceOf bytes ps at) ∷ k) sc d n) → At S 0 N start l h (On (Joining all ps at) k sc d n)
-  value_joins bytes v ps at k sc d n all e q a = not_long bytes (shown S.program.names v) ps at k sc d n all e q (on _ a refl)
+  -- a value of code is asked for its text
+  pub asks_piece : {l : Log} {bytes : List ℕ} {ps : List Piece} {at : Span} {k : List Cont} {sc : Scope} {d n : ℕ} {v : Val} → At S 0 N start l h (On (Give v) (Then (PieceOf bytes ps at) ∷ k) sc d n) → At S 0 N start l h (give_text S v at (Then (JoinTo bytes ps at) ∷ k) sc d n)
+  asks_piece a = on _ a refl
 
 module _ (S : Script) (N : ℕ) (start : State) (h : Private) where
   -- a text that is written out as a whole gives its bytes

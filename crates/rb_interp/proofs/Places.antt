@@ -24,9 +24,10 @@ use Rattle.rb_builtin.specs.Names.{builtin_of}
 use Rattle.rb_code.specs.declared.code.Code.{Code}
 use Rattle.rb_code.specs.Resolved.{fits, has_number, is_free}
 use Rattle.rb_code.specs.Layout.{bound, has_slot}
+use Rattle.rb_code.specs.Dispatch.{is_writer}
 use Rattle.rb_code.proofs.Slots.{slot_within}
 use Rattle.rb_interp.specs.Outcome.{Outcome, Gave, Came}
-use Rattle.rb_interp.specs.Carries.{scope_of, both, numbered, unwritten}
+use Rattle.rb_interp.specs.Carries.{scope_of, both, attribute, written_by}
 use Rattle.rb_interp.specs.Answers.{OrMemory, method_of}
 use Rattle.rb_interp.proofs.Lists.{fst, snd, two, there}
 use Rattle.rb_interp.proofs.Rooms.{read_room}
@@ -48,6 +49,10 @@ pub target_local : (S : Script) (name : NameId) (o : AssignOp) (value : Node) (a
     → begin_target S (out-Target (target.Local name)) o value at k sc d n ≡ begin_target S (node.«Target::Local» name) o value at k sc d n
 target_local S name o value at k sc d n = let e : out-Target (target.Local name) ≡ node.«Target::Local» name = search (rules, the_lemmas) in ap (λ t. begin_target S t o value at k sc d n) e
 
+pub target_field : (S : Script) (name : NameId) (o : AssignOp) (value : Node) (at : Span) (k : List Cont) (sc : Scope) (d n : ℕ)
+    → begin_target S (out-Target (target.Field name)) o value at k sc d n ≡ begin_target S (node.«Target::Field» name) o value at k sc d n
+target_field S name o value at k sc d n = let e : out-Target (target.Field name) ≡ node.«Target::Field» name = search (rules, the_lemmas) in ap (λ t. begin_target S t o value at k sc d n) e
+
 pub target_element : (S : Script) (receiver index : Node) (o : AssignOp) (value : Node) (at : Span) (k : List Cont) (sc : Scope) (d n : ℕ)
     → begin_target S (out-Target (target.Index receiver index)) o value at k sc d n ≡ begin_target S (node.Index receiver index) o value at k sc d n
 target_element S receiver index o value at k sc d n = let e : out-Target (target.Index receiver index) ≡ node.Index receiver index = search (rules, the_lemmas) in ap (λ t. begin_target S t o value at k sc d n) e
@@ -56,13 +61,21 @@ pub target_attribute : (S : Script) (receiver : Node) (name : NameId) (o : Assig
     → begin_target S (out-Target (target.Attribute receiver name)) o value at k sc d n ≡ begin_target S (node.Attribute receiver name) o value at k sc d n
 target_attribute S receiver name o value at k sc d n = let e : out-Target (target.Attribute receiver name) ≡ node.Attribute receiver name = search (rules, the_lemmas) in ap (λ t. begin_target S t o value at k sc d n) e
 
--- where no method writes the attribute of a name, behind the receiver
-pub left_unwritten : (S : Script) (number : Option Builtin) (name : NameId) (receiver value : Code) (names : List NameId) (size : ℕ)
-    → numbered number name (unwritten name (both (λ S. fits S receiver) (λ S. fits S value))) S names size ≡ true → unwritten name (λ S. fits S value) S names size ≡ true
-left_unwritten S number name receiver value names size h =
+-- what is known of an assignment with an operator to an attribute
+pub attribute_is : (S : Script) (number : Option Builtin) (writer : Option NameId) (name : NameId) (receiver value : Code) (names : List NameId) (size : ℕ)
+    → attribute number writer name (both (λ S. fits S receiver) (λ S. fits S value)) S names size ≡ true
+    → (has_number S number name ≡ true) × (fits S receiver names size ≡ true) × (written_by writer name (λ S. fits S value) S names size ≡ true)
+attribute_is S number writer name receiver value names size h =
+    let w = is_writer S writer name in
     let free = is_free (text_of S name ++ codes "=") in
-    let right = snd (has_number S number name) (free && (fits S receiver names size && fits S value names size)) h in
-    two free (fits S value names size) (fst free (fits S receiver names size && fits S value names size) right) (snd (fits S receiver names size) (fits S value names size) (snd free (fits S receiver names size && fits S value names size) right))
+    let parts = fits S receiver names size && fits S value names size in
+    let written = snd (has_number S number name) (w && (free && parts)) h in
+    let rest = snd w (free && parts) written in
+    let both = snd free parts rest in (
+      fst (has_number S number name) (w && (free && parts)) h,
+      fst (fits S receiver names size) (fits S value names size) both,
+      two w (free && fits S value names size) (fst w (free && parts) written) (two free (fits S value names size) (fst free parts rest) (snd (fits S receiver names size) (fits S value names size) both)),
+    )
 
 module _ (S : Script) (N : ℕ) (start : State) (h : Private) where
   -- `||=` stays where the target is true, and goes on where it is not

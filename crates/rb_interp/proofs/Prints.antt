@@ -1,10 +1,11 @@
 -- Calls by name of methods that print.
-use Rattle.std.proofs.Common.{◌≡◌, ℕ, ◌+◌, ◌≤◌, Bool, true, false, cond, List, [], ◌∷◌, length, Some, None, refl, ap, ◌∙◌, arith}
+use Rattle.std.proofs.Common.{◌≡◌, ℕ, ◌+◌, ◌≤◌, Bool, true, false, cond, List, [], ◌∷◌, length, Some, None, refl, ap, ◌∙◌, subst, arith}
 use Rattle.std.proofs.lemmas.Bool.Decides.{nat_tests}
 use Rattle.std.proofs.lemmas.Slice.Eq.{bytes_eq-Decides}
-use Rattle.std.specs.Prelude.{is_none, not, ◌&&◌, position, find, nat_lt, nat_le}
+use Rattle.std.proofs.lemmas.List.Elements.{All-from_recursion}
+use Rattle.std.specs.Prelude.{is_none, not, ◌&&◌, ◌||◌, position, find, nat_lt, nat_le, codes}
 use Rattle.std.specs.Str.{bytes_eq}
-use Rattle.std.specs.List.{position_or_len}
+use Rattle.std.specs.List.{position_or_len, list_any, AllByRecursion}
 use Rattle.rb_tree.specs.declared.span.Span.{Span}
 use Rattle.rb_tree.specs.declared.span.NameId.{NameId}
 use Rattle.rb_model.specs.Values.{Value as Val}
@@ -12,7 +13,10 @@ use Rattle.rb_model.specs.Log.{Log}
 use Rattle.rb_model.specs.Private.{Private}
 use Rattle.rb_machine.specs.Scopes.{Script, Scope, text_of}
 use Rattle.rb_machine.specs.Control.{State, On, Cont, Then, Instead, Give}
-use Rattle.rb_machine.specs.Call.{call_by_name, own, top_level, print, show, value_of_p, named}
+use Rattle.rb_machine.specs.Call.{call_by_name, own, top_level, print, show, value_of_p, own_text}
+use Rattle.rb_machine.specs.Laws.{Quiet, stays}
+use Rattle.rb_machine.proofs.Printing.{AreUnasked}
+use Rattle.rb_render.proofs.Printed.{puts_shows, print_shows}
 use Rattle.rb_machine.specs.Follows.{At}
 use Rattle.rb_render.specs.declared.show.Form.{Form}
 use Rattle.rb_render.specs.declared.show.Form.TheVariants as form
@@ -20,9 +24,12 @@ use Rattle.rb_render.specs.Forms.{written}
 use Rattle.rb_code.specs.Resolved.{Fits, function_of, has_name, form_text, form_takes}
 use Rattle.rb_interp.specs.Outcome.{Outcome, Gave, Came}
 use Rattle.rb_interp.specs.Carries.{printing}
-use Rattle.rb_interp.specs.Answers.{OrMemory, shown_value, only_value}
+use Rattle.rb_interp.specs.Methods.{method_for}
+use Rattle.rb_interp.specs.Answers.{OrMemory, shown_value, only_value, is_thing}
+use Rattle.rb_interp.specs.Texts.{is_asking}
+use Rattle.rb_interp.proofs.Texts.{plain_unasked}
 use Rattle.rb_interp.proofs.Moves.{on}
-use Rattle.rb_interp.proofs.Calls.{no_methods, or_memory}
+use Rattle.rb_interp.proofs.Calls.{or_memory}
 
 past : (m len : ℕ) (t : Bool) → nat_lt m len ≡ t → is_none (cond t (Some m) None) ≡ true → len ≤ m
 past m len false e h = grind (arith, nat_tests)
@@ -40,25 +47,39 @@ none_passes p (x ∷ xs) h = none_by p x xs (p x) h (none_passes p xs)
 none_at : {A : Type 0} (p : A → Bool) (xs : List A) → is_none (position p xs) ≡ true → find p xs ≡ None
 none_at p xs h = none_passes p xs (past (position_or_len p xs) (length xs) (nat_lt (position_or_len p xs) (length xs)) refl h)
 
+neither : (a b : Bool) → (a || b) ≡ false → (a ≡ false) × (b ≡ false)
+neither false b h = (refl, h)
+neither true b h = absurd (cc)
+
 module _ (S : Script) where
   p_gives : (values : List Val) → nat_le (length values) 1 ≡ true → value_of_p S values ≡ Instead (only_value values)
   p_gives [] h = refl
   p_gives (v ∷ []) h = refl
   p_gives (v ∷ w ∷ vs) h = absurd (grind (arith, nat_tests))
 
-  by_text : (form : Form) (values : List Val) (at : Span) (k : List Cont) (sc : Scope) (d n : ℕ) → form_takes form (length values) ≡ true
-      → print S (form_text form) values at k sc d n ≡ show S (written S.program.names form values) (Instead (shown_value form values)) at k sc d n
-  by_text form.Puts values at k sc d n h = refl
-  by_text form.Print values at k sc d n h = refl
-  by_text form.Inspect values at k sc d n h = ap (λ after. show S (written S.program.names form.Inspect values) after at k sc d n) (p_gives values h)
+  -- values of which none is a thing are not asked for their texts
+  none_asks : (values : List Val) → list_any is_thing values ≡ false → AreUnasked S values
+  none_asks values h = All-from_recursion (λ v. own_text S v ≡ None) values (each values h)
+    where
+      each : (vs : List Val) → list_any is_thing vs ≡ false → AllByRecursion (λ v. own_text S v ≡ None) vs
+      each [] h = tt
+      each (v ∷ vs) h = (plain_unasked S v (neither (is_thing v) (list_any is_thing vs) h).0, each vs (neither (is_thing v) (list_any is_thing vs) h).1)
 
-  -- a call by the name of a method that prints shows what is written, and then has its value
-  pub by_form : (form : Form) (name : NameId) (values : List Val) (at : Span) (k : List Cont) (sc : Scope) (d n : ℕ) → S.program.classes ≡ [] → is_none (function_of S name) ≡ true → bytes_eq (text_of S name) (form_text form) ≡ true → form_takes form (length values) ≡ true
-      → call_by_name S name values at k sc d n ≡ show S (written S.program.names form values) (Instead (shown_value form values)) at k sc d n
-  by_form form name values at k sc d n c f t h =
-      ap (λ ms. own S (named S name ms) name values at k sc d n) (no_methods S sc.me c)
+  -- where a call asks no value for its text, it shows what is written
+  pub by_text : (form : Form) (values : List Val) (at : Span) (k : List Cont) (sc : Scope) (d n : ℕ) → form_takes form (length values) ≡ true → is_asking form values ≡ false
+      → Quiet S (print S (form_text form) values at k sc d n) (show S (written S.program form values) (Instead (shown_value form values)) at k sc d n)
+  by_text form.Puts values at k sc d n h u = puts_shows S values at k sc d n (none_asks values u)
+  by_text form.Print values at k sc d n h u = print_shows S values at k sc d n (none_asks values u)
+  by_text form.Inspect values at k sc d n h u =
+      subst (λ after. Quiet S (print S (codes "p") values at k sc d n) (show S (written S.program form.Inspect values) after at k sc d n)) (p_gives values h) (stays _)
+
+  -- a call by the name of a method that prints
+  pub by_form : (form : Form) (name : NameId) (values : List Val) (at : Span) (k : List Cont) (sc : Scope) (d n : ℕ) → method_for S sc.me name ≡ None → is_none (function_of S name) ≡ true → bytes_eq (text_of S name) (form_text form) ≡ true
+      → call_by_name S name values at k sc d n ≡ print S (form_text form) values at k sc d n
+  by_form form name values at k sc d n c f t =
+      ap (λ m. own S m name values at k sc d n) c
       ∙ (ap (λ m. top_level S m name values at k sc d n) (none_at (has_name S name) S.program.functions f)
-      ∙ (ap (λ text. print S text values at k sc d n) ((bytes_eq-Decides (text_of S name) (form_text form)).0 t) ∙ by_text form values at k sc d n h))
+      ∙ ap (λ text. print S text values at k sc d n) ((bytes_eq-Decides (text_of S name) (form_text form)).0 t))
 
 all_four : (a b c d : Bool) → (a && (b && (c && d))) ≡ true → (a ≡ true) × (b ≡ true) × (c ≡ true) × (d ≡ true)
 all_four true true true d h = (refl, refl, refl, h)

@@ -13,7 +13,7 @@ use Rattle.rb_model.specs.Log.{Log}
 use Rattle.rb_model.specs.Private.{Private}
 use Rattle.rb_machine.specs.Scopes.{Script, text_of}
 use Rattle.rb_machine.specs.Control.{State, On, Cont, Then, Eval, ReceiverOf, Argument, OnReceiver, RightOf, WriteTo, OfLocal}
-use Rattle.rb_machine.specs.Call.{operator, read_place}
+use Rattle.rb_machine.specs.Call.{operator, read_place, texted, methods_of}
 use Rattle.rb_machine.specs.Methods.{deed}
 use Rattle.rb_machine.specs.Follows.{At}
 use Rattle.rb_builtin.specs.declared.builtin.Builtin.{Builtin}
@@ -26,7 +26,7 @@ use Rattle.rb_interp.specs.Carries.{scope_of, updating}
 use Rattle.rb_interp.specs.Answers.{OrMemory, IsHeld, IsUpdated, outcome_of, method_of, wrote}
 use Rattle.rb_interp.proofs.Rooms.{read_room}
 use Rattle.rb_interp.proofs.Moves.{on, gives}
-use Rattle.rb_interp.proofs.Calls.{calls}
+use Rattle.rb_interp.proofs.Calls.{calls, none_plain}
 use Rattle.rb_interp.proofs.Places.{operator_number, operates}
 use Rattle.rb_interp.proofs.Steps.{assigned}
 
@@ -40,8 +40,8 @@ no_and o b h e = let n : method_of o ≡ None = ap method_of e in cc
 module _ (S : Script) (N : ℕ) (start : State) (h : Private) where
   -- a call on a leaf without arguments
   pub calls_held : (l : Log) (k : List Cont) (me : Val) (names : List NameId) (size d left : ℕ) (room : List Held) (name : NameId) (receiver : Code) (at : Span) (v : Val) (o : Outcome)
-      → S.program.classes ≡ [] → fits S receiver names size ≡ true → length names ≤ length room → 0 < left → d < 1000
-      → IsHeld receiver room v → OrMemory (outcome_of (deed S.program.names v (text_of S name) [] None) at) o
+      → texted S (text_of S name) (methods_of S v) ≡ None → fits S receiver names size ≡ true → length names ≤ length room → 0 < left → d < 1000
+      → IsHeld receiver room v → OrMemory (outcome_of (deed S.program v (text_of S name) [] None) at) o
       → At S 0 N start l h (On (Eval (erase receiver)) (Then (ReceiverOf (text_of S name) [] None at) ∷ k) (scope_of me names room) d left) → Came S N start l h o k (scope_of me names room) d (left - 1)
   calls_held l k me names size d left room name receiver at v o cl f len more deep is m a =
       let e1 = is S N names size d left start h l (Then (ReceiverOf (text_of S name) [] None at) ∷ k) me f len more deep a in
@@ -49,8 +49,8 @@ module _ (S : Script) (N : ℕ) (start : State) (h : Private) where
 
   -- a call with one argument over two leaves
   pub calls_pair : (l : Log) (k : List Cont) (me : Val) (names : List NameId) (size d left : ℕ) (room : List Held) (name : NameId) (receiver arg : Code) (at : Span) (v w : Val) (o : Outcome)
-      → S.program.classes ≡ [] → fits S receiver names size ≡ true → fits S arg names size ≡ true → length names ≤ length room → 1 < left → d < 1000
-      → IsHeld receiver room v → IsHeld arg room w → OrMemory (outcome_of (deed S.program.names v (text_of S name) (w ∷ []) None) at) o
+      → texted S (text_of S name) (methods_of S v) ≡ None → fits S receiver names size ≡ true → fits S arg names size ≡ true → length names ≤ length room → 1 < left → d < 1000
+      → IsHeld receiver room v → IsHeld arg room w → OrMemory (outcome_of (deed S.program v (text_of S name) (w ∷ []) None) at) o
       → At S 0 N start l h (On (Eval (erase receiver)) (Then (ReceiverOf (text_of S name) (erase arg ∷ []) None at) ∷ k) (scope_of me names room) d left) → Came S N start l h o k (scope_of me names room) d (left - 2)
   calls_pair l k me names size d left room name receiver arg at v w o cl f g len more deep is js m a =
       let e1 = is S N names size d left start h l (Then (ReceiverOf (text_of S name) (erase arg ∷ []) None at) ∷ k) me f len (omega (arith, more)) deep a in
@@ -60,16 +60,16 @@ module _ (S : Script) (N : ℕ) (start : State) (h : Private) where
 
   -- an assignment with an operator in place
   pub updates : (l : Log) (k : List Cont) (me : Val) (names : List NameId) (size d left : ℕ) (room room' : List Held) (slot : ℕ) (name : NameId) (o : AssignOp) (value : Code) (at : Span) (i : ℤ)
-      → S.program.classes ≡ [] → has_slot name names slot ≡ true → fits S value names size ≡ true → length names ≤ length room → 0 < left → d < 1000
+      → has_slot name names slot ≡ true → fits S value names size ≡ true → length names ≤ length room → 0 < left → d < 1000
       → IsUpdated slot o value room room' i
       → At S 0 N start l h (read_place S (OfLocal name) o (erase value) at k (scope_of me names room) d left) → Came S N start l h (Gave (Int i)) k (scope_of me names room') d (left - 1)
-  updates l k me names size d left room room' slot name o value at i cl s f len more deep is a =
+  updates l k me names size d left room room' slot name o value at i s f len more deep is a =
       let m = is.1 in
       let n = is.2 in
       let waits = Then (WriteTo (OfLocal name) at) ∷ k in
       let g1 = gives (Int m) (read_room name names room slot (held.Int m) len s is.4) a in
       let g2 = operates S N start h (Int m) (OfLocal name) o (erase value) at (no_or o is.0 is.3) (no_and o is.0 is.3) g1 in
       let g3 = is.5 S N names size d left start h l (Then (RightOf (Int m) o at) ∷ waits) me f len more deep g2 in
-      let given = is.6 S.program.names (operator S o) (operator_number S o ∙ is.3) in
-      let g4 = calls S N start h l (Int m) (operator S o) (Int n ∷ []) at waits (scope_of me names room) d (left - 1) (Gave (Int i)) cl (inl (sym (ap (λ a. outcome_of a at) given))) (on _ g3 refl) in
+      let given = is.6 S.program (operator S o) (operator_number S o ∙ is.3) in
+      let g4 = calls S N start h l (Int m) (operator S o) (Int n ∷ []) at waits (scope_of me names room) d (left - 1) (Gave (Int i)) (none_plain S (Int m) (operator S o) refl) (inl (sym (ap (λ a. outcome_of a at) given))) (on _ g3 refl) in
       assigned name (WriteTo (OfLocal name) at) names slot room room' (Int i) me (Gave (Int i)) (updating at) len s (wrote (held.Int i) refl is.7) g4

@@ -1,5 +1,5 @@
 -- Blocks: where their slots lie, how an iteration begins and ends, and calls of methods with one.
-use Rattle.std.proofs.Common.{◌≡◌, ℕ, zero, suc, ◌+◌, ◌-◌, ◌<◌, ◌≤◌, Bool, true, false, List, [], ◌∷◌, ◌++◌, length, map, take, Some, refl, sym, ap, ◌∙◌, subst, arith}
+use Rattle.std.proofs.Common.{◌≡◌, ℕ, zero, suc, ◌+◌, ◌-◌, ◌<◌, ◌≤◌, Bool, true, false, List, [], ◌∷◌, ◌++◌, length, map, take, Some, refl, sym, ap, ◌∙◌, subst, arith, None}
 use Rattle.std.proofs.lemmas.Bool.Decides.{nat_tests}
 use Rattle.std.proofs.lemmas.Int.{ints}
 use Rattle.std.specs.Prelude.{ℤ, pos, ◌+ℤ◌, ◌≤ℤ◌, int_lt, not, ◌&&◌, ◌==◌, nat_le, slice_get, IsTrue}
@@ -13,7 +13,7 @@ use Rattle.rb_model.specs.Log.{Log}
 use Rattle.rb_model.specs.Private.{Private}
 use Rattle.rb_machine.specs.Scopes.{Script, Scope, Locals, Text, fresh}
 use Rattle.rb_machine.specs.Control.{State, On, Cont, Turn, Give, Following, Turning, Passing, Turns, Counting, OnReceiver}
-use Rattle.rb_machine.specs.Call.{answered, params_of}
+use Rattle.rb_machine.specs.Call.{answered, params_of, texted, methods_of}
 use Rattle.rb_machine.specs.Give.{back}
 use Rattle.rb_machine.specs.Methods.{Answer, Gives, Raises, Loops, deed}
 use Rattle.rb_machine.specs.Follows.{At}
@@ -154,11 +154,11 @@ with_params S c = ap (λ (b : Block). Some (length b.params)) (erase_block-parts
 
 module _ {S : Script} {N : ℕ} {start : State} {h : Private} where
   -- a call of a method of a value with a block is answered by the table
-  pub answers_block : {log : Log} {k : List Cont} {sc : Scope} {d n : ℕ} (c : CodeBlock) (v : Val) (name : Text) (args : List Val) (at : Span) (a : Answer) → S.program.classes ≡ [] → a ≡ deed S.program.names v name args (Some (length c.params))
+  pub answers_block : {log : Log} {k : List Cont} {sc : Scope} {d n : ℕ} (c : CodeBlock) (v : Val) (name : Text) (args : List Val) (at : Span) (a : Answer) → texted S name (methods_of S v) ≡ None → a ≡ deed S.program v name args (Some (length c.params))
       → At S 0 N start log h (On (Passing (OnReceiver v name (Some (erase_block c))) args [] at) k sc d n) → At S 0 N start log h (answered S a (Some (erase_block c)) at k sc d n)
   answers_block {k = k} {sc = sc} {d = d} {n = n} c v name args at a e f come =
       same (on _ come refl) (by_table S v name args (Some (erase_block c)) at k sc d n e
-      ∙ ap (λ x. answered S x (Some (erase_block c)) at k sc d n) (ap (λ p. deed S.program.names v name args p) (with_params S c) ∙ sym f))
+      ∙ ap (λ x. answered S x (Some (erase_block c)) at k sc d n) (ap (λ p. deed S.program v name args p) (with_params S c) ∙ sym f))
 
 module _ (S : Script) (N : ℕ) (start : State) (h : Private) where
   -- a cut by memory at a state with as many steps left

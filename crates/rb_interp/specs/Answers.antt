@@ -1,10 +1,11 @@
 -- What the parts of the walk that call nothing of it answer.
-use Rattle.std.specs.Prelude.{◌≡◌, ◌⊎◌, ◌≤◌, ◌<◌, ◌-◌, ℕ, ℤ, int_lt, true, false, List, [], ◌∷◌, length, slice_get, slice_set, Option, Some, None}
+use Rattle.rb_tree.specs.declared.node.Program.{Program}
+use Rattle.std.specs.Prelude.{◌≡◌, ◌⊎◌, ◌≤◌, ◌<◌, ◌-◌, ℕ, ℤ, int_lt, Bool, true, false, List, [], ◌∷◌, length, slice_get, slice_set, Option, Some, None}
 use Rattle.rb_tree.specs.declared.span.Span.{Span}
 use Rattle.rb_tree.specs.declared.span.NameId.{NameId}
 use Rattle.rb_tree.specs.declared.node.AssignOp.{AssignOp}
 use Rattle.rb_tree.specs.declared.node.AssignOp.TheVariants as op
-use Rattle.rb_model.specs.Values.{Value as Val, Nil, Int, plain}
+use Rattle.rb_model.specs.Values.{Value as Val, Nil, Int, To, plain}
 use Rattle.rb_model.specs.declared.value.Value.{Value as Held}
 use Rattle.rb_model.specs.declared.value.Value.TheVariants as held
 use Rattle.rb_model.specs.declared.fault.Fault.TheVariants.{ArgumentCount}
@@ -30,6 +31,11 @@ use Rattle.rb_code.specs.Erase.{erase}
 use Rattle.rb_code.specs.Resolved.{fits}
 use Rattle.rb_interp.specs.Outcome.{Outcome, Gave, Over, Came}
 use Rattle.rb_interp.specs.Carries.{scope_of}
+
+-- whether a value is a reference to a thing
+abbrev pub is_thing : Val → Bool
+is_thing (To thing) = true
+is_thing v = false
 
 -- an outcome, or want of memory
 abbrev pub OrMemory : Outcome → Outcome → Type 0
@@ -69,7 +75,7 @@ IsHeldAlone code room vs = (v : Val) × (vs ≡ v ∷ []) × IsHeld code room v
 abbrev pub IsQuick : Option Builtin → (left right : Code) → List Held → Answer → Type 0
 IsQuick method left right room answer =
     (m : ℤ) × (n : ℤ) × IsSmall left room m × IsSmall right room n
-    × ((texts : List (List ℕ)) (name : List ℕ) → builtin_of name ≡ method → deed texts (Int m) name (Int n ∷ []) None ≡ answer)
+    × ((program : Program) (name : List ℕ) → builtin_of name ≡ method → deed program (Int m) name (Int n ∷ []) None ≡ answer)
 
 -- a text is written out as these bytes, which are not too many
 abbrev pub IsWritten : List CodePiece → List ℕ → Type 0
@@ -94,7 +100,7 @@ only_value vs = Nil
 abbrev pub IsUpdated : ℕ → AssignOp → Code → List Held → List Held → ℤ → Type 0
 IsUpdated slot op value old new k =
     (b : Builtin) × (m : ℤ) × (n : ℤ) × (method_of op ≡ Some b) × (slice_get old slot ≡ Some (held.Int m)) × IsSmall value old n
-    × ((texts : List (List ℕ)) (name : List ℕ) → builtin_of name ≡ Some b → deed texts (Int m) name (Int n ∷ []) None ≡ Gives (Int k))
+    × ((program : Program) (name : List ℕ) → builtin_of name ≡ Some b → deed program (Int m) name (Int n ∷ []) None ≡ Gives (Int k))
     × (new ≡ slice_set old slot (held.Int k))
 
 -- what a call that shows values gives
@@ -107,7 +113,7 @@ abbrev pub IsDone : ℤ → Turns → Type 0
 IsDone n (Counting next last answer) = (int_lt next last ≡ false) × (answer ≡ Int n)
 
 -- a call of a method of a value with a block comes out so before an iteration
-abbrev pub Settles : List (List ℕ) → ℕ → Option Builtin → Val → List Val → ℕ → Span → ℕ → Log → Outcome → Type 0
-Settles texts N method v args params at left log o =
+abbrev pub Settles : Program → ℕ → Option Builtin → Val → List Val → ℕ → Span → ℕ → Log → Outcome → Type 0
+Settles program N method v args params at left log o =
     (name : List ℕ) (S : Script) (start : State) (h : Private) (b : Block) (k : List Cont) (sc : Scope) (d : ℕ) → builtin_of name ≡ method
-    → At S 0 N start log h (answered S (deed texts v name args (Some params)) (Some b) at k sc d left) → Came S N start log h o k sc d left
+    → At S 0 N start log h (answered S (deed program v name args (Some params)) (Some b) at k sc d left) → Came S N start log h o k sc d left

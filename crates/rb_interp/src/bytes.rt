@@ -6,7 +6,7 @@ ghost use Rattle.rb_machine.specs.Texts.{shown};
 
 use rb_model::Value;
 use rb_render::add_shown;
-use rb_tree::Names;
+use rb_tree::Program;
 use std::alloc::{AllocError, Global};
 
 /// Adds bytes behind others.
@@ -21,10 +21,10 @@ pub(crate) fn add_bytes(out: &mut Vec<u8>, bytes: &[u8]) -> Result<(), AllocErro
 pub(crate) fn add_value(
     alloc: Global,
     out: &mut Vec<u8>,
-    names: &Names,
+    program: &Program,
     value: Value,
 ) -> Result<(), AllocError>
-    ensures { OnOk result (out.new.items ≡ out.old.items ++ shown names.now (plain value)) }
+    ensures { OnOk result (out.new.items ≡ out.old.items ++ shown program.now (plain value)) }
 {
-    add_shown(alloc, out, names, &value)
+    add_shown(alloc, out, program, &value)
 }

@@ -9,10 +9,10 @@ ghost use Rattle.rb_interp.specs.Outcome.{outcome};
 ghost use Rattle.rb_interp.specs.Ending.{ending, Closes};
 
 use crate::came::{Came, Leave, is_left};
-use rb_model::{Answer, Call, End, OneStore, Value};
+use rb_model::{Answer, Call, End, ThreadStore, Value};
 
 /// Makes the end entry of the main thread.
-pub(crate) fn close<O: OneStore + Drop>(mut store: O, step: u64, end: End) -> (O, End)
+pub(crate) fn close<O: ThreadStore + Drop>(mut store: O, step: u64, end: End) -> (O, End)
     requires unended { has_end (O.log store).entries ≡ false }
     ensures { Closes step (O.log store) (over end) (O.log result.0) (over result.1) }
 {

@@ -1,6 +1,7 @@
 // Leaves, and operations on integers, which call nothing of the walk.
 
-ghost use Rattle.std.specs.Prelude.{◌≡◌, ℕ, List, [], ◌∷◌, length, map, slice_get, Some, None, IfSome};
+ghost use Rattle.rb_tree.specs.declared.node.Program.{Program};
+ghost use Rattle.std.specs.Prelude.{◌≡◌, ℕ, List, [], ◌∷◌, length, map, slice_get, Some, None, IfSome, false};
 ghost use Rattle.rb_tree.specs.declared.node.Node.{out-Node};
 ghost use Rattle.rb_tree.specs.Place.{place};
 ghost use Rattle.rb_model.specs.Values.{Int, Str, plain, truthy};
@@ -12,7 +13,7 @@ ghost use Rattle.rb_builtin.specs.Names.{builtin_of};
 ghost use Rattle.rb_builtin.specs.Deeds.{answer_by_number};
 ghost use Rattle.rb_builtin.specs.Integers as integers;
 ghost use Rattle.rb_code.specs.Erase.{erase};
-ghost use Rattle.rb_interp.specs.Answers.{IsHeld, IsHeldAlone, IsSmall, IsQuick, IsUpdated, IsWritten, method_of};
+ghost use Rattle.rb_interp.specs.Answers.{IsHeld, IsHeldAlone, IsSmall, IsQuick, IsUpdated, IsWritten, is_thing, method_of};
 
 use crate::slots::put;
 use rb_builtin::{Builtin, IntegerAnswer, integer_operation, is_operation};
@@ -46,12 +47,18 @@ pub(crate) fn place_of(code: &Code) -> Span
         Code::SetLocal(_, _, _, at) => *at,
         Code::UpdateLocal(_, _, _, _, at) => *at,
         Code::UpdateElement(_, _, _, _, at) => *at,
-        Code::UpdateAttribute(_, _, _, _, _, at) => *at,
+        Code::UpdateAttribute(_, _, _, _, _, _, at) => *at,
+        Code::SelfRef(at) => *at,
+        Code::Field(_, at) => *at,
+        Code::SetField(_, _, at) => *at,
+        Code::UpdateField(_, _, _, at) => *at,
+        Code::New(_, _, _, _, at) => *at,
         Code::Store(_, _, _, at) => *at,
         Code::Operate(_, _, _, _, at) => *at,
         Code::Send(_, _, _, _, at) => *at,
         Code::Walk(_, _, _, _, _, at) => *at,
         Code::Function(_, _, _, at) => *at,
+        Code::Own(_, _, at) => *at,
         Code::Print(_, _, _, at) => *at,
         Code::And(_, _, at) => *at,
         Code::Or(_, _, at) => *at,
@@ -89,10 +96,11 @@ pub(crate) fn small(code: &Code, room: &[Value]) -> Option<i64>
     None
 }
 
-/// The value that a local has.
+/// The value that a local has, where it is no thing.
 #[inline(always)]
 pub(crate) fn held_at<'r>(code: &Code, room: &'r [Value]) -> Option<&'r Value>
-    ensures { IfSome result (λ v. IsHeld code.now room.now (plain v.now)) }
+    ensures held { IfSome result (λ v. IsHeld code.now room.now (plain v.now)) }
+    ensures plain { IfSome result (λ v. is_thing (plain v.now) ≡ false) }
 {
     match code {
         Code::Local(slot, _, _) => value_at(room, *slot),
@@ -100,12 +108,16 @@ pub(crate) fn held_at<'r>(code: &Code, room: &'r [Value]) -> Option<&'r Value>
     }
 }
 
-/// The value in a slot.
+/// The value in a slot, where it is no thing.
 #[inline(always)]
 fn value_at(room: &[Value], slot: u32) -> Option<&Value>
-    ensures { IfSome result (λ v. slice_get room.now slot ≡ Some v.now) }
+    ensures held { IfSome result (λ v. slice_get room.now slot ≡ Some v.now) }
+    ensures plain { IfSome result (λ v. is_thing (plain v.now) ≡ false) }
 {
-    room.get(slot as usize)
+    match room.get(slot as usize)? {
+        Value::Ref(_) => None,
+        value => Some(value),
+    }
 }
 
 /// The value that a local has, as a list of one.
@@ -133,7 +145,7 @@ fn alone(room: &[Value], slot: usize) -> Option<&[Value]>
 /// What an operation on two integers gives, where this is one.
 #[inline(always)]
 pub(crate) fn operation_by(method: Option<Builtin>, m: i64, n: i64) -> Option<IntegerAnswer>
-    ensures { IfSome result (λ answer. (texts : List (List ℕ)) (name : List ℕ) → builtin_of name ≡ method → deed texts (Int m) name (Int n ∷ []) None ≡ integers.answer_of answer) }
+    ensures { IfSome result (λ answer. (program : Program) (name : List ℕ) → builtin_of name ≡ method → deed program (Int m) name (Int n ∷ []) None ≡ integers.answer_of answer) }
 {
     let method = method?;
     if !is_operation(method) {
@@ -148,7 +160,7 @@ pub(crate) fn operation_on(
     receiver: &Value,
     arg: &Value,
 ) -> Option<IntegerAnswer>
-    ensures { IfSome result (λ answer. (texts : List (List ℕ)) (name : List ℕ) → builtin_of name ≡ method → deed texts (plain receiver.now) name (plain arg.now ∷ []) None ≡ integers.answer_of answer) }
+    ensures { IfSome result (λ answer. (program : Program) (name : List ℕ) → builtin_of name ≡ method → deed program (plain receiver.now) name (plain arg.now ∷ []) None ≡ integers.answer_of answer) }
 {
     let Value::Int(m) = receiver else {
         return None;
@@ -166,7 +178,7 @@ pub(crate) fn text_answer(
     receiver: &Value,
     args: &[Value],
 ) -> Option<IntegerAnswer>
-    ensures { IfSome result (λ answer. (texts : List (List ℕ)) (name : List ℕ) → builtin_of name ≡ method → deed texts (plain receiver.now) name (map plain args.now) None ≡ integers.answer_of answer) }
+    ensures { IfSome result (λ answer. (program : Program) (name : List ℕ) → builtin_of name ≡ method → deed program (plain receiver.now) name (map plain args.now) None ≡ integers.answer_of answer) }
 {
     let Value::Str(text) = receiver else {
         return None;
@@ -180,7 +192,7 @@ pub(crate) fn text_answer(
 /// What a text answers to a method by its number, where that needs no memory.
 #[inline(always)]
 fn text_answer_by(method: Builtin, text: &SharedText, args: &[Value]) -> Option<IntegerAnswer>
-    ensures { IfSome result (λ answer. (texts : List (List ℕ)) → answer_by_number texts (Str text.now) method (map plain args.now) None ≡ integers.answer_of answer) }
+    ensures { IfSome result (λ answer. (program : Program) → answer_by_number program (Str text.now) method (map plain args.now) None ≡ integers.answer_of answer) }
 {
     match method {
         Builtin::Length => length_of(text, args),
@@ -192,7 +204,7 @@ fn text_answer_by(method: Builtin, text: &SharedText, args: &[Value]) -> Option<
 /// The length of a text.
 #[inline(always)]
 fn length_of(text: &SharedText, args: &[Value]) -> Option<IntegerAnswer>
-    ensures { IfSome result (λ answer. (texts : List (List ℕ)) → answer_by_number texts (Str text.now) builtin.Length (map plain args.now) None ≡ integers.answer_of answer) }
+    ensures { IfSome result (λ answer. (program : Program) → answer_by_number program (Str text.now) builtin.Length (map plain args.now) None ≡ integers.answer_of answer) }
 {
     if !args.is_empty() {
         return None;
@@ -203,7 +215,7 @@ fn length_of(text: &SharedText, args: &[Value]) -> Option<IntegerAnswer>
 /// Whether a text is another.
 #[inline(always)]
 fn sameness_of(text: &SharedText, args: &[Value]) -> Option<IntegerAnswer>
-    ensures { IfSome result (λ answer. (texts : List (List ℕ)) → answer_by_number texts (Str text.now) builtin.Equal (map plain args.now) None ≡ integers.answer_of answer) }
+    ensures { IfSome result (λ answer. (program : Program) → answer_by_number program (Str text.now) builtin.Equal (map plain args.now) None ≡ integers.answer_of answer) }
 {
     let [Value::Str(other)] = args else {
         return None;

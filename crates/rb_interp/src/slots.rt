@@ -1,10 +1,14 @@
 // Slots of a frame.
 
-ghost use Rattle.std.specs.Prelude.{◌≡◌, ◌≤◌, ◌<◌, ◌+◌, ℕ, Some, length, take, drop, slice_get, slice_set};
+ghost use Rattle.std.specs.Prelude.{◌≡◌, ◌≤◌, ◌<◌, ◌+◌, ℕ, Some, IfOk, IfSome, map, length, take, drop, slice_get, slice_set};
+ghost use Rattle.rb_model.specs.Values.{plain};
 ghost use Rattle.rb_model.specs.declared.value.Value.TheVariants as held;
+ghost use Rattle.rb_machine.specs.Scopes.{Script};
+ghost use Rattle.rb_machine.specs.Call.{last_value};
 ghost use Rattle.rb_interp.specs.Slots.{first_of_block};
 
 use rb_model::Value;
+use std::alloc::AllocError;
 
 /// Sets slots to nil.
 pub(crate) fn clear(room: &mut [Value], from: usize, to: usize)
@@ -53,4 +57,27 @@ pub(crate) fn passed(room: &[Value], from: usize, count: usize) -> &[Value]
         return &room[0..0];
     }
     &room[from..from + count]
+}
+
+/// The value in a place.
+fn value_in(values: &[Value], place: usize) -> Option<&Value>
+    ensures { IfSome result (λ v. slice_get values.now place ≡ Some v.now) }
+{
+    values.get(place)
+}
+
+/// The last of values, or nil.
+pub(crate) fn last_of(values: &[Value]) -> Result<Value, AllocError>
+    ensures { IfOk result (λ last. (S : Script) → plain last ≡ last_value S (map plain values.now)) }
+{
+    let count = values.len();
+    if count == 0 {
+        return Ok(Value::Nil);
+    }
+    let Some(last) = value_in(values, count - 1) else {
+        // Never, as there are some.
+        return Err(AllocError);
+    };
+    let copy = last.share()?;
+    Ok(copy)
 }

@@ -1,12 +1,12 @@
 // The walk.
 
-ghost use Rattle.std.specs.Prelude.{◌≡◌, ◌≤◌, ◌<◌, ◌+◌, ℕ, true, false, List, [], ◌∷◌, ◌++◌, length, Some};
+ghost use Rattle.std.specs.Prelude.{◌≡◌, ◌≤◌, ◌<◌, ◌+◌, ℕ, true, false, List, [], ◌∷◌, ◌++◌, length, Some, None};
 ghost use Rattle.rb_tree.specs.declared.node.Node.{out-Node};
 ghost use Rattle.rb_model.specs.Values.{Nil, Int};
 ghost use Rattle.rb_model.specs.Ends.{Full, Sink, over};
 ghost use Rattle.rb_model.specs.Log.{has_end};
 ghost use Rattle.rb_model.specs.Log as log;
-ghost use Rattle.rb_model.specs.Private.{Private};
+ghost use Rattle.rb_model.specs.Private.{bare};
 ghost use Rattle.rb_machine.specs.Scopes.{Script, fresh};
 ghost use Rattle.rb_machine.specs.Follows.{At, Follows};
 ghost use Rattle.rb_machine.specs.Alone.{opening};
@@ -16,11 +16,14 @@ ghost use Rattle.rb_machine.specs.Begin.{begin};
 ghost use Rattle.rb_code.specs.Erase.{erase};
 ghost use Rattle.rb_code.specs.Resolved.{fits};
 ghost use Rattle.rb_interp.specs.Outcome.{outcome, Over, Came as Comes};
-ghost use Rattle.rb_interp.specs.Carries.{Carries, Keeps, scope_of, goes_on};
+ghost use Rattle.rb_interp.specs.Carries.{Carries, Keeps, scope_of, goes_on, me_of};
 
 mod assign;
 mod calls;
 mod flow;
+mod methods;
+mod objects;
+mod texts;
 mod values;
 
 use crate::came::{Came, Cut, Leave};
@@ -28,8 +31,8 @@ use crate::ending::{close, end_of};
 use crate::leaf::{held_alone, held_at, place_of, quick, quick_update, small};
 use crate::slots::clear;
 use rb_code::{Code, CodeScript};
-use rb_model::{End, Fault, OneStore, Value};
-use rb_tree::Names;
+use rb_model::{End, Fault, Ref, ThreadStore, Value};
+use rb_tree::Program;
 use std::alloc::Global;
 
 /// How many nodes may be under evaluation at once.
@@ -39,16 +42,27 @@ const MAX_DEPTH: u32 = 1000;
 #[derive(Clone, Copy)]
 pub struct Context<'p> {
     pub alloc: Global,
-    pub names: &'p Names,
+    pub program: &'p Program,
     pub script: &'p CodeScript,
     /// How many steps the thread may make.
     pub steps: u64,
 }
 
+/// What a walk runs, and the `self` of the running method.
+#[derive(Clone, Copy)]
+struct Running<'p> {
+    alloc: Global,
+    program: &'p Program,
+    script: &'p CodeScript,
+    steps: u64,
+    /// None at the top level and in its methods.
+    me: Option<Ref>,
+}
+
 /// The walk of the main thread of a script over its store.
 #[derive(Drop)]
 struct Walker<'p, O> {
-    context: Context<'p>,
+    context: Running<'p>,
     store: O,
     /// Where the frame of the running method ends, and what is free begins.
     base: usize,
@@ -60,7 +74,7 @@ struct Walker<'p, O> {
     leave: Leave,
 }
 
-impl<'p, O: OneStore + Drop> Walker<'p, O> {
+impl<'p, O: ThreadStore + Drop> Walker<'p, O> {
     /// Evaluates a node.
     #[cycle(walk)]
     #[inline(never)]
@@ -73,8 +87,8 @@ impl<'p, O: OneStore + Drop> Walker<'p, O> {
         ensures room { length room.new ≡ length room.old }
         ensures less { self.new.left ≤ self.old.left }
         ensures unended { has_end (O.log self.new.store).entries ≡ false }
-        ensures kept { Keeps self.old.context.script.now self.old.context.names.now (λ S. fits S code.now) self.old.base room.old room.new }
-        ensures came { Carries self.old.context.script.now self.old.context.names.now self.old.context.steps (λ S. fits S code.now) (λ S k sc d n. On (Eval (erase code.now)) k sc d n) self.old.base depth self.old.left self.new.left room.old room.new (O.log self.old.store) (O.log self.new.store) (outcome result self.new.value self.new.leave) }
+        ensures kept { Keeps self.old.context.script.now self.old.context.program.now (λ S. fits S code.now) self.old.base room.old room.new }
+        ensures came { Carries self.old.context.script.now self.old.context.program.now self.old.context.steps (me_of self.old.context.me) (λ S. fits S code.now) (λ S k sc d n. On (Eval (erase code.now)) k sc d n) self.old.base depth self.old.left self.new.left room.old room.new (O.log self.old.store) (O.log self.new.store) (O.private self.old.store) (O.private self.new.store) (outcome result self.new.value self.new.leave) }
     {
         self.walk_here(code, depth, room)
     }
@@ -91,8 +105,8 @@ impl<'p, O: OneStore + Drop> Walker<'p, O> {
         ensures room { length room.new ≡ length room.old }
         ensures less { self.new.left ≤ self.old.left }
         ensures unended { has_end (O.log self.new.store).entries ≡ false }
-        ensures kept { Keeps self.old.context.script.now self.old.context.names.now (λ S. fits S code.now) self.old.base room.old room.new }
-        ensures came { Carries self.old.context.script.now self.old.context.names.now self.old.context.steps (λ S. fits S code.now) (λ S k sc d n. On (Eval (erase code.now)) k sc d n) self.old.base depth self.old.left self.new.left room.old room.new (O.log self.old.store) (O.log self.new.store) (outcome result self.new.value self.new.leave) }
+        ensures kept { Keeps self.old.context.script.now self.old.context.program.now (λ S. fits S code.now) self.old.base room.old room.new }
+        ensures came { Carries self.old.context.script.now self.old.context.program.now self.old.context.steps (me_of self.old.context.me) (λ S. fits S code.now) (λ S k sc d n. On (Eval (erase code.now)) k sc d n) self.old.base depth self.old.left self.new.left room.old room.new (O.log self.old.store) (O.log self.new.store) (O.private self.old.store) (O.private self.new.store) (outcome result self.new.value self.new.leave) }
     {
         if self.left == 0 {
             return self.over(Cut::Steps);
@@ -116,8 +130,8 @@ impl<'p, O: OneStore + Drop> Walker<'p, O> {
         ensures room { length room.new ≡ length room.old }
         ensures less { self.new.left ≤ self.old.left }
         ensures unended { has_end (O.log self.new.store).entries ≡ false }
-        ensures kept { Keeps self.old.context.script.now self.old.context.names.now (λ S. fits S code.now) self.old.base room.old room.new }
-        ensures came { Carries self.old.context.script.now self.old.context.names.now self.old.context.steps (λ S. fits S code.now) (λ S k sc d n. On (Eval (erase code.now)) k sc d n) self.old.base depth self.old.left self.new.left room.old room.new (O.log self.old.store) (O.log self.new.store) (outcome result self.new.value self.new.leave) }
+        ensures kept { Keeps self.old.context.script.now self.old.context.program.now (λ S. fits S code.now) self.old.base room.old room.new }
+        ensures came { Carries self.old.context.script.now self.old.context.program.now self.old.context.steps (me_of self.old.context.me) (λ S. fits S code.now) (λ S k sc d n. On (Eval (erase code.now)) k sc d n) self.old.base depth self.old.left self.new.left room.old room.new (O.log self.old.store) (O.log self.new.store) (O.private self.old.store) (O.private self.new.store) (outcome result self.new.value self.new.leave) }
     {
         if self.left > 0 && depth < MAX_DEPTH {
             if let Some(n) = small(code, room) {
@@ -140,8 +154,8 @@ impl<'p, O: OneStore + Drop> Walker<'p, O> {
         ensures room { length room.new ≡ length room.old }
         ensures less { self.new.left ≤ self.old.left }
         ensures unended { has_end (O.log self.new.store).entries ≡ false }
-        ensures kept { Keeps self.old.context.script.now self.old.context.names.now (λ S. fits S code.now) self.old.base room.old room.new }
-        ensures came { Carries self.old.context.script.now self.old.context.names.now self.old.context.steps (λ S. fits S code.now) (λ S k sc d n. On (Eval (erase code.now)) k sc d n) self.old.base depth self.old.left self.new.left room.old room.new (O.log self.old.store) (O.log self.new.store) (outcome result self.new.value self.new.leave) }
+        ensures kept { Keeps self.old.context.script.now self.old.context.program.now (λ S. fits S code.now) self.old.base room.old room.new }
+        ensures came { Carries self.old.context.script.now self.old.context.program.now self.old.context.steps (me_of self.old.context.me) (λ S. fits S code.now) (λ S k sc d n. On (Eval (erase code.now)) k sc d n) self.old.base depth self.old.left self.new.left room.old room.new (O.log self.old.store) (O.log self.new.store) (O.private self.old.store) (O.private self.new.store) (outcome result self.new.value self.new.leave) }
     {
         match code {
             Code::Operate(method, _, left, right, at) => {
@@ -177,8 +191,8 @@ impl<'p, O: OneStore + Drop> Walker<'p, O> {
         ensures room { length room.new ≡ length room.old }
         ensures less { self.new.left ≤ self.old.left }
         ensures unended { has_end (O.log self.new.store).entries ≡ false }
-        ensures kept { Keeps self.old.context.script.now self.old.context.names.now (λ S. fits S code.now) self.old.base room.old room.new }
-        ensures came { Carries self.old.context.script.now self.old.context.names.now self.old.context.steps (λ S. fits S code.now) (λ S k sc d n. begin S (out-Node (erase code.now)) k sc d n) self.old.base depth self.old.left self.new.left room.old room.new (O.log self.old.store) (O.log self.new.store) (outcome result self.new.value self.new.leave) }
+        ensures kept { Keeps self.old.context.script.now self.old.context.program.now (λ S. fits S code.now) self.old.base room.old room.new }
+        ensures came { Carries self.old.context.script.now self.old.context.program.now self.old.context.steps (me_of self.old.context.me) (λ S. fits S code.now) (λ S k sc d n. begin S (out-Node (erase code.now)) k sc d n) self.old.base depth self.old.left self.new.left room.old room.new (O.log self.old.store) (O.log self.new.store) (O.private self.old.store) (O.private self.new.store) (outcome result self.new.value self.new.leave) }
     {
         match code {
             Code::Nil(_) => Came::Nil,
@@ -207,8 +221,8 @@ impl<'p, O: OneStore + Drop> Walker<'p, O> {
         ensures room { length room.new ≡ length room.old }
         ensures less { self.new.left ≤ self.old.left }
         ensures unended { has_end (O.log self.new.store).entries ≡ false }
-        ensures kept { Keeps self.old.context.script.now self.old.context.names.now (λ S. fits S code.now) self.old.base room.old room.new }
-        ensures came { Carries self.old.context.script.now self.old.context.names.now self.old.context.steps (λ S. fits S code.now) (λ S k sc d n. begin S (out-Node (erase code.now)) k sc d n) self.old.base depth self.old.left self.new.left room.old room.new (O.log self.old.store) (O.log self.new.store) (outcome result self.new.value self.new.leave) }
+        ensures kept { Keeps self.old.context.script.now self.old.context.program.now (λ S. fits S code.now) self.old.base room.old room.new }
+        ensures came { Carries self.old.context.script.now self.old.context.program.now self.old.context.steps (me_of self.old.context.me) (λ S. fits S code.now) (λ S k sc d n. begin S (out-Node (erase code.now)) k sc d n) self.old.base depth self.old.left self.new.left room.old room.new (O.log self.old.store) (O.log self.new.store) (O.private self.old.store) (O.private self.new.store) (outcome result self.new.value self.new.leave) }
     {
         match code {
             Code::SetLocal(slot, _, value, _) => self.set_local(*slot, value.get(), depth, room),
@@ -227,8 +241,8 @@ impl<'p, O: OneStore + Drop> Walker<'p, O> {
         ensures room { length room.new ≡ length room.old }
         ensures less { self.new.left ≤ self.old.left }
         ensures unended { has_end (O.log self.new.store).entries ≡ false }
-        ensures kept { Keeps self.old.context.script.now self.old.context.names.now (λ S. fits S code.now) self.old.base room.old room.new }
-        ensures came { Carries self.old.context.script.now self.old.context.names.now self.old.context.steps (λ S. fits S code.now) (λ S k sc d n. begin S (out-Node (erase code.now)) k sc d n) self.old.base depth self.old.left self.new.left room.old room.new (O.log self.old.store) (O.log self.new.store) (outcome result self.new.value self.new.leave) }
+        ensures kept { Keeps self.old.context.script.now self.old.context.program.now (λ S. fits S code.now) self.old.base room.old room.new }
+        ensures came { Carries self.old.context.script.now self.old.context.program.now self.old.context.steps (me_of self.old.context.me) (λ S. fits S code.now) (λ S k sc d n. begin S (out-Node (erase code.now)) k sc d n) self.old.base depth self.old.left self.new.left room.old room.new (O.log self.old.store) (O.log self.new.store) (O.private self.old.store) (O.private self.new.store) (outcome result self.new.value self.new.leave) }
     {
         match code {
             Code::UpdateLocal(slot, _, op, value, _) => {
@@ -255,8 +269,8 @@ impl<'p, O: OneStore + Drop> Walker<'p, O> {
         ensures room { length room.new ≡ length room.old }
         ensures less { self.new.left ≤ self.old.left }
         ensures unended { has_end (O.log self.new.store).entries ≡ false }
-        ensures kept { Keeps self.old.context.script.now self.old.context.names.now (λ S. fits S code.now) self.old.base room.old room.new }
-        ensures came { Carries self.old.context.script.now self.old.context.names.now self.old.context.steps (λ S. fits S code.now) (λ S k sc d n. begin S (out-Node (erase code.now)) k sc d n) self.old.base depth self.old.left self.new.left room.old room.new (O.log self.old.store) (O.log self.new.store) (outcome result self.new.value self.new.leave) }
+        ensures kept { Keeps self.old.context.script.now self.old.context.program.now (λ S. fits S code.now) self.old.base room.old room.new }
+        ensures came { Carries self.old.context.script.now self.old.context.program.now self.old.context.steps (me_of self.old.context.me) (λ S. fits S code.now) (λ S k sc d n. begin S (out-Node (erase code.now)) k sc d n) self.old.base depth self.old.left self.new.left room.old room.new (O.log self.old.store) (O.log self.new.store) (O.private self.old.store) (O.private self.new.store) (outcome result self.new.value self.new.leave) }
     {
         match code {
             Code::UpdateLocal(slot, _, op, value, at) => {
@@ -277,8 +291,8 @@ impl<'p, O: OneStore + Drop> Walker<'p, O> {
         ensures room { length room.new ≡ length room.old }
         ensures less { self.new.left ≤ self.old.left }
         ensures unended { has_end (O.log self.new.store).entries ≡ false }
-        ensures kept { Keeps self.old.context.script.now self.old.context.names.now (λ S. fits S code.now) self.old.base room.old room.new }
-        ensures came { Carries self.old.context.script.now self.old.context.names.now self.old.context.steps (λ S. fits S code.now) (λ S k sc d n. begin S (out-Node (erase code.now)) k sc d n) self.old.base depth self.old.left self.new.left room.old room.new (O.log self.old.store) (O.log self.new.store) (outcome result self.new.value self.new.leave) }
+        ensures kept { Keeps self.old.context.script.now self.old.context.program.now (λ S. fits S code.now) self.old.base room.old room.new }
+        ensures came { Carries self.old.context.script.now self.old.context.program.now self.old.context.steps (me_of self.old.context.me) (λ S. fits S code.now) (λ S k sc d n. begin S (out-Node (erase code.now)) k sc d n) self.old.base depth self.old.left self.new.left room.old room.new (O.log self.old.store) (O.log self.new.store) (O.private self.old.store) (O.private self.new.store) (outcome result self.new.value self.new.leave) }
     {
         match code {
             Code::Operate(method, _, left, right, at) => {
@@ -305,11 +319,11 @@ impl<'p, O: OneStore + Drop> Walker<'p, O> {
         ensures room { length room.new ≡ length room.old }
         ensures less { self.new.left ≤ self.old.left }
         ensures unended { has_end (O.log self.new.store).entries ≡ false }
-        ensures kept { Keeps self.old.context.script.now self.old.context.names.now (λ S. fits S code.now) self.old.base room.old room.new }
-        ensures came { Carries self.old.context.script.now self.old.context.names.now self.old.context.steps (λ S. fits S code.now) (λ S k sc d n. begin S (out-Node (erase code.now)) k sc d n) self.old.base depth self.old.left self.new.left room.old room.new (O.log self.old.store) (O.log self.new.store) (outcome result self.new.value self.new.leave) }
+        ensures kept { Keeps self.old.context.script.now self.old.context.program.now (λ S. fits S code.now) self.old.base room.old room.new }
+        ensures came { Carries self.old.context.script.now self.old.context.program.now self.old.context.steps (me_of self.old.context.me) (λ S. fits S code.now) (λ S k sc d n. begin S (out-Node (erase code.now)) k sc d n) self.old.base depth self.old.left self.new.left room.old room.new (O.log self.old.store) (O.log self.new.store) (O.private self.old.store) (O.private self.new.store) (outcome result self.new.value self.new.leave) }
     {
         match code {
-            Code::Operate(method, _, left, right, at) => {
+            Code::Operate(method, name, left, right, at) => {
                 let left = left.get();
                 let right = right.get();
                 if self.left > 1 && depth < MAX_DEPTH {
@@ -320,7 +334,7 @@ impl<'p, O: OneStore + Drop> Walker<'p, O> {
                         }
                     }
                 }
-                self.operate(*method, left, right, *at, depth, room)
+                self.operate(*method, *name, left, right, *at, depth, room)
             }
             _ => self.over(Cut::Memory),
         }
@@ -337,11 +351,11 @@ impl<'p, O: OneStore + Drop> Walker<'p, O> {
         ensures room { length room.new ≡ length room.old }
         ensures less { self.new.left ≤ self.old.left }
         ensures unended { has_end (O.log self.new.store).entries ≡ false }
-        ensures kept { Keeps self.old.context.script.now self.old.context.names.now (λ S. fits S code.now) self.old.base room.old room.new }
-        ensures came { Carries self.old.context.script.now self.old.context.names.now self.old.context.steps (λ S. fits S code.now) (λ S k sc d n. begin S (out-Node (erase code.now)) k sc d n) self.old.base depth self.old.left self.new.left room.old room.new (O.log self.old.store) (O.log self.new.store) (outcome result self.new.value self.new.leave) }
+        ensures kept { Keeps self.old.context.script.now self.old.context.program.now (λ S. fits S code.now) self.old.base room.old room.new }
+        ensures came { Carries self.old.context.script.now self.old.context.program.now self.old.context.steps (me_of self.old.context.me) (λ S. fits S code.now) (λ S k sc d n. begin S (out-Node (erase code.now)) k sc d n) self.old.base depth self.old.left self.new.left room.old room.new (O.log self.old.store) (O.log self.new.store) (O.private self.old.store) (O.private self.new.store) (outcome result self.new.value self.new.leave) }
     {
         match code {
-            Code::Send(method, _, receiver, args, at) => {
+            Code::Send(method, name, receiver, args, at) => {
                 let receiver = receiver.get();
                 if self.left > 0 && depth < MAX_DEPTH && args.is_empty() {
                     if let Some(held) = held_at(receiver, room) {
@@ -349,13 +363,13 @@ impl<'p, O: OneStore + Drop> Walker<'p, O> {
                         return self.call_held(held, *method, &[], *at);
                     }
                 }
-                self.send(*method, receiver, args.as_slice(), *at, depth, room)
+                self.send(*method, *name, receiver, args.as_slice(), *at, depth, room)
             }
             _ => self.over(Cut::Memory),
         }
     }
 
-    /// A call of a top-level method.
+    /// A call by a name alone of a method of the script that has a number: one of the class of `self` goes before it.
     #[cycle(walk)]
     #[inline(never)]
     fn begin_function(&mut self, code: &'p Code, depth: u32, room: &mut [Value]) -> Came
@@ -366,12 +380,16 @@ impl<'p, O: OneStore + Drop> Walker<'p, O> {
         ensures room { length room.new ≡ length room.old }
         ensures less { self.new.left ≤ self.old.left }
         ensures unended { has_end (O.log self.new.store).entries ≡ false }
-        ensures kept { Keeps self.old.context.script.now self.old.context.names.now (λ S. fits S code.now) self.old.base room.old room.new }
-        ensures came { Carries self.old.context.script.now self.old.context.names.now self.old.context.steps (λ S. fits S code.now) (λ S k sc d n. begin S (out-Node (erase code.now)) k sc d n) self.old.base depth self.old.left self.new.left room.old room.new (O.log self.old.store) (O.log self.new.store) (outcome result self.new.value self.new.leave) }
+        ensures kept { Keeps self.old.context.script.now self.old.context.program.now (λ S. fits S code.now) self.old.base room.old room.new }
+        ensures came { Carries self.old.context.script.now self.old.context.program.now self.old.context.steps (me_of self.old.context.me) (λ S. fits S code.now) (λ S k sc d n. begin S (out-Node (erase code.now)) k sc d n) self.old.base depth self.old.left self.new.left room.old room.new (O.log self.old.store) (O.log self.new.store) (O.private self.old.store) (O.private self.new.store) (outcome result self.new.value self.new.leave) }
     {
         match code {
-            Code::Function(number, _, args, at) => {
-                self.function(*number, args.as_slice(), *at, depth, room)
+            Code::Function(number, name, args, at) => {
+                let args = args.as_slice();
+                match self.own_target(*name) {
+                    Some(target) => self.own(target, *name, args, *at, depth, room),
+                    None => self.function(*number, *name, args, *at, depth, room),
+                }
             }
             _ => self.over(Cut::Memory),
         }
@@ -388,8 +406,8 @@ impl<'p, O: OneStore + Drop> Walker<'p, O> {
         ensures room { length room.new ≡ length room.old }
         ensures less { self.new.left ≤ self.old.left }
         ensures unended { has_end (O.log self.new.store).entries ≡ false }
-        ensures kept { Keeps self.old.context.script.now self.old.context.names.now (λ S. fits S code.now) self.old.base room.old room.new }
-        ensures came { Carries self.old.context.script.now self.old.context.names.now self.old.context.steps (λ S. fits S code.now) (λ S k sc d n. begin S (out-Node (erase code.now)) k sc d n) self.old.base depth self.old.left self.new.left room.old room.new (O.log self.old.store) (O.log self.new.store) (outcome result self.new.value self.new.leave) }
+        ensures kept { Keeps self.old.context.script.now self.old.context.program.now (λ S. fits S code.now) self.old.base room.old room.new }
+        ensures came { Carries self.old.context.script.now self.old.context.program.now self.old.context.steps (me_of self.old.context.me) (λ S. fits S code.now) (λ S k sc d n. begin S (out-Node (erase code.now)) k sc d n) self.old.base depth self.old.left self.new.left room.old room.new (O.log self.old.store) (O.log self.new.store) (O.private self.old.store) (O.private self.new.store) (outcome result self.new.value self.new.leave) }
     {
         match code {
             Code::If(condition, first, second, _) => self.choose(
@@ -414,8 +432,8 @@ impl<'p, O: OneStore + Drop> Walker<'p, O> {
         ensures room { length room.new ≡ length room.old }
         ensures less { self.new.left ≤ self.old.left }
         ensures unended { has_end (O.log self.new.store).entries ≡ false }
-        ensures kept { Keeps self.old.context.script.now self.old.context.names.now (λ S. fits S code.now) self.old.base room.old room.new }
-        ensures came { Carries self.old.context.script.now self.old.context.names.now self.old.context.steps (λ S. fits S code.now) (λ S k sc d n. begin S (out-Node (erase code.now)) k sc d n) self.old.base depth self.old.left self.new.left room.old room.new (O.log self.old.store) (O.log self.new.store) (outcome result self.new.value self.new.leave) }
+        ensures kept { Keeps self.old.context.script.now self.old.context.program.now (λ S. fits S code.now) self.old.base room.old room.new }
+        ensures came { Carries self.old.context.script.now self.old.context.program.now self.old.context.steps (me_of self.old.context.me) (λ S. fits S code.now) (λ S k sc d n. begin S (out-Node (erase code.now)) k sc d n) self.old.base depth self.old.left self.new.left room.old room.new (O.log self.old.store) (O.log self.new.store) (O.private self.old.store) (O.private self.new.store) (outcome result self.new.value self.new.leave) }
     {
         match code {
             Code::Sym(name, _) => self.give(Value::Sym(*name)),
@@ -423,20 +441,24 @@ impl<'p, O: OneStore + Drop> Walker<'p, O> {
             Code::UpdateElement(receiver, index, _, _, at) => {
                 self.read_element(receiver.get(), index.get(), *at, depth, room)
             }
-            Code::UpdateAttribute(number, _, receiver, op, value, at) => self.update_attribute(
-                *number,
-                receiver.get(),
-                *op,
-                value.get(),
-                *at,
-                depth,
-                room,
-            ),
-            Code::Store(receiver, _, args, at) => {
-                self.store_by(receiver.get(), args.as_slice(), *at, depth, room)
+            Code::UpdateAttribute(number, writer, name, receiver, op, value, at) =>
+                self.update_attribute(
+                    *number,
+                    *writer,
+                    *name,
+                    receiver.get(),
+                    *op,
+                    value.get(),
+                    *at,
+                    depth,
+                    room,
+                ),
+            Code::Store(receiver, name, args, at) => {
+                self.store_by(receiver.get(), *name, args.as_slice(), *at, depth, room)
             }
-            Code::Walk(method, _, receiver, args, block, at) => self.send_block(
+            Code::Walk(method, name, receiver, args, block, at) => self.send_block(
                 *method,
+                *name,
                 receiver.get(),
                 args.as_slice(),
                 block.get(),
@@ -444,7 +466,27 @@ impl<'p, O: OneStore + Drop> Walker<'p, O> {
                 depth,
                 room,
             ),
-            Code::Print(form, _, args, at) => self.print(*form, args.as_slice(), *at, depth, room),
+            Code::Print(form, name, args, at) => {
+                self.begin_print(*form, *name, args.as_slice(), *at, depth, room)
+            }
+            Code::Own(name, args, at) => self.begin_own(*name, args.as_slice(), *at, depth, room),
+            Code::SelfRef(_) => self.give_self(),
+            Code::Field(name, at) => self.field(*name, *at),
+            Code::SetField(name, value, at) => {
+                self.set_field(*name, value.get(), *at, depth, room)
+            }
+            Code::UpdateField(name, op, value, at) => {
+                self.update_field(*name, *op, value.get(), *at, depth, room)
+            }
+            Code::New(class, first, name, args, at) => self.create(
+                *class,
+                *first,
+                *name,
+                args.as_slice(),
+                *at,
+                depth,
+                room,
+            ),
             Code::And(first, second, _) => self.both(first.get(), second.get(), depth, room),
             Code::Or(first, second, _) => self.either(first.get(), second.get(), depth, room),
             Code::Not(value, _) => self.negate(value.get(), depth, room),
@@ -469,12 +511,13 @@ impl<'p, O: OneStore + Drop> Walker<'p, O> {
         requires unended { has_end (O.log self.old.store).entries ≡ false }
         requires steps { self.old.left ≤ self.old.context.steps }
         requires base { self.old.base ≡ self.old.context.script.now.main_size }
+        requires me { self.old.context.me ≡ None }
         ensures context { self.new.context ≡ self.old.context }
         ensures unended { has_end (O.log self.new.store).entries ≡ false }
         ensures less { self.new.left ≤ self.old.left }
-        ensures came { (S : Script) (start : State) (h : Private) (k : List Cont) → StandsFor self.old.context.script.now S → S.program.names ≡ self.old.context.names.now
-            → At S 0 self.old.context.steps start (O.log self.old.store) h (On (Following Nil S.program.main) k (record { me = Nil; locals = fresh S.main_names [] }) 0 self.old.left)
-            → Comes S self.old.context.steps start (O.log self.new.store) h (outcome result self.new.value self.new.leave) k (scope_of Nil S.main_names room.new) 0 self.new.left }
+        ensures came { (S : Script) (start : State) (k : List Cont) → StandsFor self.old.context.script.now S → S.program ≡ self.old.context.program.now
+            → At S 0 self.old.context.steps start (O.log self.old.store) (O.private self.old.store) (On (Following Nil S.program.main) k (record { me = Nil; locals = fresh S.main_names [] }) 0 self.old.left)
+            → Comes S self.old.context.steps start (O.log self.new.store) (O.private self.new.store) (outcome result self.new.value self.new.leave) k (scope_of Nil S.main_names room.new) 0 self.new.left }
     {
         let script = self.context.script;
         let size = script.main_size as usize;
@@ -487,21 +530,34 @@ impl<'p, O: OneStore + Drop> Walker<'p, O> {
 }
 
 /// Runs the top level of a script, in this row of slots, to its end entry. Answers the store, and how the script ended.
-pub fn run_main<'p, O: OneStore + Drop>(
+pub fn run_main<'p, O: ThreadStore + Drop>(
     context: Context<'p>,
     store: O,
     room: &mut [Value],
 ) -> (O, End)
     requires begun { O.log store ≡ log.fresh }
-    ensures follows { (S : Script) → StandsFor context.entry.script.now S → S.program.names ≡ context.entry.names.now → Follows S 0 context.entry.steps (opening S context.entry.steps) (O.log result.0) (over result.1) }
-    ensures refused { (S : Script) → StandsFor context.entry.script.now S → S.program.names ≡ context.entry.names.now → over result.1 ≡ Sink → (before : List log.Refusal) × (r : log.Refusal) × ((O.log result.0).refusals ≡ before ++ r ∷ []) }
-    ensures never_full { (S : Script) → StandsFor context.entry.script.now S → S.program.names ≡ context.entry.names.now → (used asked : ℕ) → over result.1 ≡ Full used asked → ⊥ }
+    requires made { O.private store ≡ bare 0 }
+    ensures follows { (S : Script) → StandsFor context.entry.script.now S → S.program ≡ context.entry.program.now → Follows S 0 context.entry.steps (opening S context.entry.steps) (O.log result.0) (over result.1) }
+    ensures refused { (S : Script) → StandsFor context.entry.script.now S → S.program ≡ context.entry.program.now → over result.1 ≡ Sink → (before : List log.Refusal) × (r : log.Refusal) × ((O.log result.0).refusals ≡ before ++ r ∷ []) }
+    ensures never_full { (S : Script) → StandsFor context.entry.script.now S → S.program ≡ context.entry.program.now → (used asked : ℕ) → over result.1 ≡ Full used asked → ⊥ }
 {
+    let Context {
+        alloc,
+        program,
+        script,
+        steps,
+    } = context;
     let mut walker = Walker {
-        context,
+        context: Running {
+            alloc,
+            program,
+            script,
+            steps,
+            me: None,
+        },
         store,
-        base: context.script.main_size as usize,
-        left: context.steps,
+        base: script.main_size as usize,
+        left: steps,
         value: Value::Nil,
         leave: Leave::Break,
     };
@@ -512,5 +568,5 @@ pub fn run_main<'p, O: OneStore + Drop>(
         leave,
         ..
     } = walker;
-    close(store, context.steps - left, end_of(came, leave))
+    close(store, steps - left, end_of(came, leave))
 }

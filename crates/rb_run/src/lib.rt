@@ -3,5 +3,6 @@
 
 mod row;
 mod run;
+mod thread;
 
 pub use run::{Ran, Stopped, run_program};

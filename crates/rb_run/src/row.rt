@@ -1,9 +1,9 @@
 // The row of slots that the frames of a run lie in.
 
 ghost use Rattle.std.specs.Prelude.{◌≡◌, replicate, IfOk};
-ghost use Rattle.rb_run.specs.Row.{slots_in};
+ghost use Rattle.rb_run.specs.Row as spec;
 
-use rb_code::CodeScript;
+use rb_code::{CodeClass, CodeMethod, CodeScript};
 use rb_model::Value;
 use std::alloc::{AllocError, Global};
 
@@ -16,21 +16,41 @@ const LEAST: usize = 16;
 /// The slots of a row at most.
 const MOST: usize = 4_194_304;
 
+/// The most slots that a frame has: so many, or those of a method that has more.
+fn largest(slots: usize, methods: &[CodeMethod]) -> usize
+    ensures { result ≡ spec.largest slots methods.now }
+{
+    let mut most = slots;
+    'methods: for method in methods {
+        most = most.max(method.size as usize);
+    }
+    most
+}
+
+/// And where the methods of classes are counted.
+fn largest_in(slots: usize, classes: &[CodeClass]) -> usize
+    ensures { result ≡ spec.largest_in slots classes.now }
+{
+    let mut most = slots;
+    'classes: for class in classes {
+        most = largest(most, class.methods.as_slice());
+    }
+    most
+}
+
 /// How many slots a run may need.
 fn slots_of(script: &CodeScript) -> usize
-    ensures { result ≡ slots_in script.now }
+    ensures { result ≡ spec.slots_in script.now }
 {
-    let mut largest = LEAST;
-    'methods: for method in script.functions.as_slice() {
-        largest = largest.max(method.size as usize);
-    }
-    let frames = largest.saturating_mul(FRAMES);
+    let most = largest(LEAST, script.functions.as_slice());
+    let most = largest_in(most, script.classes.as_slice());
+    let frames = most.saturating_mul(FRAMES);
     frames.saturating_add(script.main_size as usize).min(MOST)
 }
 
 /// A row of slots for a script.
 pub(crate) fn row_of(alloc: Global, script: &CodeScript) -> Result<Vec<Value>, AllocError>
-    ensures { IfOk result (λ row. row.items ≡ replicate (slots_in script.now) Value.Nil) }
+    ensures { IfOk result (λ row. row.items ≡ replicate (spec.slots_in script.now) Value.Nil) }
 {
     let count = slots_of(script);
     let mut row = Vec::with_capacity(alloc, count)?;

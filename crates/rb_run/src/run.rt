@@ -4,6 +4,7 @@ ghost use Rattle.std.specs.Prelude.{◌≡◌, ◌≤◌, ◌++◌, [], ◌∷�
 ghost use Rattle.rb_model.specs.Ends.{over};
 ghost use Rattle.rb_model.specs.Ends as ending;
 ghost use Rattle.rb_model.specs.Log.{Refusal};
+ghost use Rattle.rb_model.specs.Private.{bare};
 ghost use Rattle.rb_machine.specs.Scopes.{Script};
 ghost use Rattle.rb_machine.specs.Follows.{Follows};
 ghost use Rattle.rb_machine.specs.Alone.{opening};
@@ -13,14 +14,17 @@ ghost use Rattle.rb_store.specs.Written.{Caused, Written, only_prints};
 ghost use Rattle.rb_run.specs.Run.{IsRunOf};
 
 use crate::row::row_of;
+use crate::thread::MainThread;
+use local_heap::LocalHeap;
 use rb_code::CodeScript;
 use rb_edge::Sink;
 use rb_interp::{Context, run_main};
 use rb_model::End;
 use rb_resolver::{ResolveFault, resolve};
 use rb_store::{Begun, MainStore, RunFront};
-use rb_tree::{Names, Program};
-use std::alloc::Global;
+use rb_tree::Program;
+use shape_tree::Tree;
+use std::alloc::{AllocError, Global};
 use std::marker::Brand;
 
 /// What a run gives back: the sink, the history, and how it ended.
@@ -38,21 +42,28 @@ pub struct Stopped<K> {
     pub why: ResolveFault,
 }
 
+/// The main thread's things before it begins: none.
+fn things_of(alloc: Global) -> Result<LocalHeap<Tree>, AllocError>
+    ensures { IfOk result (λ things. things.private ≡ bare 0) }
+{
+    LocalHeap::new(alloc, 0, Tree::new(alloc)?)
+}
+
 /// Runs a resolved script over a sink of which is known what it told and how often it had failed.
 fn run_with<K: Sink + Drop, B: Begun>(
     alloc: Global,
     code: &CodeScript,
-    names: &Names,
+    program: &Program,
     steps: u64,
     out: K,
 ) -> Result<Ran<K>, K>
     requires told { K.told out ≡ B.told }
     requires faults { K.faults out ≡ B.faults }
-    ensures follows { IfOk result (λ ran. (S : Script) → StandsFor code.now S → S.program.names ≡ names.now
+    ensures follows { IfOk result (λ ran. (S : Script) → StandsFor code.now S → S.program ≡ program.now
         → Follows S 0 steps (opening S steps) ran.front (over ran.end)) }
-    ensures refused { IfOk result (λ ran. (S : Script) → StandsFor code.now S → S.program.names ≡ names.now
+    ensures refused { IfOk result (λ ran. (S : Script) → StandsFor code.now S → S.program ≡ program.now
         → over ran.end ≡ ending.Sink → (before : List Refusal) × (r : Refusal) × (ran.front.refusals ≡ before ++ r ∷ [])) }
-    ensures never_full { IfOk result (λ ran. (S : Script) → StandsFor code.now S → S.program.names ≡ names.now
+    ensures never_full { IfOk result (λ ran. (S : Script) → StandsFor code.now S → S.program ≡ program.now
         → (used asked : ℕ) → over ran.end ≡ ending.Full used asked → ⊥) }
     ensures own { IfOk result (λ ran. only_prints ran.front.entries ≡ true) }
     ensures written { IfOk result (λ ran. Written B.told (K.told ran.out) ran.front) }
@@ -63,18 +74,22 @@ fn run_with<K: Sink + Drop, B: Begun>(
     let Ok(mut row) = row_of(alloc, code) else {
         return Err(out);
     };
-    let store = match MainStore::<K, B>::new(alloc, out) {
-        Ok(store) => store,
+    let Ok(things) = things_of(alloc) else {
+        return Err(out);
+    };
+    let calls = match MainStore::<K, B>::new(alloc, out) {
+        Ok(calls) => calls,
         Err(out) => return Err(out),
     };
+    let store = MainThread { calls, things };
     let context = Context {
         alloc,
-        names,
+        program,
         script: code,
         steps,
     };
     let (store, end) = run_main(context, store, row.as_mut_slice());
-    let (out, front) = store.into_parts();
+    let (out, front) = store.calls.into_parts();
     Ok(Ran { out, front, end })
 }
 
@@ -99,7 +114,7 @@ pub fn run_program<K: Sink + Drop>(
         Ok(code) => code,
         Err(why) => return Err(Stopped { out, why }),
     };
-    match run_with::<K, Brand>(alloc, &code, &program.names, steps, out) {
+    match run_with::<K, Brand>(alloc, &code, program, steps, out) {
         Ok(ran) => Ok(ran),
         Err(out) => Err(Stopped {
             out,

@@ -1,9 +1,8 @@
 // Assignments with operators, and operators on values.
 
-ghost use Rattle.std.specs.Prelude.{◌≡◌, ◌≤◌, ◌<◌, ℕ, false, List, [], ◌∷◌, length, Some, None};
+ghost use Rattle.std.specs.Prelude.{◌≡◌, ◌≤◌, ◌<◌, ℕ, false, List, [], ◌∷◌, length, slice_get, Some, None};
 ghost use Rattle.rb_tree.specs.declared.node.Node.{Node as Tree};
 ghost use Rattle.rb_tree.specs.declared.node.AssignOp.{AssignOp as Op};
-ghost use Rattle.rb_tree.specs.declared.span.NameId.{NameId};
 ghost use Rattle.rb_model.specs.Values.{Value as Val, Int, plain};
 ghost use Rattle.rb_model.specs.Log.{has_end};
 ghost use Rattle.rb_machine.specs.Scopes.{text_of};
@@ -14,18 +13,20 @@ ghost use Rattle.rb_builtin.specs.Names.{builtin_of};
 ghost use Rattle.rb_code.specs.Erase.{erase};
 ghost use Rattle.rb_code.specs.Resolved.{fits};
 ghost use Rattle.rb_interp.specs.Outcome.{is_left, value_of, outcome};
-ghost use Rattle.rb_interp.specs.Carries.{Carries, Keeps, both, at_slot, numbered, unwritten, Assigns};
+ghost use Rattle.rb_interp.specs.Carries.{Carries, Keeps, both, at_slot, attribute, written_by, Assigns, me_of};
+ghost use Rattle.rb_interp.specs.Methods.{Writing};
 ghost use Rattle.rb_interp.specs.Answers.{OrMemory, outcome_of};
 
 use super::Walker;
-use crate::came::{Came, is_left};
+use crate::came::{Came, Cut, is_left};
 use crate::leaf::{method_of, operation_by, operation_on};
+use crate::target::writer_of;
 use rb_builtin::Builtin;
 use rb_code::Code;
-use rb_model::{Fault, OneStore, Value};
-use rb_tree::{AssignOp, Span};
+use rb_model::{Fault, ThreadStore, Value};
+use rb_tree::{AssignOp, NameId, Span};
 
-impl<'p, O: OneStore + Drop> Walker<'p, O> {
+impl<'p, O: ThreadStore + Drop> Walker<'p, O> {
     /// An assignment to a local.
     #[cycle(walk)]
     #[inline(always)]
@@ -43,8 +44,8 @@ impl<'p, O: OneStore + Drop> Walker<'p, O> {
         ensures room { length room.new ≡ length room.old }
         ensures less { self.new.left ≤ self.old.left }
         ensures unended { has_end (O.log self.new.store).entries ≡ false }
-        ensures kept { (name : NameId) → Keeps self.old.context.script.now self.old.context.names.now (at_slot slot name (λ S. fits S value.now)) self.old.base room.old room.new }
-        ensures came { (name : NameId) (step : Step) → Assigns name step → Carries self.old.context.script.now self.old.context.names.now self.old.context.steps (at_slot slot name (λ S. fits S value.now)) (λ S k sc d n. On (Eval (erase value.now)) (Then step ∷ k) sc d n) self.old.base depth self.old.left self.new.left room.old room.new (O.log self.old.store) (O.log self.new.store) (outcome result self.new.value self.new.leave) }
+        ensures kept { (name : NameId) → Keeps self.old.context.script.now self.old.context.program.now (at_slot slot name (λ S. fits S value.now)) self.old.base room.old room.new }
+        ensures came { (name : NameId) (step : Step) → Assigns name step → Carries self.old.context.script.now self.old.context.program.now self.old.context.steps (me_of self.old.context.me) (at_slot slot name (λ S. fits S value.now)) (λ S k sc d n. On (Eval (erase value.now)) (Then step ∷ k) sc d n) self.old.base depth self.old.left self.new.left room.old room.new (O.log self.old.store) (O.log self.new.store) (O.private self.old.store) (O.private self.new.store) (outcome result self.new.value self.new.leave) }
     {
         let came = self.evaluate_call(value, depth, room);
         if is_left(came) {
@@ -72,8 +73,8 @@ impl<'p, O: OneStore + Drop> Walker<'p, O> {
         ensures room { length room.new ≡ length room.old }
         ensures less { self.new.left ≤ self.old.left }
         ensures unended { has_end (O.log self.new.store).entries ≡ false }
-        ensures kept { (name : NameId) → Keeps self.old.context.script.now self.old.context.names.now (at_slot slot name (λ S. fits S value.now)) self.old.base room.old room.new }
-        ensures came { (name : NameId) → Carries self.old.context.script.now self.old.context.names.now self.old.context.steps (at_slot slot name (λ S. fits S value.now)) (λ S k sc d n. read_place S (OfLocal name) op (erase value.now) at k sc d n) self.old.base depth self.old.left self.new.left room.old room.new (O.log self.old.store) (O.log self.new.store) (outcome result self.new.value self.new.leave) }
+        ensures kept { (name : NameId) → Keeps self.old.context.script.now self.old.context.program.now (at_slot slot name (λ S. fits S value.now)) self.old.base room.old room.new }
+        ensures came { (name : NameId) → Carries self.old.context.script.now self.old.context.program.now self.old.context.steps (me_of self.old.context.me) (at_slot slot name (λ S. fits S value.now)) (λ S k sc d n. read_place S (OfLocal name) op (erase value.now) at k sc d n) self.old.base depth self.old.left self.new.left room.old room.new (O.log self.old.store) (O.log self.new.store) (O.private self.old.store) (O.private self.new.store) (outcome result self.new.value self.new.leave) }
     {
         let current = self.read(slot, room);
         if is_left(current) {
@@ -122,8 +123,8 @@ impl<'p, O: OneStore + Drop> Walker<'p, O> {
         ensures room { length room.new ≡ length room.old }
         ensures less { self.new.left ≤ self.old.left }
         ensures unended { has_end (O.log self.new.store).entries ≡ false }
-        ensures kept { Keeps self.old.context.script.now self.old.context.names.now (λ S. fits S value.now) self.old.base room.old room.new }
-        ensures came { Carries self.old.context.script.now self.old.context.names.now self.old.context.steps (λ S. fits S value.now) (λ S k sc d n. On (Eval (erase value.now)) (Then (RightOf (value_of current self.old.value) op at) ∷ k) sc d n) self.old.base depth self.old.left self.new.left room.old room.new (O.log self.old.store) (O.log self.new.store) (outcome result self.new.value self.new.leave) }
+        ensures kept { Keeps self.old.context.script.now self.old.context.program.now (λ S. fits S value.now) self.old.base room.old room.new }
+        ensures came { Carries self.old.context.script.now self.old.context.program.now self.old.context.steps (me_of self.old.context.me) (λ S. fits S value.now) (λ S k sc d n. On (Eval (erase value.now)) (Then (RightOf (value_of current self.old.value) op at) ∷ k) sc d n) self.old.base depth self.old.left self.new.left room.old room.new (O.log self.old.store) (O.log self.new.store) (O.private self.old.store) (O.private self.new.store) (outcome result self.new.value self.new.leave) }
     {
         match current {
             Came::Int(m) => self.combine_integer(m, op, value, at, depth, room),
@@ -150,8 +151,8 @@ impl<'p, O: OneStore + Drop> Walker<'p, O> {
         ensures room { length room.new ≡ length room.old }
         ensures less { self.new.left ≤ self.old.left }
         ensures unended { has_end (O.log self.new.store).entries ≡ false }
-        ensures kept { Keeps self.old.context.script.now self.old.context.names.now (λ S. fits S value.now) self.old.base room.old room.new }
-        ensures came { Carries self.old.context.script.now self.old.context.names.now self.old.context.steps (λ S. fits S value.now) (λ S k sc d n. On (Eval (erase value.now)) (Then (RightOf (Int m) op at) ∷ k) sc d n) self.old.base depth self.old.left self.new.left room.old room.new (O.log self.old.store) (O.log self.new.store) (outcome result self.new.value self.new.leave) }
+        ensures kept { Keeps self.old.context.script.now self.old.context.program.now (λ S. fits S value.now) self.old.base room.old room.new }
+        ensures came { Carries self.old.context.script.now self.old.context.program.now self.old.context.steps (me_of self.old.context.me) (λ S. fits S value.now) (λ S k sc d n. On (Eval (erase value.now)) (Then (RightOf (Int m) op at) ∷ k) sc d n) self.old.base depth self.old.left self.new.left room.old room.new (O.log self.old.store) (O.log self.new.store) (O.private self.old.store) (O.private self.new.store) (outcome result self.new.value self.new.leave) }
     {
         let came = self.evaluate_call(value, depth, room);
         if is_left(came) {
@@ -180,8 +181,8 @@ impl<'p, O: OneStore + Drop> Walker<'p, O> {
         ensures room { length room.new ≡ length room.old }
         ensures less { self.new.left ≤ self.old.left }
         ensures unended { has_end (O.log self.new.store).entries ≡ false }
-        ensures kept { Keeps self.old.context.script.now self.old.context.names.now (λ S. fits S value.now) self.old.base room.old room.new }
-        ensures came { Carries self.old.context.script.now self.old.context.names.now self.old.context.steps (λ S. fits S value.now) (λ S k sc d n. On (Eval (erase value.now)) (Then (RightOf (value_of current self.old.value) op at) ∷ k) sc d n) self.old.base depth self.old.left self.new.left room.old room.new (O.log self.old.store) (O.log self.new.store) (outcome result self.new.value self.new.leave) }
+        ensures kept { Keeps self.old.context.script.now self.old.context.program.now (λ S. fits S value.now) self.old.base room.old room.new }
+        ensures came { Carries self.old.context.script.now self.old.context.program.now self.old.context.steps (me_of self.old.context.me) (λ S. fits S value.now) (λ S k sc d n. On (Eval (erase value.now)) (Then (RightOf (value_of current self.old.value) op at) ∷ k) sc d n) self.old.base depth self.old.left self.new.left room.old room.new (O.log self.old.store) (O.log self.new.store) (O.private self.old.store) (O.private self.new.store) (outcome result self.new.value self.new.leave) }
     {
         let method = method_of(op);
         let receiver = self.take(current);
@@ -202,7 +203,7 @@ impl<'p, O: OneStore + Drop> Walker<'p, O> {
         came: Came,
         at: Span,
     ) -> Came
-        ensures gives { (name : List ℕ) → builtin_of name ≡ method → OrMemory (outcome_of (deed self.old.context.names.now (Int m) name (value_of came self.old.value ∷ []) None) at) (outcome result self.new.value self.new.leave) }
+        ensures gives { (name : List ℕ) → builtin_of name ≡ method → OrMemory (outcome_of (deed self.old.context.program.now (Int m) name (value_of came self.old.value ∷ []) None) at) (outcome result self.new.value self.new.leave) }
         ensures base { self.new.base ≡ self.old.base }
         ensures left { self.new.left ≡ self.old.left }
         ensures context { self.new.context ≡ self.old.context }
@@ -226,7 +227,7 @@ impl<'p, O: OneStore + Drop> Walker<'p, O> {
         came: Came,
         at: Span,
     ) -> Came
-        ensures gives { (name : List ℕ) → builtin_of name ≡ method → OrMemory (outcome_of (deed self.old.context.names.now (Int m) name (value_of came self.old.value ∷ []) None) at) (outcome result self.new.value self.new.leave) }
+        ensures gives { (name : List ℕ) → builtin_of name ≡ method → OrMemory (outcome_of (deed self.old.context.program.now (Int m) name (value_of came self.old.value ∷ []) None) at) (outcome result self.new.value self.new.leave) }
         ensures base { self.new.base ≡ self.old.base }
         ensures left { self.new.left ≡ self.old.left }
         ensures context { self.new.context ≡ self.old.context }
@@ -245,7 +246,7 @@ impl<'p, O: OneStore + Drop> Walker<'p, O> {
         arg: Value,
         at: Span,
     ) -> Came
-        ensures gives { (name : List ℕ) → builtin_of name ≡ method → OrMemory (outcome_of (deed self.old.context.names.now (plain receiver.now) name (plain arg ∷ []) None) at) (outcome result self.new.value self.new.leave) }
+        ensures gives { (name : List ℕ) → builtin_of name ≡ method → OrMemory (outcome_of (deed self.old.context.program.now (plain receiver.now) name (plain arg ∷ []) None) at) (outcome result self.new.value self.new.leave) }
         ensures base { self.new.base ≡ self.old.base }
         ensures left { self.new.left ≡ self.old.left }
         ensures context { self.new.context ≡ self.old.context }
@@ -277,8 +278,8 @@ impl<'p, O: OneStore + Drop> Walker<'p, O> {
         ensures room { length room.new ≡ length room.old }
         ensures less { self.new.left ≤ self.old.left }
         ensures unended { has_end (O.log self.new.store).entries ≡ false }
-        ensures kept { (op : Op) (value : Tree) → Keeps self.old.context.script.now self.old.context.names.now (both (λ S. fits S receiver.now) (λ S. fits S index.now)) self.old.base room.old room.new }
-        ensures came { (op : Op) (value : Tree) → Carries self.old.context.script.now self.old.context.names.now self.old.context.steps (both (λ S. fits S receiver.now) (λ S. fits S index.now)) (λ S k sc d n. On (Eval (erase receiver.now)) (Then (IndexedBy (erase index.now) op value at) ∷ k) sc d n) self.old.base depth self.old.left self.new.left room.old room.new (O.log self.old.store) (O.log self.new.store) (outcome result self.new.value self.new.leave) }
+        ensures kept { (op : Op) (value : Tree) → Keeps self.old.context.script.now self.old.context.program.now (both (λ S. fits S receiver.now) (λ S. fits S index.now)) self.old.base room.old room.new }
+        ensures came { (op : Op) (value : Tree) → Carries self.old.context.script.now self.old.context.program.now self.old.context.steps (me_of self.old.context.me) (both (λ S. fits S receiver.now) (λ S. fits S index.now)) (λ S k sc d n. On (Eval (erase receiver.now)) (Then (IndexedBy (erase index.now) op value at) ∷ k) sc d n) self.old.base depth self.old.left self.new.left room.old room.new (O.log self.old.store) (O.log self.new.store) (O.private self.old.store) (O.private self.new.store) (outcome result self.new.value self.new.leave) }
     {
         let came = self.walk(receiver, depth, room);
         if is_left(came) {
@@ -291,11 +292,13 @@ impl<'p, O: OneStore + Drop> Walker<'p, O> {
         self.raise(Fault::NoMethod, at)
     }
 
-    /// An assignment with an operator to an attribute. No value that there is yet has an attribute that is written.
+    /// An assignment with an operator to an attribute.
     #[cycle(walk)]
     pub(super) fn update_attribute(
         &mut self,
         number: Option<Builtin>,
+        writer: Option<NameId>,
+        name: NameId,
         receiver: &'p Code,
         op: AssignOp,
         value: &'p Code,
@@ -310,26 +313,28 @@ impl<'p, O: OneStore + Drop> Walker<'p, O> {
         ensures room { length room.new ≡ length room.old }
         ensures less { self.new.left ≤ self.old.left }
         ensures unended { has_end (O.log self.new.store).entries ≡ false }
-        ensures kept { (name : NameId) → Keeps self.old.context.script.now self.old.context.names.now (numbered number name (unwritten name (both (λ S. fits S receiver.now) (λ S. fits S value.now)))) self.old.base room.old room.new }
-        ensures came { (name : NameId) → Carries self.old.context.script.now self.old.context.names.now self.old.context.steps (numbered number name (unwritten name (both (λ S. fits S receiver.now) (λ S. fits S value.now)))) (λ S k sc d n. On (Eval (erase receiver.now)) (Then (MemberOf (text_of S name) op (erase value.now) at) ∷ k) sc d n) self.old.base depth self.old.left self.new.left room.old room.new (O.log self.old.store) (O.log self.new.store) (outcome result self.new.value self.new.leave) }
+        ensures kept { Keeps self.old.context.script.now self.old.context.program.now (attribute number writer name (both (λ S. fits S receiver.now) (λ S. fits S value.now))) self.old.base room.old room.new }
+        ensures came { Carries self.old.context.script.now self.old.context.program.now self.old.context.steps (me_of self.old.context.me) (attribute number writer name (both (λ S. fits S receiver.now) (λ S. fits S value.now))) (λ S k sc d n. On (Eval (erase receiver.now)) (Then (MemberOf (text_of S name) op (erase value.now) at) ∷ k) sc d n) self.old.base depth self.old.left self.new.left room.old room.new (O.log self.old.store) (O.log self.new.store) (O.private self.old.store) (O.private self.new.store) (outcome result self.new.value self.new.leave) }
     {
         let came = self.walk(receiver, depth, room);
         if is_left(came) {
             return came;
         }
         let receiver = self.take(came);
-        let current = self.call_method(&receiver, number, &[], at);
+        let current = self.invoke(&receiver, number, name, 0, at, depth, room);
         if is_left(current) {
             return current;
         }
-        self.refuse_attribute(current, op, value, at, depth, room)
+        self.update_member(current, &receiver, writer, op, value, at, depth, room)
     }
 
-    /// What is behind the reading of an attribute that no method writes: the value to be written is still evaluated, where there is one.
+    /// What is behind the reading of an attribute.
     #[cycle(walk)]
-    pub(super) fn refuse_attribute(
+    pub(super) fn update_member(
         &mut self,
         current: Came,
+        receiver: &Value,
+        writer: Option<NameId>,
         op: AssignOp,
         value: &'p Code,
         at: Span,
@@ -344,36 +349,38 @@ impl<'p, O: OneStore + Drop> Walker<'p, O> {
         ensures room { length room.new ≡ length room.old }
         ensures less { self.new.left ≤ self.old.left }
         ensures unended { has_end (O.log self.new.store).entries ≡ false }
-        ensures kept { Keeps self.old.context.script.now self.old.context.names.now (λ S. fits S value.now) self.old.base room.old room.new }
-        ensures came { (receiver : Val) (name : NameId) → Carries self.old.context.script.now self.old.context.names.now self.old.context.steps (unwritten name (λ S. fits S value.now)) (λ S k sc d n. On (Give (value_of current self.old.value)) (Then (ReadOf (OfAttribute receiver (text_of S name)) op (erase value.now) at) ∷ k) sc d n) self.old.base depth self.old.left self.new.left room.old room.new (O.log self.old.store) (O.log self.new.store) (outcome result self.new.value self.new.leave) }
+        ensures kept { Keeps self.old.context.script.now self.old.context.program.now (λ S. fits S value.now) self.old.base room.old room.new }
+        ensures came { (name : NameId) → Carries self.old.context.script.now self.old.context.program.now self.old.context.steps (me_of self.old.context.me) (written_by writer name (λ S. fits S value.now)) (λ S k sc d n. On (Give (value_of current self.old.value)) (Then (ReadOf (OfAttribute (plain receiver.now) (text_of S name)) op (erase value.now) at) ∷ k) sc d n) self.old.base depth self.old.left self.new.left room.old room.new (O.log self.old.store) (O.log self.new.store) (O.private self.old.store) (O.private self.new.store) (outcome result self.new.value self.new.leave) }
     {
         match op {
             AssignOp::OrElse => {
                 if self.is_true_now(current) {
                     return current;
                 }
-                self.refuse_value(value, at, depth, room)
+                self.set_member(receiver, writer, value, at, depth, room)
             }
             AssignOp::AndThen => {
                 if !self.is_true_now(current) {
                     return current;
                 }
-                self.refuse_value(value, at, depth, room)
+                self.set_member(receiver, writer, value, at, depth, room)
             }
             _ => {
                 let made = self.combine(current, op, value, at, depth, room);
                 if is_left(made) {
                     return made;
                 }
-                self.raise(Fault::NoMethod, at)
+                self.write_member(made, receiver, writer, at, depth, room)
             }
         }
     }
 
-    /// A value that is to be written where nothing can be.
+    /// An assignment to an attribute whose receiver is evaluated.
     #[cycle(walk)]
-    pub(super) fn refuse_value(
+    pub(super) fn set_member(
         &mut self,
+        receiver: &Value,
+        writer: Option<NameId>,
         value: &'p Code,
         at: Span,
         depth: u32,
@@ -386,13 +393,49 @@ impl<'p, O: OneStore + Drop> Walker<'p, O> {
         ensures room { length room.new ≡ length room.old }
         ensures less { self.new.left ≤ self.old.left }
         ensures unended { has_end (O.log self.new.store).entries ≡ false }
-        ensures kept { Keeps self.old.context.script.now self.old.context.names.now (λ S. fits S value.now) self.old.base room.old room.new }
-        ensures came { (receiver : Val) (name : NameId) → Carries self.old.context.script.now self.old.context.names.now self.old.context.steps (unwritten name (λ S. fits S value.now)) (λ S k sc d n. On (Eval (erase value.now)) (Then (WriteTo (OfAttribute receiver (text_of S name)) at) ∷ k) sc d n) self.old.base depth self.old.left self.new.left room.old room.new (O.log self.old.store) (O.log self.new.store) (outcome result self.new.value self.new.leave) }
+        ensures kept { Keeps self.old.context.script.now self.old.context.program.now (λ S. fits S value.now) self.old.base room.old room.new }
+        ensures came { (name : NameId) → Carries self.old.context.script.now self.old.context.program.now self.old.context.steps (me_of self.old.context.me) (written_by writer name (λ S. fits S value.now)) (λ S k sc d n. On (Eval (erase value.now)) (Then (WriteTo (OfAttribute (plain receiver.now) (text_of S name)) at) ∷ k) sc d n) self.old.base depth self.old.left self.new.left room.old room.new (O.log self.old.store) (O.log self.new.store) (O.private self.old.store) (O.private self.new.store) (outcome result self.new.value self.new.leave) }
     {
         let came = self.walk(value, depth, room);
         if is_left(came) {
             return came;
         }
-        self.raise(Fault::NoMethod, at)
+        self.write_member(came, receiver, writer, at, depth, room)
+    }
+
+    /// Writes the value that came to an attribute by the method of the script that does it, and gives it on.
+    #[cycle(walk)]
+    pub(super) fn write_member(
+        &mut self,
+        came: Came,
+        receiver: &Value,
+        writer: Option<NameId>,
+        at: Span,
+        depth: u32,
+        room: &mut [Value],
+    ) -> Came
+        requires unended { has_end (O.log self.old.store).entries ≡ false }
+        requires steps { self.old.left ≤ self.old.context.steps }
+        requires came { is_left came ≡ false }
+        ensures base { self.new.base ≡ self.old.base }
+        ensures context { self.new.context ≡ self.old.context }
+        ensures room { length room.new ≡ length room.old }
+        ensures less { self.new.left ≤ self.old.left }
+        ensures unended { has_end (O.log self.new.store).entries ≡ false }
+        ensures kept { (i : ℕ) → i < self.old.base → slice_get room.new i ≡ slice_get room.old i }
+        ensures came { Writing self.old.context.script.now self.old.context.program.now self.old.context.steps (me_of self.old.context.me) (plain receiver.now) writer (value_of came self.old.value) at self.old.base depth self.old.left self.new.left room.old room.new (O.log self.old.store) (O.log self.new.store) (O.private self.old.store) (O.private self.new.store) (outcome result self.new.value self.new.leave) }
+    {
+        let Some(target) = writer_of(self.context.script, receiver, writer) else {
+            return self.raise(Fault::NoMethod, at);
+        };
+        let value = self.take(came);
+        let Ok(copy) = value.share() else {
+            return self.over(Cut::Memory);
+        };
+        let came = self.enter_with(target, copy, at, depth, room);
+        if is_left(came) {
+            return came;
+        }
+        self.give(value)
     }
 }

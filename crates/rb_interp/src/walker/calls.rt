@@ -1,7 +1,6 @@
 // Calls: their arguments, methods of receivers and of the script, blocks and prints.
 
-ghost use Rattle.std.specs.Prelude.{◌≡◌, ◌≤◌, ◌<◌, ◌+◌, ◌+ℤ◌, pos, ℕ, false, List, [], ◌∷◌, length, map, Some, None, IfOk, IfErr};
-ghost use Rattle.rb_tree.specs.declared.span.NameId.{NameId};
+ghost use Rattle.std.specs.Prelude.{◌≡◌, ◌≤◌, ◌<◌, ◌+◌, ◌+ℤ◌, pos, ℕ, false, List, [], ◌∷◌, length, map, slice_get, Some, None, IfOk, IfErr};
 ghost use Rattle.rb_model.specs.Values.{Nil, Int, plain};
 ghost use Rattle.rb_model.specs.Log.{has_end};
 ghost use Rattle.rb_machine.specs.Scopes.{text_of};
@@ -12,27 +11,31 @@ ghost use Rattle.rb_builtin.specs.Names.{builtin_of};
 ghost use Rattle.rb_code.specs.Erase.{erase, erase_block, erase_piece};
 ghost use Rattle.rb_code.specs.Resolved.{fits, block_fits, piece_fits, every};
 ghost use Rattle.rb_interp.specs.Outcome.{is_left, value_of, outcome};
-ghost use Rattle.rb_interp.specs.Carries.{Carries, Keeps, Passes, both, numbered, unanswered, called, printing};
+ghost use Rattle.rb_interp.specs.Carries.{Carries, Keeps, Passes, both, numbered, unanswered, called, printing, me_of};
+ghost use Rattle.rb_interp.specs.Methods.{HasNone, EntersWith, StoresWith};
 ghost use Rattle.rb_interp.specs.Answers.{Passed, Settles};
 
 use super::Walker;
+use crate::asked::style_by;
 use crate::bytes::{add_bytes, add_value};
 use crate::came::{Came, Cut, is_left};
 use crate::leaf::written;
 use crate::rounds::{Rounds, count_of, rounds_of};
-use crate::slots::{clear, passed, put, start_block};
+use crate::slots::{last_of, passed, put, start_block};
+use crate::target::{Target, target_of};
 use rb_builtin::{Builtin, Deed, deed_of};
 use rb_code::{Code, CodeBlock, CodePiece};
-use rb_model::{Fault, OneStore, SharedText, Value};
+use rb_model::{Fault, SharedText, ThreadStore, Value};
 use rb_render::{Form, MAX_BYTES};
-use rb_tree::Span;
+use rb_tree::{NameId, Span};
 
-impl<'p, O: OneStore + Drop> Walker<'p, O> {
+impl<'p, O: ThreadStore + Drop> Walker<'p, O> {
     /// A call with one argument: the receiver first.
     #[cycle(walk)]
     pub(super) fn operate(
         &mut self,
         method: Option<Builtin>,
+        name: NameId,
         left: &'p Code,
         right: &'p Code,
         at: Span,
@@ -46,8 +49,8 @@ impl<'p, O: OneStore + Drop> Walker<'p, O> {
         ensures room { length room.new ≡ length room.old }
         ensures less { self.new.left ≤ self.old.left }
         ensures unended { has_end (O.log self.new.store).entries ≡ false }
-        ensures kept { (name : NameId) → Keeps self.old.context.script.now self.old.context.names.now (numbered method name (both (λ S. fits S left.now) (λ S. fits S right.now))) self.old.base room.old room.new }
-        ensures came { (name : NameId) → Carries self.old.context.script.now self.old.context.names.now self.old.context.steps (numbered method name (both (λ S. fits S left.now) (λ S. fits S right.now))) (λ S k sc d n. On (Eval (erase left.now)) (Then (ReceiverOf (text_of S name) (erase right.now ∷ []) None at) ∷ k) sc d n) self.old.base depth self.old.left self.new.left room.old room.new (O.log self.old.store) (O.log self.new.store) (outcome result self.new.value self.new.leave) }
+        ensures kept { Keeps self.old.context.script.now self.old.context.program.now (numbered method name (both (λ S. fits S left.now) (λ S. fits S right.now))) self.old.base room.old room.new }
+        ensures came { Carries self.old.context.script.now self.old.context.program.now self.old.context.steps (me_of self.old.context.me) (numbered method name (both (λ S. fits S left.now) (λ S. fits S right.now))) (λ S k sc d n. On (Eval (erase left.now)) (Then (ReceiverOf (text_of S name) (erase right.now ∷ []) None at) ∷ k) sc d n) self.old.base depth self.old.left self.new.left room.old room.new (O.log self.old.store) (O.log self.new.store) (O.private self.old.store) (O.private self.new.store) (outcome result self.new.value self.new.leave) }
     {
         let came = self.evaluate_call(left, depth, room);
         if is_left(came) {
@@ -55,7 +58,7 @@ impl<'p, O: OneStore + Drop> Walker<'p, O> {
         }
         match came {
             Came::Int(m) => self.operate_integer(m, method, right, at, depth, room),
-            _ => self.operate_value(came, method, right, at, depth, room),
+            _ => self.operate_value(came, method, name, right, at, depth, room),
         }
     }
 
@@ -78,8 +81,8 @@ impl<'p, O: OneStore + Drop> Walker<'p, O> {
         ensures room { length room.new ≡ length room.old }
         ensures less { self.new.left ≤ self.old.left }
         ensures unended { has_end (O.log self.new.store).entries ≡ false }
-        ensures kept { (name : NameId) → Keeps self.old.context.script.now self.old.context.names.now (numbered method name (λ S. fits S right.now)) self.old.base room.old room.new }
-        ensures came { (name : NameId) → Carries self.old.context.script.now self.old.context.names.now self.old.context.steps (numbered method name (λ S. fits S right.now)) (λ S k sc d n. On (Eval (erase right.now)) (Then (Argument (OnReceiver (Int m) (text_of S name) None) [] [] at) ∷ k) sc d n) self.old.base depth self.old.left self.new.left room.old room.new (O.log self.old.store) (O.log self.new.store) (outcome result self.new.value self.new.leave) }
+        ensures kept { (name : NameId) → Keeps self.old.context.script.now self.old.context.program.now (numbered method name (λ S. fits S right.now)) self.old.base room.old room.new }
+        ensures came { (name : NameId) → Carries self.old.context.script.now self.old.context.program.now self.old.context.steps (me_of self.old.context.me) (numbered method name (λ S. fits S right.now)) (λ S k sc d n. On (Eval (erase right.now)) (Then (Argument (OnReceiver (Int m) (text_of S name) None) [] [] at) ∷ k) sc d n) self.old.base depth self.old.left self.new.left room.old room.new (O.log self.old.store) (O.log self.new.store) (O.private self.old.store) (O.private self.new.store) (outcome result self.new.value self.new.leave) }
     {
         let came = self.evaluate(right, depth, room);
         if is_left(came) {
@@ -95,6 +98,7 @@ impl<'p, O: OneStore + Drop> Walker<'p, O> {
         &mut self,
         came: Came,
         method: Option<Builtin>,
+        name: NameId,
         right: &'p Code,
         at: Span,
         depth: u32,
@@ -108,8 +112,8 @@ impl<'p, O: OneStore + Drop> Walker<'p, O> {
         ensures room { length room.new ≡ length room.old }
         ensures less { self.new.left ≤ self.old.left }
         ensures unended { has_end (O.log self.new.store).entries ≡ false }
-        ensures kept { (name : NameId) → Keeps self.old.context.script.now self.old.context.names.now (numbered method name (λ S. fits S right.now)) self.old.base room.old room.new }
-        ensures came { (name : NameId) → Carries self.old.context.script.now self.old.context.names.now self.old.context.steps (numbered method name (λ S. fits S right.now)) (λ S k sc d n. On (Eval (erase right.now)) (Then (Argument (OnReceiver (value_of came self.old.value) (text_of S name) None) [] [] at) ∷ k) sc d n) self.old.base depth self.old.left self.new.left room.old room.new (O.log self.old.store) (O.log self.new.store) (outcome result self.new.value self.new.leave) }
+        ensures kept { Keeps self.old.context.script.now self.old.context.program.now (numbered method name (λ S. fits S right.now)) self.old.base room.old room.new }
+        ensures came { Carries self.old.context.script.now self.old.context.program.now self.old.context.steps (me_of self.old.context.me) (numbered method name (λ S. fits S right.now)) (λ S k sc d n. On (Eval (erase right.now)) (Then (Argument (OnReceiver (value_of came self.old.value) (text_of S name) None) [] [] at) ∷ k) sc d n) self.old.base depth self.old.left self.new.left room.old room.new (O.log self.old.store) (O.log self.new.store) (O.private self.old.store) (O.private self.new.store) (outcome result self.new.value self.new.leave) }
     {
         let receiver = self.take(came);
         let came = self.walk(right, depth, room);
@@ -117,7 +121,10 @@ impl<'p, O: OneStore + Drop> Walker<'p, O> {
             return came;
         }
         let arg = self.take(came);
-        self.operated(method, &receiver, arg, at)
+        match target_of(self.context.script, &receiver, name) {
+            Some(target) => self.enter_with(target, arg, at, depth, room),
+            None => self.operated(method, &receiver, arg, at),
+        }
     }
 
     /// A call with a receiver, without a block.
@@ -126,6 +133,7 @@ impl<'p, O: OneStore + Drop> Walker<'p, O> {
     pub(super) fn send(
         &mut self,
         method: Option<Builtin>,
+        name: NameId,
         receiver: &'p Code,
         args: &'p [Code],
         at: Span,
@@ -139,8 +147,8 @@ impl<'p, O: OneStore + Drop> Walker<'p, O> {
         ensures room { length room.new ≡ length room.old }
         ensures less { self.new.left ≤ self.old.left }
         ensures unended { has_end (O.log self.new.store).entries ≡ false }
-        ensures kept { (name : NameId) → Keeps self.old.context.script.now self.old.context.names.now (numbered method name (both (λ S. fits S receiver.now) (λ S. every (map (fits S) args.now)))) self.old.base room.old room.new }
-        ensures came { (name : NameId) → Carries self.old.context.script.now self.old.context.names.now self.old.context.steps (numbered method name (both (λ S. fits S receiver.now) (λ S. every (map (fits S) args.now)))) (λ S k sc d n. On (Eval (erase receiver.now)) (Then (ReceiverOf (text_of S name) (map erase args.now) None at) ∷ k) sc d n) self.old.base depth self.old.left self.new.left room.old room.new (O.log self.old.store) (O.log self.new.store) (outcome result self.new.value self.new.leave) }
+        ensures kept { Keeps self.old.context.script.now self.old.context.program.now (numbered method name (both (λ S. fits S receiver.now) (λ S. every (map (fits S) args.now)))) self.old.base room.old room.new }
+        ensures came { Carries self.old.context.script.now self.old.context.program.now self.old.context.steps (me_of self.old.context.me) (numbered method name (both (λ S. fits S receiver.now) (λ S. every (map (fits S) args.now)))) (λ S k sc d n. On (Eval (erase receiver.now)) (Then (ReceiverOf (text_of S name) (map erase args.now) None at) ∷ k) sc d n) self.old.base depth self.old.left self.new.left room.old room.new (O.log self.old.store) (O.log self.new.store) (O.private self.old.store) (O.private self.new.store) (outcome result self.new.value self.new.leave) }
     {
         let came = self.walk(receiver, depth, room);
         if is_left(came) {
@@ -153,14 +161,15 @@ impl<'p, O: OneStore + Drop> Walker<'p, O> {
         if is_left(came) {
             return came;
         }
-        self.call_method(&receiver, method, passed(room, before, args.len()), at)
+        self.invoke(&receiver, method, name, args.len(), at, depth, room)
     }
 
-    /// An assignment by the call of a method: no value that there is yet has such a method.
+    /// An assignment by the call of a method of the script: no built-in one has such a name.
     #[cycle(walk)]
     pub(super) fn store_by(
         &mut self,
         receiver: &'p Code,
+        name: NameId,
         args: &'p [Code],
         at: Span,
         depth: u32,
@@ -173,20 +182,54 @@ impl<'p, O: OneStore + Drop> Walker<'p, O> {
         ensures room { length room.new ≡ length room.old }
         ensures less { self.new.left ≤ self.old.left }
         ensures unended { has_end (O.log self.new.store).entries ≡ false }
-        ensures kept { (name : NameId) → Keeps self.old.context.script.now self.old.context.names.now (unanswered name (both (λ S. fits S receiver.now) (λ S. every (map (fits S) args.now)))) self.old.base room.old room.new }
-        ensures came { (name : NameId) → Carries self.old.context.script.now self.old.context.names.now self.old.context.steps (unanswered name (both (λ S. fits S receiver.now) (λ S. every (map (fits S) args.now)))) (λ S k sc d n. On (Eval (erase receiver.now)) (Then (ReceiverToStore (text_of S name) (map erase args.now) at) ∷ k) sc d n) self.old.base depth self.old.left self.new.left room.old room.new (O.log self.old.store) (O.log self.new.store) (outcome result self.new.value self.new.leave) }
+        ensures kept { Keeps self.old.context.script.now self.old.context.program.now (unanswered name (both (λ S. fits S receiver.now) (λ S. every (map (fits S) args.now)))) self.old.base room.old room.new }
+        ensures came { Carries self.old.context.script.now self.old.context.program.now self.old.context.steps (me_of self.old.context.me) (unanswered name (both (λ S. fits S receiver.now) (λ S. every (map (fits S) args.now)))) (λ S k sc d n. On (Eval (erase receiver.now)) (Then (ReceiverToStore (text_of S name) (map erase args.now) at) ∷ k) sc d n) self.old.base depth self.old.left self.new.left room.old room.new (O.log self.old.store) (O.log self.new.store) (O.private self.old.store) (O.private self.new.store) (outcome result self.new.value self.new.leave) }
     {
         let came = self.walk(receiver, depth, room);
         if is_left(came) {
             return came;
         }
+        let receiver = self.take(came);
         let before = self.base;
         let came = self.arguments(args, depth, room);
         self.base = before;
         if is_left(came) {
             return came;
         }
-        self.raise(Fault::NoMethod, at)
+        match target_of(self.context.script, &receiver, name) {
+            Some(target) => self.store_with(target, args.len(), at, depth, room),
+            None => self.raise(Fault::NoMethod, at),
+        }
+    }
+
+    /// An assignment by a method that was found, with arguments of which there are so many behind the frame. Its value is the last of them.
+    #[cycle(walk)]
+    pub(super) fn store_with(
+        &mut self,
+        target: Target<'p>,
+        count: usize,
+        at: Span,
+        depth: u32,
+        room: &mut [Value],
+    ) -> Came
+        requires unended { has_end (O.log self.old.store).entries ≡ false }
+        requires steps { self.old.left ≤ self.old.context.steps }
+        ensures base { self.new.base ≡ self.old.base }
+        ensures context { self.new.context ≡ self.old.context }
+        ensures room { length room.new ≡ length room.old }
+        ensures less { self.new.left ≤ self.old.left }
+        ensures unended { has_end (O.log self.new.store).entries ≡ false }
+        ensures kept { (i : ℕ) → i < self.old.base → slice_get room.new i ≡ slice_get room.old i }
+        ensures came { StoresWith self.old.context.script.now self.old.context.program.now self.old.context.steps (me_of self.old.context.me) (me_of (Some target.entry.object)) target.entry.method.now count at self.old.base depth self.old.left self.new.left room.old room.new (O.log self.old.store) (O.log self.new.store) (O.private self.old.store) (O.private self.new.store) (outcome result self.new.value self.new.leave) }
+    {
+        let Ok(last) = last_of(passed(room, self.base, count)) else {
+            return self.over(Cut::Memory);
+        };
+        let came = self.enter(target.method, Some(target.object), count, at, depth, room);
+        if is_left(came) {
+            return came;
+        }
+        self.give(last)
     }
 
     /// What the call of a method of a value with a block comes to before an iteration: those that it makes, or else what it gives.
@@ -198,8 +241,8 @@ impl<'p, O: OneStore + Drop> Walker<'p, O> {
         params: usize,
         at: Span,
     ) -> Result<Rounds, Came>
-        ensures rounds { IfOk result (λ r. (name : List ℕ) → builtin_of name ≡ method → deed self.old.context.names.now (plain receiver.now) name (map plain args.now) (Some params) ≡ Loops (Counting r.first (r.last +ℤ pos 1) (Int r.answer))) }
-        ensures gives { IfErr result (λ came. Settles self.old.context.names.now self.old.context.steps method (plain receiver.now) (map plain args.now) params at self.old.left (O.log self.old.store) (outcome came self.new.value self.new.leave)) }
+        ensures rounds { IfOk result (λ r. (name : List ℕ) → builtin_of name ≡ method → deed self.old.context.program.now (plain receiver.now) name (map plain args.now) (Some params) ≡ Loops (Counting r.first (r.last +ℤ pos 1) (Int r.answer))) }
+        ensures gives { IfErr result (λ came. Settles self.old.context.program.now self.old.context.steps method (plain receiver.now) (map plain args.now) params at self.old.left (O.log self.old.store) (outcome came self.new.value self.new.leave)) }
         ensures base { self.new.base ≡ self.old.base }
         ensures left { self.new.left ≡ self.old.left }
         ensures context { self.new.context ≡ self.old.context }
@@ -210,7 +253,7 @@ impl<'p, O: OneStore + Drop> Walker<'p, O> {
         };
         match deed_of(
             self.context.alloc,
-            self.context.names,
+            self.context.program,
             receiver,
             method,
             args,
@@ -231,6 +274,7 @@ impl<'p, O: OneStore + Drop> Walker<'p, O> {
     pub(super) fn send_block(
         &mut self,
         method: Option<Builtin>,
+        name: NameId,
         receiver: &'p Code,
         args: &'p [Code],
         block: &'p CodeBlock,
@@ -245,8 +289,8 @@ impl<'p, O: OneStore + Drop> Walker<'p, O> {
         ensures room { length room.new ≡ length room.old }
         ensures less { self.new.left ≤ self.old.left }
         ensures unended { has_end (O.log self.new.store).entries ≡ false }
-        ensures kept { (name : NameId) → Keeps self.old.context.script.now self.old.context.names.now (numbered method name (both (λ S. fits S receiver.now) (both (λ S. every (map (fits S) args.now)) (λ S. block_fits S block.now)))) self.old.base room.old room.new }
-        ensures came { (name : NameId) → Carries self.old.context.script.now self.old.context.names.now self.old.context.steps (numbered method name (both (λ S. fits S receiver.now) (both (λ S. every (map (fits S) args.now)) (λ S. block_fits S block.now)))) (λ S k sc d n. On (Eval (erase receiver.now)) (Then (ReceiverOf (text_of S name) (map erase args.now) (Some (erase_block block.now)) at) ∷ k) sc d n) self.old.base depth self.old.left self.new.left room.old room.new (O.log self.old.store) (O.log self.new.store) (outcome result self.new.value self.new.leave) }
+        ensures kept { Keeps self.old.context.script.now self.old.context.program.now (numbered method name (both (λ S. fits S receiver.now) (both (λ S. every (map (fits S) args.now)) (λ S. block_fits S block.now)))) self.old.base room.old room.new }
+        ensures came { Carries self.old.context.script.now self.old.context.program.now self.old.context.steps (me_of self.old.context.me) (numbered method name (both (λ S. fits S receiver.now) (both (λ S. every (map (fits S) args.now)) (λ S. block_fits S block.now)))) (λ S k sc d n. On (Eval (erase receiver.now)) (Then (ReceiverOf (text_of S name) (map erase args.now) (Some (erase_block block.now)) at) ∷ k) sc d n) self.old.base depth self.old.left self.new.left room.old room.new (O.log self.old.store) (O.log self.new.store) (O.private self.old.store) (O.private self.new.store) (outcome result self.new.value self.new.leave) }
     {
         let came = self.walk(receiver, depth, room);
         if is_left(came) {
@@ -258,6 +302,9 @@ impl<'p, O: OneStore + Drop> Walker<'p, O> {
         self.base = before;
         if is_left(came) {
             return came;
+        }
+        if let Some(_) = target_of(self.context.script, &receiver, name) {
+            return self.raise(Fault::NoMethod, at);
         }
         let args = passed(room, before, args.len());
         match self.rounds(&receiver, method, args, block.params.len(), at) {
@@ -284,8 +331,8 @@ impl<'p, O: OneStore + Drop> Walker<'p, O> {
         ensures room { length room.new ≡ length room.old }
         ensures less { self.new.left ≤ self.old.left }
         ensures unended { has_end (O.log self.new.store).entries ≡ false }
-        ensures kept { Keeps self.old.context.script.now self.old.context.names.now (λ S. block_fits S block.now) self.old.base room.old room.new }
-        ensures came { Carries self.old.context.script.now self.old.context.names.now self.old.context.steps (λ S. block_fits S block.now) (λ S k sc d n. On (Turning (Counting first (last +ℤ pos 1) (Int answer)) (erase_block block.now)) k sc d n) self.old.base depth self.old.left self.new.left room.old room.new (O.log self.old.store) (O.log self.new.store) (outcome result self.new.value self.new.leave) }
+        ensures kept { Keeps self.old.context.script.now self.old.context.program.now (λ S. block_fits S block.now) self.old.base room.old room.new }
+        ensures came { Carries self.old.context.script.now self.old.context.program.now self.old.context.steps (me_of self.old.context.me) (λ S. block_fits S block.now) (λ S k sc d n. On (Turning (Counting first (last +ℤ pos 1) (Int answer)) (erase_block block.now)) k sc d n) self.old.base depth self.old.left self.new.left room.old room.new (O.log self.old.store) (O.log self.new.store) (O.private self.old.store) (O.private self.new.store) (outcome result self.new.value self.new.leave) }
     {
         if first > last {
             return Came::Int(answer);
@@ -319,6 +366,42 @@ impl<'p, O: OneStore + Drop> Walker<'p, O> {
     pub(super) fn function(
         &mut self,
         number: u32,
+        name: NameId,
+        args: &'p [Code],
+        at: Span,
+        depth: u32,
+        room: &mut [Value],
+    ) -> Came
+        requires unended { has_end (O.log self.old.store).entries ≡ false }
+        requires steps { self.old.left ≤ self.old.context.steps }
+        requires alone { HasNone self.old.context.script.now (me_of self.old.context.me) name }
+        ensures base { self.new.base ≡ self.old.base }
+        ensures context { self.new.context ≡ self.old.context }
+        ensures room { length room.new ≡ length room.old }
+        ensures less { self.new.left ≤ self.old.left }
+        ensures unended { has_end (O.log self.new.store).entries ≡ false }
+        ensures kept { Keeps self.old.context.script.now self.old.context.program.now (called number name (λ S. every (map (fits S) args.now))) self.old.base room.old room.new }
+        ensures came { Carries self.old.context.script.now self.old.context.program.now self.old.context.steps (me_of self.old.context.me) (called number name (λ S. every (map (fits S) args.now))) (λ S k sc d n. On (Passing (ByName name) [] (map erase args.now) at) k sc d n) self.old.base depth self.old.left self.new.left room.old room.new (O.log self.old.store) (O.log self.new.store) (O.private self.old.store) (O.private self.new.store) (outcome result self.new.value self.new.leave) }
+    {
+        let script = self.context.script;
+        let Some(method) = script.functions.get(number as usize) else {
+            return self.over(Cut::Memory);
+        };
+        let before = self.base;
+        let came = self.arguments(args, depth, room);
+        self.base = before;
+        if is_left(came) {
+            return came;
+        }
+        self.enter(method, None, args.len(), at, depth, room)
+    }
+
+    /// A call by the name of a method that prints: one of the class of `self` goes before it.
+    #[cycle(walk)]
+    pub(super) fn begin_print(
+        &mut self,
+        form: Form,
+        name: NameId,
         args: &'p [Code],
         at: Span,
         depth: u32,
@@ -331,32 +414,13 @@ impl<'p, O: OneStore + Drop> Walker<'p, O> {
         ensures room { length room.new ≡ length room.old }
         ensures less { self.new.left ≤ self.old.left }
         ensures unended { has_end (O.log self.new.store).entries ≡ false }
-        ensures kept { (name : NameId) → Keeps self.old.context.script.now self.old.context.names.now (called number name (λ S. every (map (fits S) args.now))) self.old.base room.old room.new }
-        ensures came { (name : NameId) → Carries self.old.context.script.now self.old.context.names.now self.old.context.steps (called number name (λ S. every (map (fits S) args.now))) (λ S k sc d n. On (Passing (ByName name) [] (map erase args.now) at) k sc d n) self.old.base depth self.old.left self.new.left room.old room.new (O.log self.old.store) (O.log self.new.store) (outcome result self.new.value self.new.leave) }
+        ensures kept { Keeps self.old.context.script.now self.old.context.program.now (printing form name (length args.now) (λ S. every (map (fits S) args.now))) self.old.base room.old room.new }
+        ensures came { Carries self.old.context.script.now self.old.context.program.now self.old.context.steps (me_of self.old.context.me) (printing form name (length args.now) (λ S. every (map (fits S) args.now))) (λ S k sc d n. On (Passing (ByName name) [] (map erase args.now) at) k sc d n) self.old.base depth self.old.left self.new.left room.old room.new (O.log self.old.store) (O.log self.new.store) (O.private self.old.store) (O.private self.new.store) (outcome result self.new.value self.new.leave) }
     {
-        let script = self.context.script;
-        let Some(method) = script.functions.get(number as usize) else {
-            return self.over(Cut::Memory);
-        };
-        let before = self.base;
-        let size = method.size as usize;
-        if room.len() < before || room.len() - before < size {
-            return self.over(Cut::Memory);
+        match self.own_target(name) {
+            Some(target) => self.own(target, name, args, at, depth, room),
+            None => self.print(form, name, args, at, depth, room),
         }
-        let came = self.arguments(args, depth, room);
-        self.base = before;
-        if is_left(came) {
-            return came;
-        }
-        if args.len() != method.params.len() {
-            return self.raise(Fault::ArgumentCount, at);
-        }
-        let frame = room.split_at_mut(before).1;
-        clear(frame, args.len(), size);
-        self.base = size;
-        let came = self.body(method.body.as_slice(), depth, frame);
-        self.base = before;
-        self.out_of_call(came)
     }
 
     /// A call of `puts`, `print` or `p`.
@@ -364,6 +428,7 @@ impl<'p, O: OneStore + Drop> Walker<'p, O> {
     pub(super) fn print(
         &mut self,
         form: Form,
+        name: NameId,
         args: &'p [Code],
         at: Span,
         depth: u32,
@@ -371,19 +436,23 @@ impl<'p, O: OneStore + Drop> Walker<'p, O> {
     ) -> Came
         requires unended { has_end (O.log self.old.store).entries ≡ false }
         requires steps { self.old.left ≤ self.old.context.steps }
+        requires alone { HasNone self.old.context.script.now (me_of self.old.context.me) name }
         ensures base { self.new.base ≡ self.old.base }
         ensures context { self.new.context ≡ self.old.context }
         ensures room { length room.new ≡ length room.old }
         ensures less { self.new.left ≤ self.old.left }
         ensures unended { has_end (O.log self.new.store).entries ≡ false }
-        ensures kept { (name : NameId) → Keeps self.old.context.script.now self.old.context.names.now (printing form name (length args.now) (λ S. every (map (fits S) args.now))) self.old.base room.old room.new }
-        ensures came { (name : NameId) → Carries self.old.context.script.now self.old.context.names.now self.old.context.steps (printing form name (length args.now) (λ S. every (map (fits S) args.now))) (λ S k sc d n. On (Passing (ByName name) [] (map erase args.now) at) k sc d n) self.old.base depth self.old.left self.new.left room.old room.new (O.log self.old.store) (O.log self.new.store) (outcome result self.new.value self.new.leave) }
+        ensures kept { Keeps self.old.context.script.now self.old.context.program.now (printing form name (length args.now) (λ S. every (map (fits S) args.now))) self.old.base room.old room.new }
+        ensures came { Carries self.old.context.script.now self.old.context.program.now self.old.context.steps (me_of self.old.context.me) (printing form name (length args.now) (λ S. every (map (fits S) args.now))) (λ S k sc d n. On (Passing (ByName name) [] (map erase args.now) at) k sc d n) self.old.base depth self.old.left self.new.left room.old room.new (O.log self.old.store) (O.log self.new.store) (O.private self.old.store) (O.private self.new.store) (outcome result self.new.value self.new.leave) }
     {
         let before = self.base;
         let came = self.arguments(args, depth, room);
         self.base = before;
         if is_left(came) {
             return came;
+        }
+        if let Some(style) = style_by(form, passed(room, before, args.len())) {
+            return self.print_texts(style, args.len(), at, depth, room);
         }
         let shown = self.show(form, passed(room, before, args.len()), at);
         if is_left(shown) {
@@ -434,8 +503,8 @@ impl<'p, O: OneStore + Drop> Walker<'p, O> {
         ensures room { length room.new ≡ length room.old }
         ensures less { self.new.left ≤ self.old.left }
         ensures unended { has_end (O.log self.new.store).entries ≡ false }
-        ensures kept { Keeps self.old.context.script.now self.old.context.names.now (λ S. every (map (fits S) args.now)) self.old.base room.old room.new }
-        ensures came { Passes self.old.context.script.now self.old.context.names.now self.old.context.steps args.now self.old.base depth self.old.left self.new.left room.old room.new (O.log self.old.store) (O.log self.new.store) result (outcome result self.new.value self.new.leave) }
+        ensures kept { Keeps self.old.context.script.now self.old.context.program.now (λ S. every (map (fits S) args.now)) self.old.base room.old room.new }
+        ensures came { Passes self.old.context.script.now self.old.context.program.now self.old.context.steps (me_of self.old.context.me) args.now self.old.base depth self.old.left self.new.left room.old room.new (O.log self.old.store) (O.log self.new.store) (O.private self.old.store) (O.private self.new.store) result (outcome result self.new.value self.new.leave) }
     {
         'each: for arg in args {
             let came = self.evaluate(arg, depth, room);
@@ -468,8 +537,8 @@ impl<'p, O: OneStore + Drop> Walker<'p, O> {
         ensures room { length room.new ≡ length room.old }
         ensures less { self.new.left ≤ self.old.left }
         ensures unended { has_end (O.log self.new.store).entries ≡ false }
-        ensures kept { Keeps self.old.context.script.now self.old.context.names.now (λ S. every (map (piece_fits S) pieces.now)) self.old.base room.old room.new }
-        ensures came { Carries self.old.context.script.now self.old.context.names.now self.old.context.steps (λ S. every (map (piece_fits S) pieces.now)) (λ S k sc d n. On (Joining [] (map erase_piece pieces.now) at) k sc d n) self.old.base depth self.old.left self.new.left room.old room.new (O.log self.old.store) (O.log self.new.store) (outcome result self.new.value self.new.leave) }
+        ensures kept { Keeps self.old.context.script.now self.old.context.program.now (λ S. every (map (piece_fits S) pieces.now)) self.old.base room.old room.new }
+        ensures came { Carries self.old.context.script.now self.old.context.program.now self.old.context.steps (me_of self.old.context.me) (λ S. every (map (piece_fits S) pieces.now)) (λ S k sc d n. On (Joining [] (map erase_piece pieces.now) at) k sc d n) self.old.base depth self.old.left self.new.left room.old room.new (O.log self.old.store) (O.log self.new.store) (O.private self.old.store) (O.private self.new.store) (outcome result self.new.value self.new.leave) }
     {
         match written(pieces) {
             Some(text) => self.share_text(text),
@@ -494,8 +563,8 @@ impl<'p, O: OneStore + Drop> Walker<'p, O> {
         ensures room { length room.new ≡ length room.old }
         ensures less { self.new.left ≤ self.old.left }
         ensures unended { has_end (O.log self.new.store).entries ≡ false }
-        ensures kept { Keeps self.old.context.script.now self.old.context.names.now (λ S. every (map (piece_fits S) pieces.now)) self.old.base room.old room.new }
-        ensures came { Carries self.old.context.script.now self.old.context.names.now self.old.context.steps (λ S. every (map (piece_fits S) pieces.now)) (λ S k sc d n. On (Joining [] (map erase_piece pieces.now) at) k sc d n) self.old.base depth self.old.left self.new.left room.old room.new (O.log self.old.store) (O.log self.new.store) (outcome result self.new.value self.new.leave) }
+        ensures kept { Keeps self.old.context.script.now self.old.context.program.now (λ S. every (map (piece_fits S) pieces.now)) self.old.base room.old room.new }
+        ensures came { Carries self.old.context.script.now self.old.context.program.now self.old.context.steps (me_of self.old.context.me) (λ S. every (map (piece_fits S) pieces.now)) (λ S k sc d n. On (Joining [] (map erase_piece pieces.now) at) k sc d n) self.old.base depth self.old.left self.new.left room.old room.new (O.log self.old.store) (O.log self.new.store) (O.private self.old.store) (O.private self.new.store) (outcome result self.new.value self.new.leave) }
     {
         let mut bytes = Vec::new(self.context.alloc);
         'pieces: for piece in pieces {
@@ -510,11 +579,15 @@ impl<'p, O: OneStore + Drop> Walker<'p, O> {
                     if is_left(came) {
                         return came;
                     }
-                    let value = self.take(came);
+                    let told = self.told(came, at, depth, room);
+                    if is_left(told) {
+                        return told;
+                    }
+                    let value = self.take(told);
                     if let Err(_) = add_value(
                         self.context.alloc,
                         &mut bytes,
-                        self.context.names,
+                        self.context.program,
                         value,
                     ) {
                         return self.over(Cut::Memory);

@@ -9,16 +9,16 @@ ghost use Rattle.rb_machine.specs.Begin.{begin_return};
 ghost use Rattle.rb_code.specs.Erase.{erase};
 ghost use Rattle.rb_code.specs.Resolved.{fits, every, if_some};
 ghost use Rattle.rb_interp.specs.Outcome.{is_left, outcome, Over};
-ghost use Rattle.rb_interp.specs.Carries.{Carries, Keeps, both, goes_on, loop_exit, call_exit};
+ghost use Rattle.rb_interp.specs.Carries.{Carries, Keeps, both, goes_on, loop_exit, call_exit, me_of};
 
 use super::Walker;
 use crate::came::{Came, Leave, is_left};
 use rb_code::Code;
-use rb_model::{OneStore, Value};
+use rb_model::{ThreadStore, Value};
 use rb_tree::Boxed;
 use std::mem;
 
-impl<'p, O: OneStore + Drop> Walker<'p, O> {
+impl<'p, O: ThreadStore + Drop> Walker<'p, O> {
     /// `first && second`
     #[cycle(walk)]
     pub(super) fn both(
@@ -35,8 +35,8 @@ impl<'p, O: OneStore + Drop> Walker<'p, O> {
         ensures room { length room.new ≡ length room.old }
         ensures less { self.new.left ≤ self.old.left }
         ensures unended { has_end (O.log self.new.store).entries ≡ false }
-        ensures kept { Keeps self.old.context.script.now self.old.context.names.now (both (λ S. fits S first.now) (λ S. fits S second.now)) self.old.base room.old room.new }
-        ensures came { Carries self.old.context.script.now self.old.context.names.now self.old.context.steps (both (λ S. fits S first.now) (λ S. fits S second.now)) (λ S k sc d n. On (Eval (erase first.now)) (Then (RightOfAnd (erase second.now)) ∷ k) sc d n) self.old.base depth self.old.left self.new.left room.old room.new (O.log self.old.store) (O.log self.new.store) (outcome result self.new.value self.new.leave) }
+        ensures kept { Keeps self.old.context.script.now self.old.context.program.now (both (λ S. fits S first.now) (λ S. fits S second.now)) self.old.base room.old room.new }
+        ensures came { Carries self.old.context.script.now self.old.context.program.now self.old.context.steps (me_of self.old.context.me) (both (λ S. fits S first.now) (λ S. fits S second.now)) (λ S k sc d n. On (Eval (erase first.now)) (Then (RightOfAnd (erase second.now)) ∷ k) sc d n) self.old.base depth self.old.left self.new.left room.old room.new (O.log self.old.store) (O.log self.new.store) (O.private self.old.store) (O.private self.new.store) (outcome result self.new.value self.new.leave) }
     {
         let came = self.evaluate_call(first, depth, room);
         if is_left(came) {
@@ -64,8 +64,8 @@ impl<'p, O: OneStore + Drop> Walker<'p, O> {
         ensures room { length room.new ≡ length room.old }
         ensures less { self.new.left ≤ self.old.left }
         ensures unended { has_end (O.log self.new.store).entries ≡ false }
-        ensures kept { Keeps self.old.context.script.now self.old.context.names.now (both (λ S. fits S first.now) (λ S. fits S second.now)) self.old.base room.old room.new }
-        ensures came { Carries self.old.context.script.now self.old.context.names.now self.old.context.steps (both (λ S. fits S first.now) (λ S. fits S second.now)) (λ S k sc d n. On (Eval (erase first.now)) (Then (RightOfOr (erase second.now)) ∷ k) sc d n) self.old.base depth self.old.left self.new.left room.old room.new (O.log self.old.store) (O.log self.new.store) (outcome result self.new.value self.new.leave) }
+        ensures kept { Keeps self.old.context.script.now self.old.context.program.now (both (λ S. fits S first.now) (λ S. fits S second.now)) self.old.base room.old room.new }
+        ensures came { Carries self.old.context.script.now self.old.context.program.now self.old.context.steps (me_of self.old.context.me) (both (λ S. fits S first.now) (λ S. fits S second.now)) (λ S k sc d n. On (Eval (erase first.now)) (Then (RightOfOr (erase second.now)) ∷ k) sc d n) self.old.base depth self.old.left self.new.left room.old room.new (O.log self.old.store) (O.log self.new.store) (O.private self.old.store) (O.private self.new.store) (outcome result self.new.value self.new.leave) }
     {
         let came = self.evaluate_call(first, depth, room);
         if is_left(came) {
@@ -87,8 +87,8 @@ impl<'p, O: OneStore + Drop> Walker<'p, O> {
         ensures room { length room.new ≡ length room.old }
         ensures less { self.new.left ≤ self.old.left }
         ensures unended { has_end (O.log self.new.store).entries ≡ false }
-        ensures kept { Keeps self.old.context.script.now self.old.context.names.now (λ S. fits S value.now) self.old.base room.old room.new }
-        ensures came { Carries self.old.context.script.now self.old.context.names.now self.old.context.steps (λ S. fits S value.now) (λ S k sc d n. On (Eval (erase value.now)) (Then Negate ∷ k) sc d n) self.old.base depth self.old.left self.new.left room.old room.new (O.log self.old.store) (O.log self.new.store) (outcome result self.new.value self.new.leave) }
+        ensures kept { Keeps self.old.context.script.now self.old.context.program.now (λ S. fits S value.now) self.old.base room.old room.new }
+        ensures came { Carries self.old.context.script.now self.old.context.program.now self.old.context.steps (me_of self.old.context.me) (λ S. fits S value.now) (λ S k sc d n. On (Eval (erase value.now)) (Then Negate ∷ k) sc d n) self.old.base depth self.old.left self.new.left room.old room.new (O.log self.old.store) (O.log self.new.store) (O.private self.old.store) (O.private self.new.store) (outcome result self.new.value self.new.leave) }
     {
         let came = self.evaluate_call(value, depth, room);
         if is_left(came) {
@@ -118,8 +118,8 @@ impl<'p, O: OneStore + Drop> Walker<'p, O> {
         ensures room { length room.new ≡ length room.old }
         ensures less { self.new.left ≤ self.old.left }
         ensures unended { has_end (O.log self.new.store).entries ≡ false }
-        ensures kept { Keeps self.old.context.script.now self.old.context.names.now (both (λ S. fits S condition.now) (both (λ S. every (map (fits S) first.now)) (λ S. every (map (fits S) second.now)))) self.old.base room.old room.new }
-        ensures came { Carries self.old.context.script.now self.old.context.names.now self.old.context.steps (both (λ S. fits S condition.now) (both (λ S. every (map (fits S) first.now)) (λ S. every (map (fits S) second.now)))) (λ S k sc d n. On (Eval (erase condition.now)) (Then (Choose (map erase first.now) (map erase second.now)) ∷ k) sc d n) self.old.base depth self.old.left self.new.left room.old room.new (O.log self.old.store) (O.log self.new.store) (outcome result self.new.value self.new.leave) }
+        ensures kept { Keeps self.old.context.script.now self.old.context.program.now (both (λ S. fits S condition.now) (both (λ S. every (map (fits S) first.now)) (λ S. every (map (fits S) second.now)))) self.old.base room.old room.new }
+        ensures came { Carries self.old.context.script.now self.old.context.program.now self.old.context.steps (me_of self.old.context.me) (both (λ S. fits S condition.now) (both (λ S. every (map (fits S) first.now)) (λ S. every (map (fits S) second.now)))) (λ S k sc d n. On (Eval (erase condition.now)) (Then (Choose (map erase first.now) (map erase second.now)) ∷ k) sc d n) self.old.base depth self.old.left self.new.left room.old room.new (O.log self.old.store) (O.log self.new.store) (O.private self.old.store) (O.private self.new.store) (outcome result self.new.value self.new.leave) }
     {
         let came = self.evaluate_call(condition, depth, room);
         if is_left(came) {
@@ -142,8 +142,8 @@ impl<'p, O: OneStore + Drop> Walker<'p, O> {
         ensures room { length room.new ≡ length room.old }
         ensures less { self.new.left ≤ self.old.left }
         ensures unended { has_end (O.log self.new.store).entries ≡ false }
-        ensures kept { Keeps self.old.context.script.now self.old.context.names.now (λ S. every (map (fits S) nodes.now)) self.old.base room.old room.new }
-        ensures came { Carries self.old.context.script.now self.old.context.names.now self.old.context.steps (λ S. every (map (fits S) nodes.now)) (λ S k sc d n. On (Following Nil (map erase nodes.now)) k sc d n) self.old.base depth self.old.left self.new.left room.old room.new (O.log self.old.store) (O.log self.new.store) (outcome result self.new.value self.new.leave) }
+        ensures kept { Keeps self.old.context.script.now self.old.context.program.now (λ S. every (map (fits S) nodes.now)) self.old.base room.old room.new }
+        ensures came { Carries self.old.context.script.now self.old.context.program.now self.old.context.steps (me_of self.old.context.me) (λ S. every (map (fits S) nodes.now)) (λ S k sc d n. On (Following Nil (map erase nodes.now)) k sc d n) self.old.base depth self.old.left self.new.left room.old room.new (O.log self.old.store) (O.log self.new.store) (O.private self.old.store) (O.private self.new.store) (outcome result self.new.value self.new.leave) }
     {
         let mut came = Came::Nil;
         'nodes: for node in nodes {
@@ -171,8 +171,8 @@ impl<'p, O: OneStore + Drop> Walker<'p, O> {
         ensures room { length room.new ≡ length room.old }
         ensures less { self.new.left ≤ self.old.left }
         ensures unended { has_end (O.log self.new.store).entries ≡ false }
-        ensures kept { Keeps self.old.context.script.now self.old.context.names.now (both (λ S. fits S condition.now) (λ S. every (map (fits S) body.now))) self.old.base room.old room.new }
-        ensures came { Carries self.old.context.script.now self.old.context.names.now self.old.context.steps (both (λ S. fits S condition.now) (λ S. every (map (fits S) body.now))) (λ S k sc d n. On (Looping (erase condition.now) (map erase body.now)) k sc d n) self.old.base depth self.old.left self.new.left room.old room.new (O.log self.old.store) (O.log self.new.store) (outcome result self.new.value self.new.leave) }
+        ensures kept { Keeps self.old.context.script.now self.old.context.program.now (both (λ S. fits S condition.now) (λ S. every (map (fits S) body.now))) self.old.base room.old room.new }
+        ensures came { Carries self.old.context.script.now self.old.context.program.now self.old.context.steps (me_of self.old.context.me) (both (λ S. fits S condition.now) (λ S. every (map (fits S) body.now))) (λ S k sc d n. On (Looping (erase condition.now) (map erase body.now)) k sc d n) self.old.base depth self.old.left self.new.left room.old room.new (O.log self.old.store) (O.log self.new.store) (O.private self.old.store) (O.private self.new.store) (outcome result self.new.value self.new.leave) }
     {
         'turns: loop {
             let came = self.evaluate_call(condition, depth, room);
@@ -207,8 +207,8 @@ impl<'p, O: OneStore + Drop> Walker<'p, O> {
         ensures room { length room.new ≡ length room.old }
         ensures less { self.new.left ≤ self.old.left }
         ensures unended { has_end (O.log self.new.store).entries ≡ false }
-        ensures kept { Keeps self.old.context.script.now self.old.context.names.now (λ S. if_some (option_map (fits S) value.now)) self.old.base room.old room.new }
-        ensures came { Carries self.old.context.script.now self.old.context.names.now self.old.context.steps (λ S. if_some (option_map (fits S) value.now)) (λ S k sc d n. begin_return S (option_map erase value.now) k sc d n) self.old.base depth self.old.left self.new.left room.old room.new (O.log self.old.store) (O.log self.new.store) (outcome result self.new.value self.new.leave) }
+        ensures kept { Keeps self.old.context.script.now self.old.context.program.now (λ S. if_some (option_map (fits S) value.now)) self.old.base room.old room.new }
+        ensures came { Carries self.old.context.script.now self.old.context.program.now self.old.context.steps (me_of self.old.context.me) (λ S. if_some (option_map (fits S) value.now)) (λ S k sc d n. begin_return S (option_map erase value.now) k sc d n) self.old.base depth self.old.left self.new.left room.old room.new (O.log self.old.store) (O.log self.new.store) (O.private self.old.store) (O.private self.new.store) (outcome result self.new.value self.new.leave) }
     {
         let Some(value) = value else {
             self.value = Value::Nil;
@@ -228,8 +228,8 @@ impl<'p, O: OneStore + Drop> Walker<'p, O> {
         ensures room { length room.new ≡ length room.old }
         ensures less { self.new.left ≤ self.old.left }
         ensures unended { has_end (O.log self.new.store).entries ≡ false }
-        ensures kept { Keeps self.old.context.script.now self.old.context.names.now (λ S. fits S value.now) self.old.base room.old room.new }
-        ensures came { Carries self.old.context.script.now self.old.context.names.now self.old.context.steps (λ S. fits S value.now) (λ S k sc d n. On (Eval (erase value.now)) (Then ReturnOf ∷ k) sc d n) self.old.base depth self.old.left self.new.left room.old room.new (O.log self.old.store) (O.log self.new.store) (outcome result self.new.value self.new.leave) }
+        ensures kept { Keeps self.old.context.script.now self.old.context.program.now (λ S. fits S value.now) self.old.base room.old room.new }
+        ensures came { Carries self.old.context.script.now self.old.context.program.now self.old.context.steps (me_of self.old.context.me) (λ S. fits S value.now) (λ S k sc d n. On (Eval (erase value.now)) (Then ReturnOf ∷ k) sc d n) self.old.base depth self.old.left self.new.left room.old room.new (O.log self.old.store) (O.log self.new.store) (O.private self.old.store) (O.private self.new.store) (outcome result self.new.value self.new.leave) }
     {
         let came = self.walk(value, depth, room);
         if is_left(came) {

@@ -7,24 +7,27 @@ ghost use Rattle.rb_model.specs.Ends.{Raised, Sink, over};
 ghost use Rattle.rb_model.specs.Log.{has_end};
 ghost use Rattle.rb_machine.specs.Control.{Give};
 ghost use Rattle.rb_machine.specs.Methods.{deed};
+ghost use Rattle.rb_machine.specs.Texts.{max_bytes};
 ghost use Rattle.rb_builtin.specs.Names.{builtin_of};
 ghost use Rattle.rb_builtin.specs.Integers as integers;
 ghost use Rattle.rb_code.specs.Resolved.{form_takes};
 ghost use Rattle.rb_interp.specs.Outcome.{end_by, is_left, value_of, outcome, Gave, Over};
-ghost use Rattle.rb_interp.specs.Carries.{Shows};
+ghost use Rattle.rb_interp.specs.Carries.{Shows, me_of};
 ghost use Rattle.rb_interp.specs.Answers.{OrMemory, Writes, outcome_of, shown_value, only_value};
+ghost use Rattle.rb_interp.specs.Texts.{ShowsBytes, is_text};
 
 use super::Walker;
+use crate::asked::is_text;
 use crate::came::{Came, Cut, Leave, end_by};
 use crate::leaf::{is_true, text_answer};
 use crate::slots::put;
 use rb_builtin::{Builtin, Deed, IntegerAnswer, deed_of};
-use rb_model::{Answer, Call, End, Fault, OneStore, SharedText, Value};
+use rb_model::{Answer, Call, End, Fault, SharedText, ThreadStore, Value};
 use rb_render::{Form, RenderFault, render};
 use rb_tree::Span;
 use std::mem;
 
-impl<'p, O: OneStore + Drop> Walker<'p, O> {
+impl<'p, O: ThreadStore + Drop> Walker<'p, O> {
     /// The value that came. It is taken out of the walker.
     pub(super) fn take(&mut self, came: Came) -> Value
         ensures value { plain result ≡ value_of came self.old.value }
@@ -51,6 +54,16 @@ impl<'p, O: OneStore + Drop> Walker<'p, O> {
             Came::Nil | Came::False | Came::Left => false,
             Came::True | Came::Int(_) => true,
             Came::Other => is_true(&self.value),
+        }
+    }
+
+    /// Whether the value that came is a string.
+    pub(super) fn is_text_now(&self, came: Came) -> bool
+        ensures { is_left came ≡ false → result ≡ is_text (value_of came self.now.value) }
+    {
+        match came {
+            Came::Nil | Came::False | Came::True | Came::Int(_) | Came::Left => false,
+            Came::Other => is_text(&self.value),
         }
     }
 
@@ -229,7 +242,7 @@ impl<'p, O: OneStore + Drop> Walker<'p, O> {
         args: &[Value],
         at: Span,
     ) -> Came
-        ensures gives { (name : List ℕ) → builtin_of name ≡ method → OrMemory (outcome_of (deed self.old.context.names.now (plain receiver.now) name (map plain args.now) None) at) (outcome result self.new.value self.new.leave) }
+        ensures gives { (name : List ℕ) → builtin_of name ≡ method → OrMemory (outcome_of (deed self.old.context.program.now (plain receiver.now) name (map plain args.now) None) at) (outcome result self.new.value self.new.leave) }
         ensures base { self.new.base ≡ self.old.base }
         ensures left { self.new.left ≡ self.old.left }
         ensures context { self.new.context ≡ self.old.context }
@@ -237,7 +250,7 @@ impl<'p, O: OneStore + Drop> Walker<'p, O> {
     {
         match deed_of(
             self.context.alloc,
-            self.context.names,
+            self.context.program,
             receiver,
             method,
             args,
@@ -259,7 +272,7 @@ impl<'p, O: OneStore + Drop> Walker<'p, O> {
         args: &[Value],
         at: Span,
     ) -> Came
-        ensures gives { (name : List ℕ) → builtin_of name ≡ method → OrMemory (outcome_of (deed self.old.context.names.now (plain receiver.now) name (map plain args.now) None) at) (outcome result self.new.value self.new.leave) }
+        ensures gives { (name : List ℕ) → builtin_of name ≡ method → OrMemory (outcome_of (deed self.old.context.program.now (plain receiver.now) name (map plain args.now) None) at) (outcome result self.new.value self.new.leave) }
         ensures base { self.new.base ≡ self.old.base }
         ensures left { self.new.left ≡ self.old.left }
         ensures context { self.new.context ≡ self.old.context }
@@ -279,13 +292,28 @@ impl<'p, O: OneStore + Drop> Walker<'p, O> {
         ensures left { self.new.left ≡ self.old.left }
         ensures context { self.new.context ≡ self.old.context }
         ensures unended { has_end (O.log self.new.store).entries ≡ false }
-        ensures came { Shows self.old.context.names.now self.old.context.steps form (map plain args.now) at self.old.left (O.log self.old.store) (O.log self.new.store) (outcome result self.new.value self.new.leave) }
+        ensures private { O.private self.new.store ≡ O.private self.old.store }
+        ensures came { Shows self.old.context.program.now self.old.context.steps form (map plain args.now) at self.old.left (O.log self.old.store) (O.log self.new.store) (outcome result self.new.value self.new.leave) }
     {
-        let bytes = match render(self.context.alloc, self.context.names, form, args) {
-            Ok(bytes) => bytes,
-            Err(RenderFault::TooLong) => return self.raise(Fault::TextTooLong, at),
-            Err(RenderFault::Memory) => return self.over(Cut::Memory),
-        };
+        match render(self.context.alloc, self.context.program, form, args) {
+            Ok(bytes) => self.show_bytes(bytes),
+            Err(RenderFault::TooLong) => self.raise(Fault::TextTooLong, at),
+            Err(RenderFault::Memory) => self.over(Cut::Memory),
+        }
+    }
+
+    /// Shows bytes, which are not too many, by one print, where there are any.
+    pub(super) fn show_bytes(&mut self, bytes: Vec<u8>) -> Came
+        requires unended { has_end (O.log self.old.store).entries ≡ false }
+        requires steps { self.old.left ≤ self.old.context.steps }
+        requires fits { length bytes.items ≤ max_bytes }
+        ensures base { self.new.base ≡ self.old.base }
+        ensures left { self.new.left ≡ self.old.left }
+        ensures context { self.new.context ≡ self.old.context }
+        ensures unended { has_end (O.log self.new.store).entries ≡ false }
+        ensures private { O.private self.new.store ≡ O.private self.old.store }
+        ensures came { ShowsBytes self.old.context.steps bytes.items self.old.left (O.log self.old.store) (O.log self.new.store) (outcome result self.new.value self.new.leave) }
+    {
         if bytes.is_empty() {
             return Came::Nil;
         }

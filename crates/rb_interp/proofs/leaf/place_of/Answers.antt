@@ -1,6 +1,6 @@
 use Rattle.std.proofs.Common.{sym, ap}
 use Rattle.rb_tree.specs.Place.{place}
-use Rattle.rb_code.proofs.Showing.{shows-nil, shows-false, shows-true, shows-int, shows-sym, shows-str, shows-local, shows-set_local, shows-update_local, shows-update_element, shows-update_attribute, shows-store, shows-operate, shows-send, shows-walk, shows-function, shows-print, shows-and, shows-or, shows-not, shows-if, shows-while, shows-return, shows-break, shows-next}
+use Rattle.rb_code.proofs.Showing.{shows-nil, shows-false, shows-true, shows-self_ref, shows-field, shows-set_field, shows-update_field, shows-new, shows-own, shows-int, shows-sym, shows-str, shows-local, shows-set_local, shows-update_local, shows-update_element, shows-update_attribute, shows-store, shows-operate, shows-send, shows-walk, shows-function, shows-print, shows-and, shows-or, shows-not, shows-if, shows-while, shows-return, shows-break, shows-next}
 use Rattle.rb_interp.proofs.leaf.place_of.Goals as goal
 
 pub returns-in-Nil : goal.returns-in-Nil
@@ -34,7 +34,7 @@ pub returns-in-UpdateElement : goal.returns-in-UpdateElement
 returns-in-UpdateElement c = sym (ap place (shows-update_element c.args.code.now _ _ _ _ _ c.in-UpdateElement.is))
 
 pub returns-in-UpdateAttribute : goal.returns-in-UpdateAttribute
-returns-in-UpdateAttribute c = sym (ap place (shows-update_attribute c.args.code.now _ _ _ _ _ _ c.in-UpdateAttribute.is))
+returns-in-UpdateAttribute c = sym (ap place (shows-update_attribute c.args.code.now _ _ _ _ _ _ _ c.in-UpdateAttribute.is))
 
 pub returns-in-Store : goal.returns-in-Store
 returns-in-Store c = sym (ap place (shows-store c.args.code.now _ _ _ _ c.in-Store.is))
@@ -77,3 +77,21 @@ returns-in-Break c = sym (ap place (shows-break c.args.code.now _ c.in-Break.is)
 
 pub returns-in-Next : goal.returns-in-Next
 returns-in-Next c = sym (ap place (shows-next c.args.code.now _ c.in-Next.is))
+
+pub returns-in-SelfRef : goal.returns-in-SelfRef
+returns-in-SelfRef c = sym (ap place (shows-self_ref c.args.code.now _ c.in-SelfRef.is))
+
+pub returns-in-Field : goal.returns-in-Field
+returns-in-Field c = sym (ap place (shows-field c.args.code.now _ _ c.in-Field.is))
+
+pub returns-in-SetField : goal.returns-in-SetField
+returns-in-SetField c = sym (ap place (shows-set_field c.args.code.now _ _ _ c.in-SetField.is))
+
+pub returns-in-UpdateField : goal.returns-in-UpdateField
+returns-in-UpdateField c = sym (ap place (shows-update_field c.args.code.now _ _ _ _ c.in-UpdateField.is))
+
+pub returns-in-New : goal.returns-in-New
+returns-in-New c = sym (ap place (shows-new c.args.code.now _ _ _ _ _ c.in-New.is))
+
+pub returns-in-Own : goal.returns-in-Own
+returns-in-Own c = sym (ap place (shows-own c.args.code.now _ _ _ c.in-Own.is))

@@ -1,11 +1,17 @@
-use Rattle.std.proofs.Common.{sym, subst, [], ◌∷◌}
+use Rattle.std.proofs.Common.{◌≡◌, ℕ, sym, subst, [], ◌∷◌}
 use Rattle.rb_model.specs.Values.{Nil}
-use Rattle.rb_model.specs.Private.{bare}
+use Rattle.rb_model.specs.Log.{Log, fresh}
+use Rattle.rb_model.specs.Private.{Private, bare}
+use Rattle.rb_machine.specs.Scopes.{Script}
 use Rattle.rb_machine.specs.Control.{Then, Instead}
 use Rattle.rb_machine.specs.Follows.{At, here}
 use Rattle.rb_machine.specs.Alone.{opening}
 use Rattle.rb_interp.proofs.Endings.{follows, refused_last, never_full}
 use Rattle.rb_interp.proofs.walker.run_main.Goals as goal
+
+-- the machine has begun, with a log and a private store in which there is nothing
+opened : (S : Script) (N : ℕ) (l : Log) (h : Private) → l ≡ fresh → h ≡ bare 0 → At S 0 N (opening S N) l h (opening S N)
+opened S N l h e f = subst (λ x. At S 0 N (opening S N) l x (opening S N)) (sym f) (subst (λ x. At S 0 N (opening S N) x (bare 0) (opening S N)) (sym e) here)
 
 pub returns : goal.returns
 returns g c =
@@ -14,24 +20,24 @@ returns g c =
           let top = c.top-came in
           let budget = c.args.context.steps in
           let start = opening S budget in
-          let begun = subst (λ l. At S 0 budget start l (bare 0) start) (sym c.requires.begun) here in
-          let came = top.ensures.came S start (bare 0) (Then (Instead Nil) ∷ []) st e begun in
+          let begun = opened S budget _ _ c.requires.begun c.requires.made in
+          let came = top.ensures.came S start (Then (Instead Nil) ∷ []) st e begun in
           let closes = rw (c.end_of.ensures top.new.self.value) at c.close.ensures in
-          follows S budget start (bare 0) _ _ _ _ _ 0 _ came closes;
+          follows S budget start _ _ _ _ _ _ 0 _ came closes;
       refused = λ S st e q.
           let top = c.top-came in
           let budget = c.args.context.steps in
           let start = opening S budget in
-          let begun = subst (λ l. At S 0 budget start l (bare 0) start) (sym c.requires.begun) here in
-          let came = top.ensures.came S start (bare 0) (Then (Instead Nil) ∷ []) st e begun in
+          let begun = opened S budget _ _ c.requires.begun c.requires.made in
+          let came = top.ensures.came S start (Then (Instead Nil) ∷ []) st e begun in
           let closes = rw (c.end_of.ensures top.new.self.value) at c.close.ensures in
-          refused_last S budget start (bare 0) _ _ _ _ (Then (Instead Nil) ∷ []) _ 0 _ _ came closes q;
+          refused_last S budget start _ _ _ _ _ (Then (Instead Nil) ∷ []) _ 0 _ _ came closes q;
       never_full = λ S st e used asked q.
           let top = c.top-came in
           let budget = c.args.context.steps in
           let start = opening S budget in
-          let begun = subst (λ l. At S 0 budget start l (bare 0) start) (sym c.requires.begun) here in
-          let came = top.ensures.came S start (bare 0) (Then (Instead Nil) ∷ []) st e begun in
+          let begun = opened S budget _ _ c.requires.begun c.requires.made in
+          let came = top.ensures.came S start (Then (Instead Nil) ∷ []) st e begun in
           let closes = rw (c.end_of.ensures top.new.self.value) at c.close.ensures in
-          never_full S budget start (bare 0) _ _ _ _ (Then (Instead Nil) ∷ []) _ 0 _ _ used asked came closes q;
+          never_full S budget start _ _ _ _ _ (Then (Instead Nil) ∷ []) _ 0 _ _ used asked came closes q;
     }

@@ -1,85 +1,96 @@
+use Rattle.rb_tree.specs.declared.node.Program.{Program}
 use Rattle.rb_machine.proofs.Down.{begin_left}
 use Rattle.rb_tree.specs.declared.node.Node.{out-Node}
-use Rattle.rb_interp.specs.Answers.{OrMemory, outcome_of}
-use Rattle.rb_interp.specs.Carries.{numbered, goes_on, plainly, updating, scope_of, unwritten, printing}
+use Rattle.rb_interp.specs.Answers.{OrMemory, outcome_of, shown_value}
+use Rattle.rb_interp.specs.Carries.{numbered, goes_on, plainly, updating, scope_of, written_by, printing, me_of}
 use Rattle.rb_code.proofs.Slots.{slot_within}
 use Rattle.std.proofs.Common.{rules, to_z, of_z, w64, ◌≡◌, ap, sym, ◌∙◌, refl, ℕ, List, [], ◌∷◌, ◌++◌, take, drop, map, length, ◌+◌, ◌-◌, ◌<◌, ◌≤◌, Some, None, true, false, arith}
 use Rattle.std.proofs.lemmas.List.{drop_all}
-use Rattle.std.specs.Prelude.{codes, pos, ◌+ℤ◌, ◌≤ℤ◌, slice_get}
+use Rattle.std.specs.Prelude.{codes, pos, ◌+ℤ◌, ◌≤ℤ◌, slice_get, slice_set}
 use Rattle.rb_model.specs.Values.{Nil, Int, plain}
-use Rattle.rb_machine.specs.Control.{Then, Under, Rest, AssignTo, ReturnOf, Test, Again, RightOfAnd, RightOfOr, Negate, Choose, Argument, OnReceiver, IndexedBy, IndexOf, MemberOf, ReadOf, RightOf, WriteTo, ReceiverOf, Instead, OfLocal, OfElement, OfAttribute, On, Eval, Storing, ByName, ReceiverToStore, PieceOf, Counting, Turn, Frame}
+use Rattle.rb_machine.specs.Control.{Then, Under, Rest, AssignTo, ReturnOf, Test, Again, RightOfAnd, RightOfOr, Negate, Choose, Argument, OnReceiver, IndexedBy, IndexOf, MemberOf, ReadOf, RightOf, WriteTo, ReceiverOf, Instead, OfLocal, OfField, OfElement, OfAttribute, Creating, FieldTo, On, Eval, Storing, ByName, ReceiverToStore, PieceOf, Counting, Turn, Frame, JoinTo, TextOf, WriteBehind}
 use Rattle.rb_code.specs.Erase.{erase, erase_piece, erase_block, erase_method}
 use Rattle.rb_code.specs.Resolved.{fits, every, if_some, block_fits}
-use Rattle.rb_code.proofs.Showing.{shows-nil, shows-false, shows-true, shows-int, shows-sym, shows-local, shows-and, shows-or, shows-not, shows-if, shows-break, shows-next, shows-set_local, shows-while, shows-return, shows-str, shows-update_local, shows-update_element, shows-update_attribute, shows-store, shows-operate, shows-send, shows-walk, shows-function, shows-print}
-use Rattle.rb_code.proofs.Fitting.{fits-local, fits-and, fits-or, fits-not, fits-if, fits-set_local, fits-while, fits-return, fits-str, fits-update_local, fits-update_element, fits-update_attribute, fits-store, fits-operate, fits-send, fits-walk, fits-function, fits-print}
+use Rattle.rb_code.proofs.Showing.{shows-nil, shows-false, shows-true, shows-self_ref, shows-field, shows-set_field, shows-update_field, shows-new, shows-own, shows-int, shows-sym, shows-local, shows-and, shows-or, shows-not, shows-if, shows-break, shows-next, shows-set_local, shows-while, shows-return, shows-str, shows-update_local, shows-update_element, shows-update_attribute, shows-store, shows-operate, shows-send, shows-walk, shows-function, shows-print}
+use Rattle.rb_code.proofs.Fitting.{fits-local, fits-set_field, fits-update_field, fits-new, fits-own, fits-and, fits-or, fits-not, fits-if, fits-set_local, fits-while, fits-return, fits-str, fits-update_local, fits-update_element, fits-update_attribute, fits-store, fits-operate, fits-send, fits-walk, fits-function, fits-print}
 use Rattle.rb_interp.specs.Outcome.{value_of, outcome}
 use Rattle.rb_interp.proofs.Moves.{gives, test_true, test_false, on, same, begins, follows, counts, too_many, too_deep, left}
-use Rattle.rb_interp.proofs.Lists.{two, fst, snd, next_item, len_set, len_map, len_args, get_set, fst_two, nothing, front}
-use Rattle.rb_interp.proofs.Rooms.{sub, moved, every_item, lies, frame_back}
+use Rattle.rb_interp.proofs.Lists.{two, fst, snd, next_item, len_set, len_map, len_args, get_set, fst_two, nothing, front, there}
+use Rattle.rb_interp.proofs.Rooms.{sub, moved, every_item, lies, frame_back, room_beyond}
 use Rattle.rb_interp.proofs.Outcomes.{gave, given, comes, passes, gone, again, again_out, tested_again, tested_out, called, turn_too_many, turns_end}
 use Rattle.rb_interp.proofs.Steps.{and_goes, and_stops, or_goes, or_stops, negated, chosen_first, chosen_second, assigned, kept_write}
 use Rattle.rb_machine.specs.Scopes.{text_of}
 use Rattle.rb_builtin.specs.Names.{builtin_of}
 use Rattle.rb_builtin.proofs.Table.{same_is}
 use Rattle.rb_interp.proofs.Quick.{calls_held, calls_pair, updates}
-use Rattle.rb_interp.proofs.Calls.{calls, no_such}
-use Rattle.rb_interp.proofs.Places.{operator_number, or_else_stays, or_else_goes, and_then_stays, and_then_goes, operates, reads, left_unwritten, target_local, target_element, target_attribute}
+use Rattle.rb_interp.proofs.Calls.{calls, no_such, none_plain}
+use Rattle.rb_interp.proofs.Places.{operator_number, or_else_stays, or_else_goes, and_then_stays, and_then_goes, operates, reads, attribute_is, target_local, target_field, target_element, target_attribute}
 use mathlib.Core.Logic.{inl}
-use Rattle.rb_machine.specs.Call.{operator, last_value}
-use Rattle.rb_interp.specs.Answers.{shown_value}
-use Rattle.rb_interp.proofs.Arguments.{passing, passed, joined, only_left, only_came, over_left}
-use Rattle.rb_interp.proofs.Prints.{by_form, printing_is, shown}
-use Rattle.std.specs.Option.{option_map}
+use Rattle.rb_machine.specs.Call.{operator, last_value, enter}
+use Rattle.rb_interp.proofs.Arguments.{passing, passed, placed, joined, only_left, only_came, over_left}
+use Rattle.rb_interp.proofs.Prints.{by_form, printing_is, shown, by_text}
+use Rattle.std.specs.Option.{option_map, option_copied}
+use Rattle.rb_code.specs.Dispatch.{method_at}
 use Rattle.rb_machine.specs.Begin.{begin_return}
-use Rattle.rb_interp.proofs.Pieces.{piece_code, shows_text, shows_code, joining, joins_code, text_long, text_joins, value_long, value_joins, whole_text}
+use Rattle.rb_interp.proofs.Pieces.{piece_code, shows_text, shows_code, joining, joins_code, text_long, text_joins, whole_text, too_long, not_long, asks_piece}
 use Rattle.std.proofs.lemmas.Int.{ints, to_z-of_z}
 use Rattle.rb_code.specs.Layout.{bound}
 use Rattle.rb_interp.proofs.Turns.{some_left, none_left, last_done, ends_within, deeper, opens, closes, closes_out, cut, answers_block, block_turns, takes_is}
 use Rattle.rb_machine.specs.Methods.{deed}
-use Rattle.rb_interp.proofs.Frames.{enters, other_count, frame_lies}
-use Rattle.rb_interp.proofs.walker.Walker.+walk.Goals.{text-in-Text+in_default, text-in-Code+else-is_left+in_default-add_value}
+use Rattle.rb_interp.proofs.Named.{unnamed_is, found_nowhere}
+use Rattle.rb_interp.proofs.Frames.{enters, other_count, frame_lies, enter_left, by_receiver, blocked, by_own, by_number, function_right}
+use Rattle.rb_interp.proofs.Targets.{operator_none, update_none, writer_some, writer_right, writer_none, writer_me}
+use Rattle.rb_interp.proofs.Objects.{fielded_by, created, created_from, initialize_left, initializes, first_right, takes_none, is_ready}
+use Rattle.rb_interp.specs.Objects.{plainly as fielded, updating as field_updated}
+use Rattle.rb_interp.proofs.walker.Walker.+walk.Goals.{text-in-Text+in_default, text-in-Code+else-is_left+else-is_left-2+in_default-add_value}
+use Rattle.rb_interp.proofs.Endings.{quietly}
+use Rattle.rb_interp.specs.declared.came.Came.TheVariants as came
+use Rattle.rb_render.specs.Forms.{style_of}
+use Rattle.rb_model.specs.declared.value.Value.TheVariants as held
+use Rattle.rb_machine.proofs.Printing.{behind_fits, behind_long}
+use Rattle.rb_interp.proofs.Texts.{registers_unasked, told_enters, told_gives, text_left, write_left, copy_came, copy_left, told_itself, told_leaving, told_answer, told_by_class, told_passes, told_joins, told_writes, read_item, next_value, no_value, asks_next, shows_all}
 use Rattle.rb_interp.proofs.walker.Walker.+walk.Goals as goal
 
 pub walk_here-returns-then-self-eq0-clause-came : goal.walk_here-returns-then-self-eq0-clause-came
-walk_here-returns-then-self-eq0-clause-came g m c = λ S start h k me names size st e l a.
+walk_here-returns-then-self-eq0-clause-came g m c = λ S start k names size st e l a.
     rw (c.over.ensures.gives, c.over.ensures.left, c.over.ensures.store) (too_many c.if-self-eq0.true a)
 
 pub walk_here-returns-then-depth-ge-MAX_DEPTH-clause-came : goal.walk_here-returns-then-depth-ge-MAX_DEPTH-clause-came
-walk_here-returns-then-depth-ge-MAX_DEPTH-clause-came g m c = λ S start h k me names size st e l a.
+walk_here-returns-then-depth-ge-MAX_DEPTH-clause-came g m c = λ S start k names size st e l a.
     let o = c.raise.ensures in
     rw (o.gives, o.left, o.store, c.place_of.ensures) (too_deep (omega (arith, c.if-self-eq0.false)) c.if-depth-ge-MAX_DEPTH.true a)
 
 pub walk_here-returns-clause-came : goal.walk_here-returns-clause-came
-walk_here-returns-clause-came g m c = λ S start h k me names size st e l a.
-    left S _ start h _ _ k _ _ _ _ (c.begin.ensures.came S start h (Under c.args.depth ∷ k) me names size st e l (counts (omega (arith, c.if-self-eq0.false)) (omega (arith, c.if-depth-ge-MAX_DEPTH.false)) a))
+walk_here-returns-clause-came g m c = λ S start k names size st e l a.
+    left S _ start _ _ _ k _ _ _ _ (c.begin.ensures.came S start (Under c.args.depth ∷ k) names size st e l (counts (omega (arith, c.if-self-eq0.false)) (omega (arith, c.if-depth-ge-MAX_DEPTH.false)) a))
 
 pub begin-returns-in-Nil-clause-came : goal.begin-returns-in-Nil-clause-came
-begin-returns-in-Nil-clause-came g m c = λ S start h k me names size st e l a.
+begin-returns-in-Nil-clause-came g m c = λ S start k names size st e l a.
     begins _ _ k _ _ _ (shows-nil c.args.code.now c.in-Nil.field-0 c.in-Nil.is) a
 
 pub begin-returns-in-False-clause-came : goal.begin-returns-in-False-clause-came
-begin-returns-in-False-clause-came g m c = λ S start h k me names size st e l a.
+begin-returns-in-False-clause-came g m c = λ S start k names size st e l a.
     begins _ _ k _ _ _ (shows-false c.args.code.now c.in-False.field-0 c.in-False.is) a
 
 pub begin-returns-in-True-clause-came : goal.begin-returns-in-True-clause-came
-begin-returns-in-True-clause-came g m c = λ S start h k me names size st e l a.
+begin-returns-in-True-clause-came g m c = λ S start k names size st e l a.
     begins _ _ k _ _ _ (shows-true c.args.code.now c.in-True.field-0 c.in-True.is) a
 
 pub begin-returns-in-Int-clause-came : goal.begin-returns-in-Int-clause-came
-begin-returns-in-Int-clause-came g m c = λ S start h k me names size st e l a.
+begin-returns-in-Int-clause-came g m c = λ S start k names size st e l a.
     let z : to_z w64 (of_z w64 c.in-Int.n) ≡ c.in-Int.n = search rules in
     rw z (begins _ _ k _ _ _ (shows-int c.args.code.now c.in-Int.n c.in-Int.field-1 c.in-Int.is) a)
 
 pub begin_other-returns-in-Sym-clause-came : goal.begin_other-returns-in-Sym-clause-came
-begin_other-returns-in-Sym-clause-came g m c = λ S start h k me names size st e l a.
+begin_other-returns-in-Sym-clause-came g m c = λ S start k names size st e l a.
     rw (c.give.ensures.gives, c.give.ensures.left, c.give.ensures.store) (begins _ _ k _ _ _ (shows-sym c.args.code.now c.in-Sym.name c.in-Sym.field-1 c.in-Sym.is) a)
 
 pub begin_other-returns-in-Break-clause-came : goal.begin_other-returns-in-Break-clause-came
-begin_other-returns-in-Break-clause-came g m c = λ S start h k me names size st e l a.
+begin_other-returns-in-Break-clause-came g m c = λ S start k names size st e l a.
     begins _ _ k _ _ _ (shows-break c.args.code.now c.in-Break.field-0 c.in-Break.is) a
 
 pub begin_other-returns-in-Next-clause-came : goal.begin_other-returns-in-Next-clause-came
-begin_other-returns-in-Next-clause-came g m c = λ S start h k me names size st e l a.
+begin_other-returns-in-Next-clause-came g m c = λ S start k names size st e l a.
     begins _ _ k _ _ _ (shows-next c.args.code.now c.in-Next.field-0 c.in-Next.is) a
 
 pub begin_other-returns-in-And-clause-kept : goal.begin_other-returns-in-And-clause-kept
@@ -90,11 +101,11 @@ begin_other-returns-in-And-clause-kept g m c = λ S names size st e l i p q.
     c.both.ensures.kept S names size st e under i p q
 
 pub begin_other-returns-in-And-clause-came : goal.begin_other-returns-in-And-clause-came
-begin_other-returns-in-And-clause-came g m c = λ S start h k me names size st e l a.
+begin_other-returns-in-And-clause-came g m c = λ S start k names size st e l a.
     let x = c.in-And in
     let s = sym (ap (λ d. fits S d names size) x.is ∙ fits-and S names size x.first x.second x.field-2) ∙ l.fits in
     let under = sub _ l (rw (c.get-in-And.ensures, c.get-in-And-2.ensures) s) in
-    c.both.ensures.came S start h k me names size st e under (rw (c.get-in-And.ensures, c.get-in-And-2.ensures) (begins _ _ k _ _ _ (shows-and c.args.code.now x.first x.second x.field-2 x.is) a))
+    c.both.ensures.came S start k names size st e under (rw (c.get-in-And.ensures, c.get-in-And-2.ensures) (begins _ _ k _ _ _ (shows-and c.args.code.now x.first x.second x.field-2 x.is) a))
 
 pub begin_other-returns-in-Or-clause-kept : goal.begin_other-returns-in-Or-clause-kept
 begin_other-returns-in-Or-clause-kept g m c = λ S names size st e l i p q.
@@ -104,11 +115,11 @@ begin_other-returns-in-Or-clause-kept g m c = λ S names size st e l i p q.
     c.either.ensures.kept S names size st e under i p q
 
 pub begin_other-returns-in-Or-clause-came : goal.begin_other-returns-in-Or-clause-came
-begin_other-returns-in-Or-clause-came g m c = λ S start h k me names size st e l a.
+begin_other-returns-in-Or-clause-came g m c = λ S start k names size st e l a.
     let x = c.in-Or in
     let s = sym (ap (λ d. fits S d names size) x.is ∙ fits-or S names size x.first x.second x.field-2) ∙ l.fits in
     let under = sub _ l (rw (c.get-in-Or.ensures, c.get-in-Or-2.ensures) s) in
-    c.either.ensures.came S start h k me names size st e under (rw (c.get-in-Or.ensures, c.get-in-Or-2.ensures) (begins _ _ k _ _ _ (shows-or c.args.code.now x.first x.second x.field-2 x.is) a))
+    c.either.ensures.came S start k names size st e under (rw (c.get-in-Or.ensures, c.get-in-Or-2.ensures) (begins _ _ k _ _ _ (shows-or c.args.code.now x.first x.second x.field-2 x.is) a))
 
 pub begin_other-returns-in-Not-clause-kept : goal.begin_other-returns-in-Not-clause-kept
 begin_other-returns-in-Not-clause-kept g m c = λ S names size st e l i p q.
@@ -118,11 +129,11 @@ begin_other-returns-in-Not-clause-kept g m c = λ S names size st e l i p q.
     c.negate.ensures.kept S names size st e under i p q
 
 pub begin_other-returns-in-Not-clause-came : goal.begin_other-returns-in-Not-clause-came
-begin_other-returns-in-Not-clause-came g m c = λ S start h k me names size st e l a.
+begin_other-returns-in-Not-clause-came g m c = λ S start k names size st e l a.
     let x = c.in-Not in
     let s = sym (ap (λ d. fits S d names size) x.is ∙ fits-not S names size x.value x.field-1) ∙ l.fits in
     let under = sub _ l (rw c.get-in-Not.ensures s) in
-    c.negate.ensures.came S start h k me names size st e under (rw c.get-in-Not.ensures (begins _ _ k _ _ _ (shows-not c.args.code.now x.value x.field-1 x.is) a))
+    c.negate.ensures.came S start k names size st e under (rw c.get-in-Not.ensures (begins _ _ k _ _ _ (shows-not c.args.code.now x.value x.field-1 x.is) a))
 
 pub begin_choice-returns-in-If-clause-kept : goal.begin_choice-returns-in-If-clause-kept
 begin_choice-returns-in-If-clause-kept g m c = λ S names size st e l i p q.
@@ -132,37 +143,37 @@ begin_choice-returns-in-If-clause-kept g m c = λ S names size st e l i p q.
     c.choose.ensures.kept S names size st e under i p q
 
 pub begin_choice-returns-in-If-clause-came : goal.begin_choice-returns-in-If-clause-came
-begin_choice-returns-in-If-clause-came g m c = λ S start h k me names size st e l a.
+begin_choice-returns-in-If-clause-came g m c = λ S start k names size st e l a.
     let x = c.in-If in
     let s = sym (ap (λ d. fits S d names size) x.is ∙ fits-if S names size x.condition x.first x.second x.field-3) ∙ l.fits in
     let under = sub _ l (rw (c.get.ensures, c.as_slice.ensures, c.as_slice-in-If.ensures) s) in
-    c.choose.ensures.came S start h k me names size st e under (rw (c.get.ensures, c.as_slice.ensures, c.as_slice-in-If.ensures) (begins _ _ k _ _ _ (shows-if c.args.code.now x.condition x.first x.second x.field-3 x.is) a))
+    c.choose.ensures.came S start k names size st e under (rw (c.get.ensures, c.as_slice.ensures, c.as_slice-in-If.ensures) (begins _ _ k _ _ _ (shows-if c.args.code.now x.condition x.first x.second x.field-3 x.is) a))
 
 pub both-returns-then-is_left-clause-came : goal.both-returns-then-is_left-clause-came
-both-returns-then-is_left-clause-came g m c = λ S start h k me names size st e l a.
+both-returns-then-is_left-clause-came g m c = λ S start k names size st e l a.
     let w = c.evaluate_call-came in
-    let came = w.ensures.came S start h (Then (RightOfAnd (erase c.args.second.now)) ∷ k) me names size st e (sub (fits S c.args.first.now) l (fst _ _ l.fits)) a in
-    passes S _ start h w.result w.new.self.value w.new.self.leave _ (RightOfAnd (erase c.args.second.now)) k _ _ _ (sym c.is_left.ensures ∙ c.if-is_left.true) came
+    let came = w.ensures.came S start (Then (RightOfAnd (erase c.args.second.now)) ∷ k) names size st e (sub (fits S c.args.first.now) l (fst _ _ l.fits)) a in
+    passes S _ start _ w.result w.new.self.value w.new.self.leave _ (RightOfAnd (erase c.args.second.now)) k _ _ _ (sym c.is_left.ensures ∙ c.if-is_left.true) came
 
 pub both-returns-then-not-is_true_now-clause-came : goal.both-returns-then-not-is_true_now-clause-came
-both-returns-then-not-is_true_now-clause-came g m c = λ S start h k me names size st e l a.
+both-returns-then-not-is_true_now-clause-came g m c = λ S start k names size st e l a.
     let w = c.evaluate_call-came in
-    let came = w.ensures.came S start h (Then (RightOfAnd (erase c.args.second.now)) ∷ k) me names size st e (sub (fits S c.args.first.now) l (fst _ _ l.fits)) a in
+    let came = w.ensures.came S start (Then (RightOfAnd (erase c.args.second.now)) ∷ k) names size st e (sub (fits S c.args.first.now) l (fst _ _ l.fits)) a in
     let none = sym c.is_left.ensures ∙ c.if-is_left.false in
     let g = given w.result w.new.self.value w.new.self.leave none came in
     let t = sym (c.is_true_now.ensures none) in
-    comes S _ start h _ k _ _ _ _ _ (gave w.result w.new.self.value w.new.self.leave none) (and_stops (t ∙ c.if-not-is_true_now.true) g)
+    comes S _ start _ _ k _ _ _ _ _ (gave w.result w.new.self.value w.new.self.leave none) (and_stops (t ∙ c.if-not-is_true_now.true) g)
 
 pub both-returns-clause-came : goal.both-returns-clause-came
-both-returns-clause-came g m c = λ S start h k me names size st e l a.
+both-returns-clause-came g m c = λ S start k names size st e l a.
     let w = c.evaluate_call-came in
-    let came = w.ensures.came S start h (Then (RightOfAnd (erase c.args.second.now)) ∷ k) me names size st e (sub (fits S c.args.first.now) l (fst _ _ l.fits)) a in
+    let came = w.ensures.came S start (Then (RightOfAnd (erase c.args.second.now)) ∷ k) names size st e (sub (fits S c.args.first.now) l (fst _ _ l.fits)) a in
     let none = sym c.is_left.ensures ∙ c.if-is_left.false in
     let g = given w.result w.new.self.value w.new.self.leave none came in
     let t = sym (c.is_true_now.ensures none) in
     let under = moved _ _ w.ensures.base w.ensures.room (sub (fits S c.args.second.now) l (snd _ _ l.fits)) in
     let f = rw w.ensures.context at c.evaluate_call.ensures.came in
-    f S start h k me names size st e under (and_goes (t ∙ c.if-not-is_true_now.false) g)
+    f S start k names size st e under (and_goes (t ∙ c.if-not-is_true_now.false) g)
 
 pub both-returns-then-is_left-clause-kept : goal.both-returns-then-is_left-clause-kept
 both-returns-then-is_left-clause-kept g m c = λ S names size st e l i p q.
@@ -195,86 +206,86 @@ either-returns-then-is_true_now-clause-kept g m c = λ S names size st e l i p q
     c.evaluate_call-came.ensures.kept S names size st e (sub (fits S c.args.first.now) l (fst _ _ l.fits)) i p q
 
 pub either-returns-then-is_left-clause-came : goal.either-returns-then-is_left-clause-came
-either-returns-then-is_left-clause-came g m c = λ S start h k me names size st e l a.
+either-returns-then-is_left-clause-came g m c = λ S start k names size st e l a.
     let w = c.evaluate_call-came in
-    let came = w.ensures.came S start h (Then (RightOfOr (erase c.args.second.now)) ∷ k) me names size st e (sub (fits S c.args.first.now) l (fst _ _ l.fits)) a in
-    passes S _ start h w.result w.new.self.value w.new.self.leave _ (RightOfOr (erase c.args.second.now)) k _ _ _ (sym c.is_left.ensures ∙ c.if-is_left.true) came
+    let came = w.ensures.came S start (Then (RightOfOr (erase c.args.second.now)) ∷ k) names size st e (sub (fits S c.args.first.now) l (fst _ _ l.fits)) a in
+    passes S _ start _ w.result w.new.self.value w.new.self.leave _ (RightOfOr (erase c.args.second.now)) k _ _ _ (sym c.is_left.ensures ∙ c.if-is_left.true) came
 
 pub either-returns-then-is_true_now-clause-came : goal.either-returns-then-is_true_now-clause-came
-either-returns-then-is_true_now-clause-came g m c = λ S start h k me names size st e l a.
+either-returns-then-is_true_now-clause-came g m c = λ S start k names size st e l a.
     let w = c.evaluate_call-came in
-    let came = w.ensures.came S start h (Then (RightOfOr (erase c.args.second.now)) ∷ k) me names size st e (sub (fits S c.args.first.now) l (fst _ _ l.fits)) a in
+    let came = w.ensures.came S start (Then (RightOfOr (erase c.args.second.now)) ∷ k) names size st e (sub (fits S c.args.first.now) l (fst _ _ l.fits)) a in
     let none = sym c.is_left.ensures ∙ c.if-is_left.false in
     let g = given w.result w.new.self.value w.new.self.leave none came in
     let t = sym (c.is_true_now.ensures none) in
-    comes S _ start h _ k _ _ _ _ _ (gave w.result w.new.self.value w.new.self.leave none) (or_stops (t ∙ c.if-is_true_now.true) g)
+    comes S _ start _ _ k _ _ _ _ _ (gave w.result w.new.self.value w.new.self.leave none) (or_stops (t ∙ c.if-is_true_now.true) g)
 
 pub either-returns-clause-came : goal.either-returns-clause-came
-either-returns-clause-came g m c = λ S start h k me names size st e l a.
+either-returns-clause-came g m c = λ S start k names size st e l a.
     let w = c.evaluate_call-came in
-    let came = w.ensures.came S start h (Then (RightOfOr (erase c.args.second.now)) ∷ k) me names size st e (sub (fits S c.args.first.now) l (fst _ _ l.fits)) a in
+    let came = w.ensures.came S start (Then (RightOfOr (erase c.args.second.now)) ∷ k) names size st e (sub (fits S c.args.first.now) l (fst _ _ l.fits)) a in
     let none = sym c.is_left.ensures ∙ c.if-is_left.false in
     let g = given w.result w.new.self.value w.new.self.leave none came in
     let t = sym (c.is_true_now.ensures none) in
     let under = moved _ _ w.ensures.base w.ensures.room (sub (fits S c.args.second.now) l (snd _ _ l.fits)) in
     let f = rw w.ensures.context at c.evaluate_call.ensures.came in
-    f S start h k me names size st e under (or_goes (t ∙ c.if-is_true_now.false) g)
+    f S start k names size st e under (or_goes (t ∙ c.if-is_true_now.false) g)
 
 pub negate-returns-then-is_left-clause-came : goal.negate-returns-then-is_left-clause-came
-negate-returns-then-is_left-clause-came g m c = λ S start h k me names size st e l a.
+negate-returns-then-is_left-clause-came g m c = λ S start k names size st e l a.
     let w = c.evaluate_call-came in
-    let came = w.ensures.came S start h (Then Negate ∷ k) me names size st e (sub (fits S c.args.value.now) l l.fits) a in
-    passes S _ start h w.result w.new.self.value w.new.self.leave _ Negate k _ _ _ (sym c.is_left.ensures ∙ c.if-is_left.true) came
+    let came = w.ensures.came S start (Then Negate ∷ k) names size st e (sub (fits S c.args.value.now) l l.fits) a in
+    passes S _ start _ w.result w.new.self.value w.new.self.leave _ Negate k _ _ _ (sym c.is_left.ensures ∙ c.if-is_left.true) came
 
 pub negate-returns-then-is_true_now-clause-came : goal.negate-returns-then-is_true_now-clause-came
-negate-returns-then-is_true_now-clause-came g m c = λ S start h k me names size st e l a.
+negate-returns-then-is_true_now-clause-came g m c = λ S start k names size st e l a.
     let w = c.evaluate_call-came in
-    let came = w.ensures.came S start h (Then Negate ∷ k) me names size st e (sub (fits S c.args.value.now) l l.fits) a in
+    let came = w.ensures.came S start (Then Negate ∷ k) names size st e (sub (fits S c.args.value.now) l l.fits) a in
     let none = sym c.is_left.ensures ∙ c.if-is_left.false in
     let g = given w.result w.new.self.value w.new.self.leave none came in
     let t = sym (c.is_true_now.ensures none) in
     negated true (t ∙ c.if-is_true_now.true) g
 
 pub negate-returns-else-is_true_now-clause-came : goal.negate-returns-else-is_true_now-clause-came
-negate-returns-else-is_true_now-clause-came g m c = λ S start h k me names size st e l a.
+negate-returns-else-is_true_now-clause-came g m c = λ S start k names size st e l a.
     let w = c.evaluate_call-came in
-    let came = w.ensures.came S start h (Then Negate ∷ k) me names size st e (sub (fits S c.args.value.now) l l.fits) a in
+    let came = w.ensures.came S start (Then Negate ∷ k) names size st e (sub (fits S c.args.value.now) l l.fits) a in
     let none = sym c.is_left.ensures ∙ c.if-is_left.false in
     let g = given w.result w.new.self.value w.new.self.leave none came in
     let t = sym (c.is_true_now.ensures none) in
     negated false (t ∙ c.if-is_true_now.false) g
 
 pub choose-returns-then-is_left-clause-came : goal.choose-returns-then-is_left-clause-came
-choose-returns-then-is_left-clause-came g m c = λ S start h k me names size st e l a.
+choose-returns-then-is_left-clause-came g m c = λ S start k names size st e l a.
     let w = c.evaluate_call-came in
-    let came = w.ensures.came S start h (Then (Choose (map erase c.args.first.now) (map erase c.args.second.now)) ∷ k) me names size st e (sub (fits S c.args.condition.now) l (fst _ _ l.fits)) a in
-    passes S _ start h w.result w.new.self.value w.new.self.leave _ (Choose (map erase c.args.first.now) (map erase c.args.second.now)) k _ _ _ (sym c.is_left.ensures ∙ c.if-is_left.true) came
+    let came = w.ensures.came S start (Then (Choose (map erase c.args.first.now) (map erase c.args.second.now)) ∷ k) names size st e (sub (fits S c.args.condition.now) l (fst _ _ l.fits)) a in
+    passes S _ start _ w.result w.new.self.value w.new.self.leave _ (Choose (map erase c.args.first.now) (map erase c.args.second.now)) k _ _ _ (sym c.is_left.ensures ∙ c.if-is_left.true) came
 
 pub choose-returns-then-is_left-clause-kept : goal.choose-returns-then-is_left-clause-kept
 choose-returns-then-is_left-clause-kept g m c = λ S names size st e l i p q.
     c.evaluate_call-came.ensures.kept S names size st e (sub (fits S c.args.condition.now) l (fst _ _ l.fits)) i p q
 
 pub choose-returns-then-is_true_now-clause-came : goal.choose-returns-then-is_true_now-clause-came
-choose-returns-then-is_true_now-clause-came g m c = λ S start h k me names size st e l a.
+choose-returns-then-is_true_now-clause-came g m c = λ S start k names size st e l a.
     let w = c.evaluate_call-came in
-    let came = w.ensures.came S start h (Then (Choose (map erase c.args.first.now) (map erase c.args.second.now)) ∷ k) me names size st e (sub (fits S c.args.condition.now) l (fst _ _ l.fits)) a in
+    let came = w.ensures.came S start (Then (Choose (map erase c.args.first.now) (map erase c.args.second.now)) ∷ k) names size st e (sub (fits S c.args.condition.now) l (fst _ _ l.fits)) a in
     let none = sym c.is_left.ensures ∙ c.if-is_left.false in
     let g = given w.result w.new.self.value w.new.self.leave none came in
     let t = sym (c.is_true_now.ensures none) in
     let under = moved _ _ w.ensures.base w.ensures.room (sub (every (map (fits S) c.args.first.now)) l (fst _ _ (snd _ _ l.fits))) in
     let f = rw w.ensures.context at c.body.ensures.came in
-    f S start h k me names size st e under (chosen_first (t ∙ c.if-is_true_now.true) g)
+    f S start k names size st e under (chosen_first (t ∙ c.if-is_true_now.true) g)
 
 pub choose-returns-clause-came : goal.choose-returns-clause-came
-choose-returns-clause-came g m c = λ S start h k me names size st e l a.
+choose-returns-clause-came g m c = λ S start k names size st e l a.
     let w = c.evaluate_call-came in
-    let came = w.ensures.came S start h (Then (Choose (map erase c.args.first.now) (map erase c.args.second.now)) ∷ k) me names size st e (sub (fits S c.args.condition.now) l (fst _ _ l.fits)) a in
+    let came = w.ensures.came S start (Then (Choose (map erase c.args.first.now) (map erase c.args.second.now)) ∷ k) names size st e (sub (fits S c.args.condition.now) l (fst _ _ l.fits)) a in
     let none = sym c.is_left.ensures ∙ c.if-is_left.false in
     let g = given w.result w.new.self.value w.new.self.leave none came in
     let t = sym (c.is_true_now.ensures none) in
     let under = moved _ _ w.ensures.base w.ensures.room (sub (every (map (fits S) c.args.second.now)) l (snd _ _ (snd _ _ l.fits))) in
     let f = rw w.ensures.context at c.body-2.ensures.came in
-    f S start h k me names size st e under (chosen_second (t ∙ c.if-is_true_now.false) g)
+    f S start k names size st e under (chosen_second (t ∙ c.if-is_true_now.false) g)
 
 pub choose-returns-then-is_true_now-clause-kept : goal.choose-returns-then-is_true_now-clause-kept
 choose-returns-then-is_true_now-clause-kept g m c = λ S names size st e l i p q.
@@ -301,21 +312,21 @@ body-returns-then-is_left-clause-kept g m c = λ S names size st e l i p q.
     f S names size st e under i p (omega (arith, q, inv.base)) ∙ inv.kept S names size st e l i p q
 
 pub body-returns-then-is_left-clause-came : goal.body-returns-then-is_left-clause-came
-body-returns-then-is_left-clause-came g m c = λ S start h k me names size st e l a.
+body-returns-then-is_left-clause-came g m c = λ S start k names size st e l a.
     let loop = c.nodes in
     let inv = loop.invariant in
     let item = next_item _ _ c.node-item.result c.nodes-test.true c.node-item.is in
     let right = every_item S _ _ c.node-item.result names size c.nodes-test.true c.node-item.is l.fits in
     let under = moved _ _ inv.base inv.room (sub (fits S c.node-item.result) l right) in
-    let h1 = on _ (follows _ (sym (ap (map erase) item)) (inv.came S start h k me names size st e l a)) refl in
+    let h1 = on _ (follows _ (sym (ap (map erase) item)) (inv.came S start k names size st e l a)) refl in
     let f = rw inv.context at c.walk_here-came.ensures.came in
-    let come = f S start h (Then (Rest (map erase (drop (loop.node-index + 1) c.args.nodes.now))) ∷ k) me names size st e under h1 in
-    passes S _ start h c.walk_here-came.result c.walk_here-came.new.self.value c.walk_here-came.new.self.leave _ (Rest (map erase (drop (loop.node-index + 1) c.args.nodes.now))) k _ _ _ (sym c.is_left.ensures ∙ c.if-is_left.true) come
+    let come = f S start (Then (Rest (map erase (drop (loop.node-index + 1) c.args.nodes.now))) ∷ k) names size st e under h1 in
+    passes S _ start _ c.walk_here-came.result c.walk_here-came.new.self.value c.walk_here-came.new.self.leave _ (Rest (map erase (drop (loop.node-index + 1) c.args.nodes.now))) k _ _ _ (sym c.is_left.ensures ∙ c.if-is_left.true) come
 
 pub body-returns-clause-came : goal.body-returns-clause-came
-body-returns-clause-came g m c = λ S start h k me names size st e l a.
+body-returns-clause-came g m c = λ S start k names size st e l a.
     let inv = c.nodes.invariant in
-    comes S _ start h _ k _ _ _ _ _ (gave _ _ _ inv.going) (on _ (follows [] (sym (ap (map erase) (drop_all _ _ c.nodes-test.false))) (inv.came S start h k me names size st e l a)) refl)
+    comes S _ start _ _ k _ _ _ _ _ (gave _ _ _ inv.going) (on _ (follows [] (sym (ap (map erase) (drop_all _ _ c.nodes-test.false))) (inv.came S start k names size st e l a)) refl)
 
 pub body-nodes-preserved : goal.body-nodes-preserved
 body-nodes-preserved g m c =
@@ -336,26 +347,26 @@ body-nodes-preserved g m c =
           let under = moved _ _ inv.base inv.room (sub (fits S c.node-item.result) l right) in
           let f = rw inv.context at c.walk_here-came.ensures.kept in
           f S names size st e under i p (omega (arith, q, inv.base)) ∙ inv.kept S names size st e l i p q;
-      came = λ S start h k me names size st e l a.
+      came = λ S start k names size st e l a.
           let loop = c.nodes in
           let inv = loop.invariant in
           let item = next_item _ _ c.node-item.result c.nodes-test.true c.node-item.is in
           let right = every_item S _ _ c.node-item.result names size c.nodes-test.true c.node-item.is l.fits in
           let under = moved _ _ inv.base inv.room (sub (fits S c.node-item.result) l right) in
-          let h1 = on _ (follows _ (sym (ap (map erase) item)) (inv.came S start h k me names size st e l a)) refl in
+          let h1 = on _ (follows _ (sym (ap (map erase) item)) (inv.came S start k names size st e l a)) refl in
           let f = rw inv.context at c.walk_here-came.ensures.came in
-          let come = f S start h (Then (Rest (map erase (drop (loop.node-index + 1) c.args.nodes.now))) ∷ k) me names size st e under h1 in
+          let come = f S start (Then (Rest (map erase (drop (loop.node-index + 1) c.args.nodes.now))) ∷ k) names size st e under h1 in
           on _ (given c.walk_here-came.result c.walk_here-came.new.self.value c.walk_here-came.new.self.leave (sym c.is_left.ensures ∙ c.if-is_left.false) come) refl;
     }
 
 pub begin-returns-in-Local-clause-came : goal.begin-returns-in-Local-clause-came
-begin-returns-in-Local-clause-came g m c = λ S start h k me names size st e l a.
+begin-returns-in-Local-clause-came g m c = λ S start k names size st e l a.
     let x = c.in-Local in
     let s = sym (ap (λ d. fits S d names size) x.is ∙ fits-local S names size x.slot x.field-1 x.field-2) ∙ l.fits in
     let len : length names ≤ length c.args.room.now = omega (arith, l.within, l.below, l.room) in
     let b = begins _ _ k _ _ _ (shows-local c.args.code.now x.slot x.field-1 x.field-2 x.is) a in
     let r = c.read in
-    rw (r.ensures.left, r.ensures.store) (reads S _ start h _ k c.args.depth _ x.field-1 names c.args.room.now x.slot me (outcome r.result r.new.self.value r.new.self.leave) len s r.ensures.gives b)
+    rw (r.ensures.left, r.ensures.store) (reads S _ start _ _ k c.args.depth _ x.field-1 names c.args.room.now x.slot _ (outcome r.result r.new.self.value r.new.self.leave) len s r.ensures.gives b)
 
 pub begin_set-returns-in-SetLocal-clause-kept : goal.begin_set-returns-in-SetLocal-clause-kept
 begin_set-returns-in-SetLocal-clause-kept g m c = λ S names size st e l i p q.
@@ -365,11 +376,11 @@ begin_set-returns-in-SetLocal-clause-kept g m c = λ S names size st e l i p q.
     c.set_local.ensures.kept x.field-1 S names size st e under i p q
 
 pub begin_set-returns-in-SetLocal-clause-came : goal.begin_set-returns-in-SetLocal-clause-came
-begin_set-returns-in-SetLocal-clause-came g m c = λ S start h k me names size st e l a.
+begin_set-returns-in-SetLocal-clause-came g m c = λ S start k names size st e l a.
     let x = c.in-SetLocal in
     let s = sym (ap (λ d. fits S d names size) x.is ∙ fits-set_local S names size x.slot x.field-1 x.value x.field-3) ∙ l.fits in
     let under = sub _ l (rw c.get.ensures s) in
-    c.set_local.ensures.came x.field-1 (AssignTo x.field-1) plainly S start h k me names size st e under (rw c.get.ensures (begins _ _ k _ _ _ (shows-set_local c.args.code.now x.slot x.field-1 x.value x.field-3 x.is) a))
+    c.set_local.ensures.came x.field-1 (AssignTo x.field-1) plainly S start k names size st e under (rw c.get.ensures (begins _ _ k _ _ _ (shows-set_local c.args.code.now x.slot x.field-1 x.value x.field-3 x.is) a))
 
 pub begin_other-returns-in-While-clause-kept : goal.begin_other-returns-in-While-clause-kept
 begin_other-returns-in-While-clause-kept g m c = λ S names size st e l i p q.
@@ -379,22 +390,22 @@ begin_other-returns-in-While-clause-kept g m c = λ S names size st e l i p q.
     c.repeat.ensures.kept S names size st e under i p q
 
 pub begin_other-returns-in-While-clause-came : goal.begin_other-returns-in-While-clause-came
-begin_other-returns-in-While-clause-came g m c = λ S start h k me names size st e l a.
+begin_other-returns-in-While-clause-came g m c = λ S start k names size st e l a.
     let x = c.in-While in
     let s = sym (ap (λ d. fits S d names size) x.is ∙ fits-while S names size x.condition x.body x.field-2) ∙ l.fits in
     let under = sub _ l (rw (c.get-in-While.ensures, c.as_slice-in-While.ensures) s) in
-    c.repeat.ensures.came S start h k me names size st e under (rw (c.get-in-While.ensures, c.as_slice-in-While.ensures) (begins _ _ k _ _ _ (shows-while c.args.code.now x.condition x.body x.field-2 x.is) a))
+    c.repeat.ensures.came S start k names size st e under (rw (c.get-in-While.ensures, c.as_slice-in-While.ensures) (begins _ _ k _ _ _ (shows-while c.args.code.now x.condition x.body x.field-2 x.is) a))
 
 pub leave_with-returns-then-is_left-clause-came : goal.leave_with-returns-then-is_left-clause-came
-leave_with-returns-then-is_left-clause-came g m c = λ S start h k me names size st e l a.
+leave_with-returns-then-is_left-clause-came g m c = λ S start k names size st e l a.
     let w = c.walk-came in
-    let came = w.ensures.came S start h (Then ReturnOf ∷ k) me names size st e (sub (fits S c.args.value.now) l l.fits) a in
-    passes S _ start h w.result w.new.self.value w.new.self.leave _ ReturnOf k _ _ _ (sym c.is_left.ensures ∙ c.if-is_left.true) came
+    let came = w.ensures.came S start (Then ReturnOf ∷ k) names size st e (sub (fits S c.args.value.now) l l.fits) a in
+    passes S _ start _ w.result w.new.self.value w.new.self.leave _ ReturnOf k _ _ _ (sym c.is_left.ensures ∙ c.if-is_left.true) came
 
 pub leave_with-returns-clause-came : goal.leave_with-returns-clause-came
-leave_with-returns-clause-came g m c = λ S start h k me names size st e l a.
+leave_with-returns-clause-came g m c = λ S start k names size st e l a.
     let w = c.walk-came in
-    let came = w.ensures.came S start h (Then ReturnOf ∷ k) me names size st e (sub (fits S c.args.value.now) l l.fits) a in
+    let came = w.ensures.came S start (Then ReturnOf ∷ k) names size st e (sub (fits S c.args.value.now) l l.fits) a in
     let none = sym c.is_left.ensures ∙ c.if-is_left.false in
     let g = given w.result w.new.self.value w.new.self.leave none came in
     rw (c.take.ensures.value, c.take.ensures.left, c.take.ensures.store) (on _ g refl)
@@ -403,10 +414,10 @@ pub set_local-returns-then-is_left-clause-kept : goal.set_local-returns-then-is_
 set_local-returns-then-is_left-clause-kept g m c = λ name S names size st e l i p q. c.evaluate_call-came.ensures.kept S names size st e (sub (fits S c.args.value.now) l (snd _ _ l.fits)) i p q
 
 pub set_local-returns-then-is_left-clause-came : goal.set_local-returns-then-is_left-clause-came
-set_local-returns-then-is_left-clause-came g m c = λ name step is S start h k me names size st e l a.
+set_local-returns-then-is_left-clause-came g m c = λ name step is S start k names size st e l a.
     let w = c.evaluate_call-came in
-    let came = w.ensures.came S start h (Then step ∷ k) me names size st e (sub (fits S c.args.value.now) l (snd _ _ l.fits)) a in
-    passes S _ start h w.result w.new.self.value w.new.self.leave _ step k _ _ _ (sym c.is_left.ensures ∙ c.if-is_left.true) came
+    let came = w.ensures.came S start (Then step ∷ k) names size st e (sub (fits S c.args.value.now) l (snd _ _ l.fits)) a in
+    passes S _ start _ w.result w.new.self.value w.new.self.leave _ step k _ _ _ (sym c.is_left.ensures ∙ c.if-is_left.true) came
 
 pub set_local-returns-clause-kept : goal.set_local-returns-clause-kept
 set_local-returns-clause-kept g m c = λ name S names size st e l i p q.
@@ -415,46 +426,46 @@ set_local-returns-clause-kept g m c = λ name S names size st e l i p q.
     kept_write c.args.slot i _ _ _ _ (λ z. omega (arith, z, s, l.within, p)) c.write.ensures.written ∙ w.ensures.kept S names size st e (sub (fits S c.args.value.now) l (snd _ _ l.fits)) i p q
 
 pub set_local-returns-clause-came : goal.set_local-returns-clause-came
-set_local-returns-clause-came g m c = λ name step is S start h k me names size st e l a.
+set_local-returns-clause-came g m c = λ name step is S start k names size st e l a.
     let w = c.evaluate_call-came in
-    let come = w.ensures.came S start h (Then step ∷ k) me names size st e (sub (fits S c.args.value.now) l (snd _ _ l.fits)) a in
+    let come = w.ensures.came S start (Then step ∷ k) names size st e (sub (fits S c.args.value.now) l (snd _ _ l.fits)) a in
     let none = sym c.is_left.ensures ∙ c.if-is_left.false in
     let v = given w.result w.new.self.value w.new.self.leave none come in
     let len : length names ≤ length w.new.room = omega (arith, l.within, l.below, l.room, w.ensures.room) in
-    rw (c.write.ensures.left, c.write.ensures.store) (assigned name step names c.args.slot w.new.room c.write.new.room (value_of w.result w.new.self.value) me _ is len (fst _ _ l.fits) c.write.ensures.written v)
+    rw (c.write.ensures.left, c.write.ensures.store) (assigned name step names c.args.slot w.new.room c.write.new.room (value_of w.result w.new.self.value) _ _ is len (fst _ _ l.fits) c.write.ensures.written v)
 
 pub repeat-returns-then-not-goes_on-clause-came : goal.repeat-returns-then-not-goes_on-clause-came
-repeat-returns-then-not-goes_on-clause-came g m c = λ S start h k me names size st e l a.
+repeat-returns-then-not-goes_on-clause-came g m c = λ S start k names size st e l a.
     let inv = c.turns.invariant in
     let w = c.evaluate_call-came in
     let under = moved _ _ inv.base inv.room (sub (fits S c.args.condition.now) l (fst _ _ l.fits)) in
-    let i1 = on _ (inv.came S start h k me names size st e l a) refl in
+    let i1 = on _ (inv.came S start k names size st e l a) refl in
     let f = rw inv.context at w.ensures.came in
-    let e1 = f S start h (Test (erase c.args.condition.now) (map erase c.args.body.now) ∷ k) me names size st e under i1 in
+    let e1 = f S start (Test (erase c.args.condition.now) (map erase c.args.body.now) ∷ k) names size st e under i1 in
     let stop = sym c.goes_on.ensures ∙ c.if-not-goes_on.true in
-    rw (c.out_of_loop.ensures stop) (tested_out S _ start h _ _ (erase c.args.condition.now) (map erase c.args.body.now) k _ _ _ stop e1)
+    rw (c.out_of_loop.ensures stop) (tested_out S _ start _ _ _ (erase c.args.condition.now) (map erase c.args.body.now) k _ _ _ stop e1)
 
 pub repeat-returns-then-not-is_true_now-clause-came : goal.repeat-returns-then-not-is_true_now-clause-came
-repeat-returns-then-not-is_true_now-clause-came g m c = λ S start h k me names size st e l a.
+repeat-returns-then-not-is_true_now-clause-came g m c = λ S start k names size st e l a.
     let inv = c.turns.invariant in
     let w = c.evaluate_call-came in
     let under = moved _ _ inv.base inv.room (sub (fits S c.args.condition.now) l (fst _ _ l.fits)) in
-    let i1 = on _ (inv.came S start h k me names size st e l a) refl in
+    let i1 = on _ (inv.came S start k names size st e l a) refl in
     let f = rw inv.context at w.ensures.came in
-    let e1 = f S start h (Test (erase c.args.condition.now) (map erase c.args.body.now) ∷ k) me names size st e under i1 in
+    let e1 = f S start (Test (erase c.args.condition.now) (map erase c.args.body.now) ∷ k) names size st e under i1 in
     let none = sym c.is_left.ensures ∙ c.if-is_left.false in
     let v = given w.result w.new.self.value w.new.self.leave none e1 in
     let t = sym (c.is_true_now.ensures none) in
     test_false (t ∙ c.if-not-is_true_now.true) v
 
 pub repeat-returns-then-not-goes_on-2-clause-came : goal.repeat-returns-then-not-goes_on-2-clause-came
-repeat-returns-then-not-goes_on-2-clause-came g m c = λ S start h k me names size st e l a.
+repeat-returns-then-not-goes_on-2-clause-came g m c = λ S start k names size st e l a.
     let inv = c.turns.invariant in
     let w = c.evaluate_call-came in
     let under = moved _ _ inv.base inv.room (sub (fits S c.args.condition.now) l (fst _ _ l.fits)) in
-    let i1 = on _ (inv.came S start h k me names size st e l a) refl in
+    let i1 = on _ (inv.came S start k names size st e l a) refl in
     let f = rw inv.context at w.ensures.came in
-    let e1 = f S start h (Test (erase c.args.condition.now) (map erase c.args.body.now) ∷ k) me names size st e under i1 in
+    let e1 = f S start (Test (erase c.args.condition.now) (map erase c.args.body.now) ∷ k) names size st e under i1 in
     let none = sym c.is_left.ensures ∙ c.if-is_left.false in
     let v = given w.result w.new.self.value w.new.self.leave none e1 in
     let t = sym (c.is_true_now.ensures none) in
@@ -462,9 +473,9 @@ repeat-returns-then-not-goes_on-2-clause-came g m c = λ S start h k me names si
     let within = moved _ _ (w.ensures.base ∙ inv.base) (w.ensures.room ∙ inv.room) (sub (every (map (fits S) c.args.body.now)) l (snd _ _ l.fits)) in
     let m1 = test_true (t ∙ c.if-not-is_true_now.false) v in
     let j = rw (w.ensures.context, inv.context) at y.ensures.came in
-    let e2 = j S start h (Again (erase c.args.condition.now) (map erase c.args.body.now) ∷ k) me names size st e within m1 in
+    let e2 = j S start (Again (erase c.args.condition.now) (map erase c.args.body.now) ∷ k) names size st e within m1 in
     let stop = sym c.goes_on-in-turns.ensures ∙ c.if-not-goes_on-2.true in
-    rw (c.out_of_loop-then-not-goes_on-2.ensures stop) (again_out S _ start h _ _ (erase c.args.condition.now) (map erase c.args.body.now) k _ _ _ stop e2)
+    rw (c.out_of_loop-then-not-goes_on-2.ensures stop) (again_out S _ start _ _ _ (erase c.args.condition.now) (map erase c.args.body.now) k _ _ _ stop e2)
 
 pub repeat-turns-preserved : goal.repeat-turns-preserved
 repeat-turns-preserved g m c =
@@ -486,13 +497,13 @@ repeat-turns-preserved g m c =
           let f = rw inv.context at w.ensures.kept in
           let j = rw (w.ensures.context, inv.context) at y.ensures.kept in
           j S names size st e within i p (omega (arith, q, w.ensures.base, inv.base)) ∙ (f S names size st e under i p (omega (arith, q, inv.base)) ∙ inv.kept S names size st e l i p q);
-      came = λ S start h k me names size st e l a.
+      came = λ S start k names size st e l a.
           let inv = c.turns.invariant in
           let w = c.evaluate_call-came in
           let under = moved _ _ inv.base inv.room (sub (fits S c.args.condition.now) l (fst _ _ l.fits)) in
-          let i1 = on _ (inv.came S start h k me names size st e l a) refl in
+          let i1 = on _ (inv.came S start k names size st e l a) refl in
           let f = rw inv.context at w.ensures.came in
-          let e1 = f S start h (Test (erase c.args.condition.now) (map erase c.args.body.now) ∷ k) me names size st e under i1 in
+          let e1 = f S start (Test (erase c.args.condition.now) (map erase c.args.body.now) ∷ k) names size st e under i1 in
           let none = sym c.is_left.ensures ∙ c.if-is_left.false in
           let v = given w.result w.new.self.value w.new.self.leave none e1 in
           let t = sym (c.is_true_now.ensures none) in
@@ -500,8 +511,8 @@ repeat-turns-preserved g m c =
           let within = moved _ _ (w.ensures.base ∙ inv.base) (w.ensures.room ∙ inv.room) (sub (every (map (fits S) c.args.body.now)) l (snd _ _ l.fits)) in
           let m1 = test_true (t ∙ c.if-not-is_true_now.false) v in
           let j = rw (w.ensures.context, inv.context) at y.ensures.came in
-          let e2 = j S start h (Again (erase c.args.condition.now) (map erase c.args.body.now) ∷ k) me names size st e within m1 in
-          again S _ start h _ _ (erase c.args.condition.now) (map erase c.args.body.now) k _ _ _ (sym c.goes_on-in-turns.ensures ∙ c.if-not-goes_on-2.false) e2;
+          let e2 = j S start (Again (erase c.args.condition.now) (map erase c.args.body.now) ∷ k) names size st e within m1 in
+          again S _ start _ _ _ (erase c.args.condition.now) (map erase c.args.body.now) k _ _ _ (sym c.goes_on-in-turns.ensures ∙ c.if-not-goes_on-2.false) e2;
     }
 
 pub repeat-turns-preserved-then-is_left : goal.repeat-turns-preserved-then-is_left
@@ -520,151 +531,136 @@ repeat-turns-preserved-then-is_left g m c =
           let under = moved _ _ inv.base inv.room (sub (fits S c.args.condition.now) l (fst _ _ l.fits)) in
           let f = rw inv.context at w.ensures.kept in
           f S names size st e under i p (omega (arith, q, inv.base)) ∙ inv.kept S names size st e l i p q;
-      came = λ S start h k me names size st e l a.
+      came = λ S start k names size st e l a.
           let inv = c.turns.invariant in
           let w = c.evaluate_call-came in
           let under = moved _ _ inv.base inv.room (sub (fits S c.args.condition.now) l (fst _ _ l.fits)) in
-          let i1 = on _ (inv.came S start h k me names size st e l a) refl in
+          let i1 = on _ (inv.came S start k names size st e l a) refl in
           let f = rw inv.context at w.ensures.came in
-          let e1 = f S start h (Test (erase c.args.condition.now) (map erase c.args.body.now) ∷ k) me names size st e under i1 in
+          let e1 = f S start (Test (erase c.args.condition.now) (map erase c.args.body.now) ∷ k) names size st e under i1 in
           let z = gone w.result w.new.self.value w.new.self.leave (sym c.is_left.ensures ∙ c.if-is_left.true) in
-          tested_again S _ start h w.new.self.leave w.new.self.value _ (erase c.args.condition.now) (map erase c.args.body.now) k _ _ _ (ap goes_on (sym z) ∙ (sym c.goes_on.ensures ∙ c.if-not-goes_on.false)) (comes S _ start h _ _ _ _ _ _ _ (sym z) e1);
+          tested_again S _ start _ w.new.self.leave w.new.self.value _ (erase c.args.condition.now) (map erase c.args.body.now) k _ _ _ (ap goes_on (sym z) ∙ (sym c.goes_on.ensures ∙ c.if-not-goes_on.false)) (comes S _ start _ _ _ _ _ _ _ _ (sym z) e1);
     }
 
 pub read_element-returns-then-is_left-clause-came : goal.read_element-returns-then-is_left-clause-came
-read_element-returns-then-is_left-clause-came g m c = λ op value S start h k me names size st e l a.
+read_element-returns-then-is_left-clause-came g m c = λ op value S start k names size st e l a.
     let w = c.walk-came in
-    let e1 = w.ensures.came S start h (Then (IndexedBy (erase c.args.index.now) op value c.args.at) ∷ k) me names size st e (sub (fits S c.args.receiver.now) l (fst _ _ l.fits)) a in
-    passes S _ start h w.result w.new.self.value w.new.self.leave _ (IndexedBy (erase c.args.index.now) op value c.args.at) k _ _ _ (sym c.is_left.ensures ∙ c.if-is_left.true) e1
+    let e1 = w.ensures.came S start (Then (IndexedBy (erase c.args.index.now) op value c.args.at) ∷ k) names size st e (sub (fits S c.args.receiver.now) l (fst _ _ l.fits)) a in
+    passes S _ start _ w.result w.new.self.value w.new.self.leave _ (IndexedBy (erase c.args.index.now) op value c.args.at) k _ _ _ (sym c.is_left.ensures ∙ c.if-is_left.true) e1
 
 pub read_element-returns-then-is_left-2-clause-came : goal.read_element-returns-then-is_left-2-clause-came
-read_element-returns-then-is_left-2-clause-came g m c = λ op value S start h k me names size st e l a.
+read_element-returns-then-is_left-2-clause-came g m c = λ op value S start k names size st e l a.
     let w = c.walk-came in
-    let e1 = w.ensures.came S start h (Then (IndexedBy (erase c.args.index.now) op value c.args.at) ∷ k) me names size st e (sub (fits S c.args.receiver.now) l (fst _ _ l.fits)) a in
+    let e1 = w.ensures.came S start (Then (IndexedBy (erase c.args.index.now) op value c.args.at) ∷ k) names size st e (sub (fits S c.args.receiver.now) l (fst _ _ l.fits)) a in
     let first = value_of w.result w.new.self.value in
     let g1 = given w.result w.new.self.value w.new.self.leave (sym c.is_left.ensures ∙ c.if-is_left.false) e1 in
     let u = c.walk-came-2 in
     let under = moved _ _ w.ensures.base w.ensures.room (sub (fits S c.args.index.now) l (snd _ _ l.fits)) in
     let f = rw w.ensures.context at u.ensures.came in
-    let e2 = f S start h (Then (IndexOf first op value c.args.at) ∷ k) me names size st e under (on _ g1 refl) in
-    passes S _ start h u.result u.new.self.value u.new.self.leave _ (IndexOf first op value c.args.at) k _ _ _ (sym c.is_left-2.ensures ∙ c.if-is_left-2.true) e2
+    let e2 = f S start (Then (IndexOf first op value c.args.at) ∷ k) names size st e under (on _ g1 refl) in
+    passes S _ start _ u.result u.new.self.value u.new.self.leave _ (IndexOf first op value c.args.at) k _ _ _ (sym c.is_left-2.ensures ∙ c.if-is_left-2.true) e2
 
 pub read_element-returns-clause-came : goal.read_element-returns-clause-came
-read_element-returns-clause-came g m c = λ op value S start h k me names size st e l a.
+read_element-returns-clause-came g m c = λ op value S start k names size st e l a.
     let w = c.walk-came in
-    let e1 = w.ensures.came S start h (Then (IndexedBy (erase c.args.index.now) op value c.args.at) ∷ k) me names size st e (sub (fits S c.args.receiver.now) l (fst _ _ l.fits)) a in
+    let e1 = w.ensures.came S start (Then (IndexedBy (erase c.args.index.now) op value c.args.at) ∷ k) names size st e (sub (fits S c.args.receiver.now) l (fst _ _ l.fits)) a in
     let first = value_of w.result w.new.self.value in
     let g1 = given w.result w.new.self.value w.new.self.leave (sym c.is_left.ensures ∙ c.if-is_left.false) e1 in
     let u = c.walk-came-2 in
     let under = moved _ _ w.ensures.base w.ensures.room (sub (fits S c.args.index.now) l (snd _ _ l.fits)) in
     let f = rw w.ensures.context at u.ensures.came in
-    let e2 = f S start h (Then (IndexOf first op value c.args.at) ∷ k) me names size st e under (on _ g1 refl) in
+    let e2 = f S start (Then (IndexOf first op value c.args.at) ∷ k) names size st e under (on _ g1 refl) in
     let second = value_of u.result u.new.self.value in
     let g2 = given u.result u.new.self.value u.new.self.leave (sym c.is_left-2.ensures ∙ c.if-is_left-2.false) e2 in
     let o = c.raise.ensures in
-    rw (o.gives, o.left, o.store) (same (on _ g2 refl) (no_such S first (codes "[]") (second ∷ []) None c.args.at (Then (ReadOf (OfElement first second) op value c.args.at) ∷ k) _ _ _ st.classes refl))
-
-pub refuse_value-returns-then-is_left-clause-came : goal.refuse_value-returns-then-is_left-clause-came
-refuse_value-returns-then-is_left-clause-came g m c = λ receiver name S start h k me names size st e l a.
-    let w = c.walk-came in
-    let e1 = w.ensures.came S start h (Then (WriteTo (OfAttribute receiver (text_of S name)) c.args.at) ∷ k) me names size st e (sub (fits S c.args.value.now) l (snd _ _ l.fits)) a in
-    passes S _ start h w.result w.new.self.value w.new.self.leave _ (WriteTo (OfAttribute receiver (text_of S name)) c.args.at) k _ _ _ (sym c.is_left.ensures ∙ c.if-is_left.true) e1
-
-pub refuse_value-returns-clause-came : goal.refuse_value-returns-clause-came
-refuse_value-returns-clause-came g m c = λ receiver name S start h k me names size st e l a.
-    let w = c.walk-came in
-    let e1 = w.ensures.came S start h (Then (WriteTo (OfAttribute receiver (text_of S name)) c.args.at) ∷ k) me names size st e (sub (fits S c.args.value.now) l (snd _ _ l.fits)) a in
-    let v = value_of w.result w.new.self.value in
-    let g1 = given w.result w.new.self.value w.new.self.leave (sym c.is_left.ensures ∙ c.if-is_left.false) e1 in
-    let o = c.raise.ensures in
-    rw (o.gives, o.left, o.store) (same (on _ g1 refl) (no_such S receiver (text_of S name ++ codes "=") (v ∷ []) None c.args.at (Then (Instead v) ∷ k) _ _ _ st.classes (fst _ _ l.fits)))
+    rw (o.gives, o.left, o.store) (same (on _ g2 refl) (no_such S first (codes "[]") (second ∷ []) None c.args.at (Then (ReadOf (OfElement first second) op value c.args.at) ∷ k) _ _ _ (operator_none c.args.self.now.context.script.now S st first (codes "[]") refl) refl))
 
 pub update_local-returns-then-is_left-clause-came : goal.update_local-returns-then-is_left-clause-came
-update_local-returns-then-is_left-clause-came g m c = λ name S start h k me names size st e l a.
+update_local-returns-then-is_left-clause-came g m c = λ name S start k names size st e l a.
     let len : length names ≤ length c.args.room.now = omega (arith, l.within, l.below, l.room) in
     let r = c.read-current in
-    let come = reads S _ start h _ (Then (ReadOf (OfLocal name) c.args.op (erase c.args.value.now) c.args.at) ∷ k) c.args.depth _ name names c.args.room.now c.args.slot me (outcome r.result r.new.self.value r.new.self.leave) len (fst _ _ l.fits) r.ensures.gives a in
-    rw (r.ensures.left, r.ensures.store) (passes S _ start h r.result r.new.self.value r.new.self.leave _ (ReadOf (OfLocal name) c.args.op (erase c.args.value.now) c.args.at) k _ _ _ (sym c.is_left.ensures ∙ c.if-is_left.true) come)
+    let come = reads S _ start _ _ (Then (ReadOf (OfLocal name) c.args.op (erase c.args.value.now) c.args.at) ∷ k) c.args.depth _ name names c.args.room.now c.args.slot _ (outcome r.result r.new.self.value r.new.self.leave) len (fst _ _ l.fits) r.ensures.gives a in
+    rw (r.ensures.left, r.ensures.store) (passes S _ start _ r.result r.new.self.value r.new.self.leave _ (ReadOf (OfLocal name) c.args.op (erase c.args.value.now) c.args.at) k _ _ _ (sym c.is_left.ensures ∙ c.if-is_left.true) come)
 
 pub update_local-returns-then-is_true_now-clause-came : goal.update_local-returns-then-is_true_now-clause-came
-update_local-returns-then-is_true_now-clause-came g m c = λ name S start h k me names size st e l a.
+update_local-returns-then-is_true_now-clause-came g m c = λ name S start k names size st e l a.
     let len : length names ≤ length c.args.room.now = omega (arith, l.within, l.below, l.room) in
     let r = c.read-current in
-    let come = reads S _ start h _ (Then (ReadOf (OfLocal name) c.args.op (erase c.args.value.now) c.args.at) ∷ k) c.args.depth _ name names c.args.room.now c.args.slot me (outcome r.result r.new.self.value r.new.self.leave) len (fst _ _ l.fits) r.ensures.gives a in
+    let come = reads S _ start _ _ (Then (ReadOf (OfLocal name) c.args.op (erase c.args.value.now) c.args.at) ∷ k) c.args.depth _ name names c.args.room.now c.args.slot _ (outcome r.result r.new.self.value r.new.self.leave) len (fst _ _ l.fits) r.ensures.gives a in
     let none = sym c.is_left.ensures ∙ c.if-is_left.false in
     let g1 = given r.result r.new.self.value r.new.self.leave none come in
     let v = value_of r.result r.new.self.value in
     let t = sym (c.is_true_now.ensures none) ∙ c.if-is_true_now.true in
-    rw (r.ensures.left, r.ensures.store) (comes S _ start h _ k _ _ _ _ _ (gave r.result r.new.self.value r.new.self.leave none) (or_else_stays S _ start h v (OfLocal name) c.args.op (erase c.args.value.now) c.args.at c.in-OrElse.is t g1))
+    rw (r.ensures.left, r.ensures.store) (comes S _ start _ _ k _ _ _ _ _ (gave r.result r.new.self.value r.new.self.leave none) (or_else_stays S _ start _ v (OfLocal name) c.args.op (erase c.args.value.now) c.args.at c.in-OrElse.is t g1))
 
 pub update_local-returns-else-is_true_now-clause-came : goal.update_local-returns-else-is_true_now-clause-came
-update_local-returns-else-is_true_now-clause-came g m c = λ name S start h k me names size st e l a.
+update_local-returns-else-is_true_now-clause-came g m c = λ name S start k names size st e l a.
     let len : length names ≤ length c.args.room.now = omega (arith, l.within, l.below, l.room) in
     let r = c.read-current in
-    let come = reads S _ start h _ (Then (ReadOf (OfLocal name) c.args.op (erase c.args.value.now) c.args.at) ∷ k) c.args.depth _ name names c.args.room.now c.args.slot me (outcome r.result r.new.self.value r.new.self.leave) len (fst _ _ l.fits) r.ensures.gives a in
+    let come = reads S _ start _ _ (Then (ReadOf (OfLocal name) c.args.op (erase c.args.value.now) c.args.at) ∷ k) c.args.depth _ name names c.args.room.now c.args.slot _ (outcome r.result r.new.self.value r.new.self.leave) len (fst _ _ l.fits) r.ensures.gives a in
     let none = sym c.is_left.ensures ∙ c.if-is_left.false in
     let g1 = given r.result r.new.self.value r.new.self.leave none come in
     let v = value_of r.result r.new.self.value in
     let t = sym (c.is_true_now.ensures none) ∙ c.if-is_true_now.false in
     let under = moved _ _ r.ensures.base refl l in
     let f = rw (r.ensures.context, r.ensures.left, r.ensures.store) at c.set_local.ensures.came in
-    f name (WriteTo (OfLocal name) c.args.at) (updating c.args.at) S start h k me names size st e under (or_else_goes S _ start h v (OfLocal name) c.args.op (erase c.args.value.now) c.args.at c.in-OrElse.is t g1)
+    f name (WriteTo (OfLocal name) c.args.at) (updating c.args.at) S start k names size st e under (or_else_goes S _ start _ v (OfLocal name) c.args.op (erase c.args.value.now) c.args.at c.in-OrElse.is t g1)
 
 pub update_local-returns-then-not-is_true_now-clause-came : goal.update_local-returns-then-not-is_true_now-clause-came
-update_local-returns-then-not-is_true_now-clause-came g m c = λ name S start h k me names size st e l a.
+update_local-returns-then-not-is_true_now-clause-came g m c = λ name S start k names size st e l a.
     let len : length names ≤ length c.args.room.now = omega (arith, l.within, l.below, l.room) in
     let r = c.read-current in
-    let come = reads S _ start h _ (Then (ReadOf (OfLocal name) c.args.op (erase c.args.value.now) c.args.at) ∷ k) c.args.depth _ name names c.args.room.now c.args.slot me (outcome r.result r.new.self.value r.new.self.leave) len (fst _ _ l.fits) r.ensures.gives a in
+    let come = reads S _ start _ _ (Then (ReadOf (OfLocal name) c.args.op (erase c.args.value.now) c.args.at) ∷ k) c.args.depth _ name names c.args.room.now c.args.slot _ (outcome r.result r.new.self.value r.new.self.leave) len (fst _ _ l.fits) r.ensures.gives a in
     let none = sym c.is_left.ensures ∙ c.if-is_left.false in
     let g1 = given r.result r.new.self.value r.new.self.leave none come in
     let v = value_of r.result r.new.self.value in
     let t = sym (c.is_true_now-in-AndThen.ensures none) ∙ c.if-not-is_true_now.true in
-    rw (r.ensures.left, r.ensures.store) (comes S _ start h _ k _ _ _ _ _ (gave r.result r.new.self.value r.new.self.leave none) (and_then_stays S _ start h v (OfLocal name) c.args.op (erase c.args.value.now) c.args.at c.in-AndThen.is t g1))
+    rw (r.ensures.left, r.ensures.store) (comes S _ start _ _ k _ _ _ _ _ (gave r.result r.new.self.value r.new.self.leave none) (and_then_stays S _ start _ v (OfLocal name) c.args.op (erase c.args.value.now) c.args.at c.in-AndThen.is t g1))
 
 pub update_local-returns-else-not-is_true_now-clause-came : goal.update_local-returns-else-not-is_true_now-clause-came
-update_local-returns-else-not-is_true_now-clause-came g m c = λ name S start h k me names size st e l a.
+update_local-returns-else-not-is_true_now-clause-came g m c = λ name S start k names size st e l a.
     let len : length names ≤ length c.args.room.now = omega (arith, l.within, l.below, l.room) in
     let r = c.read-current in
-    let come = reads S _ start h _ (Then (ReadOf (OfLocal name) c.args.op (erase c.args.value.now) c.args.at) ∷ k) c.args.depth _ name names c.args.room.now c.args.slot me (outcome r.result r.new.self.value r.new.self.leave) len (fst _ _ l.fits) r.ensures.gives a in
+    let come = reads S _ start _ _ (Then (ReadOf (OfLocal name) c.args.op (erase c.args.value.now) c.args.at) ∷ k) c.args.depth _ name names c.args.room.now c.args.slot _ (outcome r.result r.new.self.value r.new.self.leave) len (fst _ _ l.fits) r.ensures.gives a in
     let none = sym c.is_left.ensures ∙ c.if-is_left.false in
     let g1 = given r.result r.new.self.value r.new.self.leave none come in
     let v = value_of r.result r.new.self.value in
     let t = sym (c.is_true_now-in-AndThen.ensures none) ∙ c.if-not-is_true_now.false in
     let under = moved _ _ r.ensures.base refl l in
     let f = rw (r.ensures.context, r.ensures.left, r.ensures.store) at c.set_local-in-AndThen.ensures.came in
-    f name (WriteTo (OfLocal name) c.args.at) (updating c.args.at) S start h k me names size st e under (and_then_goes S _ start h v (OfLocal name) c.args.op (erase c.args.value.now) c.args.at c.in-AndThen.is t g1)
+    f name (WriteTo (OfLocal name) c.args.at) (updating c.args.at) S start k names size st e under (and_then_goes S _ start _ v (OfLocal name) c.args.op (erase c.args.value.now) c.args.at c.in-AndThen.is t g1)
 
 pub update_local-returns-then-is_left-2-clause-came : goal.update_local-returns-then-is_left-2-clause-came
-update_local-returns-then-is_left-2-clause-came g m c = λ name S start h k me names size st e l a.
+update_local-returns-then-is_left-2-clause-came g m c = λ name S start k names size st e l a.
     let len : length names ≤ length c.args.room.now = omega (arith, l.within, l.below, l.room) in
     let r = c.read-current in
-    let come = reads S _ start h _ (Then (ReadOf (OfLocal name) c.args.op (erase c.args.value.now) c.args.at) ∷ k) c.args.depth _ name names c.args.room.now c.args.slot me (outcome r.result r.new.self.value r.new.self.leave) len (fst _ _ l.fits) r.ensures.gives a in
+    let come = reads S _ start _ _ (Then (ReadOf (OfLocal name) c.args.op (erase c.args.value.now) c.args.at) ∷ k) c.args.depth _ name names c.args.room.now c.args.slot _ (outcome r.result r.new.self.value r.new.self.leave) len (fst _ _ l.fits) r.ensures.gives a in
     let none = sym c.is_left.ensures ∙ c.if-is_left.false in
     let g1 = given r.result r.new.self.value r.new.self.leave none come in
     let v = value_of r.result r.new.self.value in
-    let g2 = operates S _ start h v (OfLocal name) c.args.op (erase c.args.value.now) c.args.at c.in_default.not-OrElse c.in_default.not-AndThen g1 in
+    let g2 = operates S _ start _ v (OfLocal name) c.args.op (erase c.args.value.now) c.args.at c.in_default.not-OrElse c.in_default.not-AndThen g1 in
     let y = c.combine-made in
     let f = rw (r.ensures.context, r.ensures.left, r.ensures.store) at y.ensures.came in
     let under = moved _ _ r.ensures.base refl (sub (fits S c.args.value.now) l (snd _ _ l.fits)) in
-    let e2 = f S start h (Then (WriteTo (OfLocal name) c.args.at) ∷ k) me names size st e under g2 in
-    passes S _ start h y.result y.new.self.value y.new.self.leave _ (WriteTo (OfLocal name) c.args.at) k _ _ _ (sym c.is_left-in_default.ensures ∙ c.if-is_left-2.true) e2
+    let e2 = f S start (Then (WriteTo (OfLocal name) c.args.at) ∷ k) names size st e under g2 in
+    passes S _ start _ y.result y.new.self.value y.new.self.leave _ (WriteTo (OfLocal name) c.args.at) k _ _ _ (sym c.is_left-in_default.ensures ∙ c.if-is_left-2.true) e2
 
 pub update_local-returns-else-is_left-2-clause-came : goal.update_local-returns-else-is_left-2-clause-came
-update_local-returns-else-is_left-2-clause-came g m c = λ name S start h k me names size st e l a.
+update_local-returns-else-is_left-2-clause-came g m c = λ name S start k names size st e l a.
     let len : length names ≤ length c.args.room.now = omega (arith, l.within, l.below, l.room) in
     let r = c.read-current in
-    let come = reads S _ start h _ (Then (ReadOf (OfLocal name) c.args.op (erase c.args.value.now) c.args.at) ∷ k) c.args.depth _ name names c.args.room.now c.args.slot me (outcome r.result r.new.self.value r.new.self.leave) len (fst _ _ l.fits) r.ensures.gives a in
+    let come = reads S _ start _ _ (Then (ReadOf (OfLocal name) c.args.op (erase c.args.value.now) c.args.at) ∷ k) c.args.depth _ name names c.args.room.now c.args.slot _ (outcome r.result r.new.self.value r.new.self.leave) len (fst _ _ l.fits) r.ensures.gives a in
     let none = sym c.is_left.ensures ∙ c.if-is_left.false in
     let g1 = given r.result r.new.self.value r.new.self.leave none come in
     let v = value_of r.result r.new.self.value in
-    let g2 = operates S _ start h v (OfLocal name) c.args.op (erase c.args.value.now) c.args.at c.in_default.not-OrElse c.in_default.not-AndThen g1 in
+    let g2 = operates S _ start _ v (OfLocal name) c.args.op (erase c.args.value.now) c.args.at c.in_default.not-OrElse c.in_default.not-AndThen g1 in
     let y = c.combine-made in
     let f = rw (r.ensures.context, r.ensures.left, r.ensures.store) at y.ensures.came in
     let under = moved _ _ r.ensures.base refl (sub (fits S c.args.value.now) l (snd _ _ l.fits)) in
-    let e2 = f S start h (Then (WriteTo (OfLocal name) c.args.at) ∷ k) me names size st e under g2 in
+    let e2 = f S start (Then (WriteTo (OfLocal name) c.args.at) ∷ k) names size st e under g2 in
     let g3 = given y.result y.new.self.value y.new.self.leave (sym c.is_left-in_default.ensures ∙ c.if-is_left-2.false) e2 in
     let after : length names ≤ length y.new.room = omega (arith, len, y.ensures.room) in
-    rw (c.write.ensures.left, c.write.ensures.store) (assigned name (WriteTo (OfLocal name) c.args.at) names c.args.slot y.new.room c.write.new.room (value_of y.result y.new.self.value) me _ (updating c.args.at) after (fst _ _ l.fits) c.write.ensures.written g3)
+    rw (c.write.ensures.left, c.write.ensures.store) (assigned name (WriteTo (OfLocal name) c.args.at) names c.args.slot y.new.room c.write.new.room (value_of y.result y.new.self.value) _ _ (updating c.args.at) after (fst _ _ l.fits) c.write.ensures.written g3)
 
 pub update_local-returns-else-is_left-2-clause-kept : goal.update_local-returns-else-is_left-2-clause-kept
 update_local-returns-else-is_left-2-clause-kept g m c = λ name S names size st e l i p q.
@@ -682,101 +678,6 @@ update_local-returns-then-is_left-2-clause-kept g m c = λ name S names size st 
     let f = rw r.ensures.context at y.ensures.kept in
     let under = moved _ _ r.ensures.base refl (sub (fits S c.args.value.now) l (snd _ _ l.fits)) in
     f S names size st e under i p (omega (arith, q, r.ensures.base))
-
-pub refuse_attribute-returns-then-is_true_now-clause-came : goal.refuse_attribute-returns-then-is_true_now-clause-came
-refuse_attribute-returns-then-is_true_now-clause-came g m c = λ receiver name S start h k me names size st e l a.
-    let t = sym (c.is_true_now.ensures c.requires.came) ∙ c.if-is_true_now.true in
-    comes S _ start h _ k _ _ _ _ _ (gave c.args.current c.args.self.now.value c.args.self.now.leave c.requires.came) (or_else_stays S _ start h (value_of c.args.current c.args.self.now.value) (OfAttribute receiver (text_of S name)) c.args.op (erase c.args.value.now) c.args.at c.in-OrElse.is t a)
-
-pub refuse_attribute-returns-else-is_true_now-clause-came : goal.refuse_attribute-returns-else-is_true_now-clause-came
-refuse_attribute-returns-else-is_true_now-clause-came g m c = λ receiver name S start h k me names size st e l a.
-    let t = sym (c.is_true_now.ensures c.requires.came) ∙ c.if-is_true_now.false in
-    c.refuse_value.ensures.came receiver name S start h k me names size st e l (or_else_goes S _ start h (value_of c.args.current c.args.self.now.value) (OfAttribute receiver (text_of S name)) c.args.op (erase c.args.value.now) c.args.at c.in-OrElse.is t a)
-
-pub refuse_attribute-returns-then-not-is_true_now-clause-came : goal.refuse_attribute-returns-then-not-is_true_now-clause-came
-refuse_attribute-returns-then-not-is_true_now-clause-came g m c = λ receiver name S start h k me names size st e l a.
-    let t = sym (c.is_true_now-in-AndThen.ensures c.requires.came) ∙ c.if-not-is_true_now.true in
-    comes S _ start h _ k _ _ _ _ _ (gave c.args.current c.args.self.now.value c.args.self.now.leave c.requires.came) (and_then_stays S _ start h (value_of c.args.current c.args.self.now.value) (OfAttribute receiver (text_of S name)) c.args.op (erase c.args.value.now) c.args.at c.in-AndThen.is t a)
-
-pub refuse_attribute-returns-else-not-is_true_now-clause-came : goal.refuse_attribute-returns-else-not-is_true_now-clause-came
-refuse_attribute-returns-else-not-is_true_now-clause-came g m c = λ receiver name S start h k me names size st e l a.
-    let t = sym (c.is_true_now-in-AndThen.ensures c.requires.came) ∙ c.if-not-is_true_now.false in
-    c.refuse_value-in-AndThen.ensures.came receiver name S start h k me names size st e l (and_then_goes S _ start h (value_of c.args.current c.args.self.now.value) (OfAttribute receiver (text_of S name)) c.args.op (erase c.args.value.now) c.args.at c.in-AndThen.is t a)
-
-pub refuse_attribute-returns-then-is_left-clause-came : goal.refuse_attribute-returns-then-is_left-clause-came
-refuse_attribute-returns-then-is_left-clause-came g m c = λ receiver name S start h k me names size st e l a.
-    let y = c.combine-made in
-    let e2 = y.ensures.came S start h (Then (WriteTo (OfAttribute receiver (text_of S name)) c.args.at) ∷ k) me names size st e (sub (fits S c.args.value.now) l (snd _ _ l.fits)) (operates S _ start h (value_of c.args.current c.args.self.now.value) (OfAttribute receiver (text_of S name)) c.args.op (erase c.args.value.now) c.args.at c.in_default.not-OrElse c.in_default.not-AndThen a) in
-    passes S _ start h y.result y.new.self.value y.new.self.leave _ (WriteTo (OfAttribute receiver (text_of S name)) c.args.at) k _ _ _ (sym c.is_left.ensures ∙ c.if-is_left.true) e2
-
-pub refuse_attribute-returns-else-is_left-clause-came : goal.refuse_attribute-returns-else-is_left-clause-came
-refuse_attribute-returns-else-is_left-clause-came g m c = λ receiver name S start h k me names size st e l a.
-    let y = c.combine-made in
-    let e2 = y.ensures.came S start h (Then (WriteTo (OfAttribute receiver (text_of S name)) c.args.at) ∷ k) me names size st e (sub (fits S c.args.value.now) l (snd _ _ l.fits)) (operates S _ start h (value_of c.args.current c.args.self.now.value) (OfAttribute receiver (text_of S name)) c.args.op (erase c.args.value.now) c.args.at c.in_default.not-OrElse c.in_default.not-AndThen a) in
-    let g2 = given y.result y.new.self.value y.new.self.leave (sym c.is_left.ensures ∙ c.if-is_left.false) e2 in
-    let v = value_of y.result y.new.self.value in
-    let o = c.raise.ensures in
-    rw (o.gives, o.left, o.store) (same (on _ g2 refl) (no_such S receiver (text_of S name ++ codes "=") (v ∷ []) None c.args.at (Then (Instead v) ∷ k) _ _ _ st.classes (fst _ _ l.fits)))
-
-pub update_attribute-returns-then-is_left-clause-came : goal.update_attribute-returns-then-is_left-clause-came
-update_attribute-returns-then-is_left-clause-came g m c = λ name S start h k me names size st e l a.
-    let w = c.walk-came in
-    let rest = snd _ _ (snd _ _ l.fits) in
-    let e1 = w.ensures.came S start h (Then (MemberOf (text_of S name) c.args.op (erase c.args.value.now) c.args.at) ∷ k) me names size st e (sub (fits S c.args.receiver.now) l (fst _ _ rest)) a in
-    passes S _ start h w.result w.new.self.value w.new.self.leave _ (MemberOf (text_of S name) c.args.op (erase c.args.value.now) c.args.at) k _ _ _ (sym c.is_left.ensures ∙ c.if-is_left.true) e1
-
-pub update_attribute-returns-then-is_left-2-clause-came : goal.update_attribute-returns-then-is_left-2-clause-came
-update_attribute-returns-then-is_left-2-clause-came g m c = λ name S start h k me names size st e l a.
-    let w = c.walk-came in
-    let rest = snd _ _ (snd _ _ l.fits) in
-    let e1 = w.ensures.came S start h (Then (MemberOf (text_of S name) c.args.op (erase c.args.value.now) c.args.at) ∷ k) me names size st e (sub (fits S c.args.receiver.now) l (fst _ _ rest)) a in
-    let first = value_of w.result w.new.self.value in
-    let g1 = given w.result w.new.self.value w.new.self.leave (sym c.is_left.ensures ∙ c.if-is_left.false) e1 in
-    let t = c.take-receiver in
-    let m = c.call_method-current in
-    let number = same_is (builtin_of (text_of S name)) c.args.number (fst _ _ l.fits) in
-    let d = rw (t.ensures.context, w.ensures.context, sym e, t.ensures.value) at m.ensures.gives (text_of S name) number in
-    let e2 = calls S _ start h _ first (text_of S name) [] c.args.at (Then (ReadOf (OfAttribute first (text_of S name)) c.args.op (erase c.args.value.now) c.args.at) ∷ k) _ _ _ _ st.classes d (on _ g1 refl) in
-    rw (m.ensures.left, m.ensures.store, t.ensures.left, t.ensures.store) (passes S _ start h m.result m.new.self.value m.new.self.leave _ (ReadOf (OfAttribute first (text_of S name)) c.args.op (erase c.args.value.now) c.args.at) k _ _ _ (sym c.is_left-2.ensures ∙ c.if-is_left-2.true) e2)
-
-pub update_attribute-returns-clause-came : goal.update_attribute-returns-clause-came
-update_attribute-returns-clause-came g m c = λ name S start h k me names size st e l a.
-    let w = c.walk-came in
-    let rest = snd _ _ (snd _ _ l.fits) in
-    let e1 = w.ensures.came S start h (Then (MemberOf (text_of S name) c.args.op (erase c.args.value.now) c.args.at) ∷ k) me names size st e (sub (fits S c.args.receiver.now) l (fst _ _ rest)) a in
-    let first = value_of w.result w.new.self.value in
-    let g1 = given w.result w.new.self.value w.new.self.leave (sym c.is_left.ensures ∙ c.if-is_left.false) e1 in
-    let t = c.take-receiver in
-    let m = c.call_method-current in
-    let number = same_is (builtin_of (text_of S name)) c.args.number (fst _ _ l.fits) in
-    let d = rw (t.ensures.context, w.ensures.context, sym e, t.ensures.value) at m.ensures.gives (text_of S name) number in
-    let e2 = calls S _ start h _ first (text_of S name) [] c.args.at (Then (ReadOf (OfAttribute first (text_of S name)) c.args.op (erase c.args.value.now) c.args.at) ∷ k) _ _ _ _ st.classes d (on _ g1 refl) in
-    let g2 = given m.result m.new.self.value m.new.self.leave (sym c.is_left-2.ensures ∙ c.if-is_left-2.false) e2 in
-    let y = c.refuse_attribute in
-    let f = rw (m.ensures.context, m.ensures.left, m.ensures.store, t.ensures.context, t.ensures.left, t.ensures.store, w.ensures.context) at y.ensures.came in
-    let right = left_unwritten S c.args.number name c.args.receiver.now c.args.value.now names size l.fits in
-    let under = moved _ _ (m.ensures.base ∙ (t.ensures.base ∙ w.ensures.base)) w.ensures.room (sub (unwritten name (λ S. fits S c.args.value.now) S) l right) in
-    f first name S start h k me names size st e under g2
-
-pub update_attribute-returns-then-is_left-clause-kept : goal.update_attribute-returns-then-is_left-clause-kept
-update_attribute-returns-then-is_left-clause-kept g m c = λ name S names size st e l i p q.
-    c.walk-came.ensures.kept S names size st e (sub (fits S c.args.receiver.now) l (fst _ _ (snd _ _ (snd _ _ l.fits)))) i p q
-
-pub update_attribute-returns-then-is_left-2-clause-kept : goal.update_attribute-returns-then-is_left-2-clause-kept
-update_attribute-returns-then-is_left-2-clause-kept g m c = λ name S names size st e l i p q.
-    c.walk-came.ensures.kept S names size st e (sub (fits S c.args.receiver.now) l (fst _ _ (snd _ _ (snd _ _ l.fits)))) i p q
-
-pub update_attribute-returns-clause-kept : goal.update_attribute-returns-clause-kept
-update_attribute-returns-clause-kept g m c = λ name S names size st e l i p q.
-    let w = c.walk-came in
-    let t = c.take-receiver in
-    let m = c.call_method-current in
-    let rest = snd _ _ (snd _ _ l.fits) in
-    let y = c.refuse_attribute in
-    let f = rw (m.ensures.context, t.ensures.context, w.ensures.context) at y.ensures.kept in
-    let base = m.ensures.base ∙ (t.ensures.base ∙ w.ensures.base) in
-    let under = moved _ _ base w.ensures.room (sub (fits S c.args.value.now) l (snd _ _ rest)) in
-    f S names size st e under i p (omega (arith, q, base)) ∙ w.ensures.kept S names size st e (sub (fits S c.args.receiver.now) l (fst _ _ rest)) i p q
 
 pub arguments-returns-then-is_left-clause-kept : goal.arguments-returns-then-is_left-clause-kept
 arguments-returns-then-is_left-clause-kept g m c = λ S names size st e l i p q.
@@ -799,7 +700,7 @@ arguments-returns-then-self-room-clause-kept g m c = λ S names size st e l i p 
     f S names size st e under i p (omega (arith, q, inv.base)) ∙ inv.kept S names size st e l i p q
 
 pub arguments-returns-then-is_left-clause-came : goal.arguments-returns-then-is_left-clause-came
-arguments-returns-then-is_left-clause-came g m c = λ aim at S start h k me names size st e l a.
+arguments-returns-then-is_left-clause-came g m c = λ aim at S start k names size st e l a.
     let loop = c.each in
     let inv = loop.invariant in
     let w = c.evaluate-came in
@@ -808,14 +709,14 @@ arguments-returns-then-is_left-clause-came g m c = λ aim at S start h k me name
     let item = next_item _ _ c.arg-item.result c.each-test.true c.arg-item.is in
     let rest = map erase (drop (loop.arg-index + 1) c.args.args.now) in
     let step = Argument aim (map plain (take loop.arg-index (drop c.args.self.now.base loop.room))) rest at in
-    let h1 = on _ (passing _ (sym (ap (map erase) item)) (inv.came aim at S start h k me names size st e l a)) refl in
+    let h1 = on _ (passing _ (sym (ap (map erase) item)) (inv.came aim at S start k names size st e l a)) refl in
     let f = rw inv.context at w.ensures.came in
-    let come = f S start h (Then step ∷ k) me names size st e under h1 in
+    let come = f S start (Then step ∷ k) names size st e under h1 in
     let gone = sym c.is_left.ensures ∙ c.if-is_left.true in
-    only_left _ gone (passes S _ start h w.result w.new.self.value w.new.self.leave _ step k _ _ _ gone come)
+    only_left _ gone (passes S _ start _ w.result w.new.self.value w.new.self.leave _ step k _ _ _ gone come)
 
 pub arguments-returns-then-self-room-clause-came : goal.arguments-returns-then-self-room-clause-came
-arguments-returns-then-self-room-clause-came g m c = λ aim at S start h k me names size st e l a.
+arguments-returns-then-self-room-clause-came g m c = λ aim at S start k names size st e l a.
     let loop = c.each in
     let inv = loop.invariant in
     let w = c.evaluate-came in
@@ -824,40 +725,32 @@ arguments-returns-then-self-room-clause-came g m c = λ aim at S start h k me na
     let item = next_item _ _ c.arg-item.result c.each-test.true c.arg-item.is in
     let rest = map erase (drop (loop.arg-index + 1) c.args.args.now) in
     let step = Argument aim (map plain (take loop.arg-index (drop c.args.self.now.base loop.room))) rest at in
-    let h1 = on _ (passing _ (sym (ap (map erase) item)) (inv.came aim at S start h k me names size st e l a)) refl in
+    let h1 = on _ (passing _ (sym (ap (map erase) item)) (inv.came aim at S start k names size st e l a)) refl in
     let f = rw inv.context at w.ensures.came in
-    let come = f S start h (Then step ∷ k) me names size st e under h1 in
+    let come = f S start (Then step ∷ k) names size st e under h1 in
     let v = given w.result w.new.self.value w.new.self.leave (sym c.is_left.ensures ∙ c.if-is_left.false) come in
     let o = c.over.ensures in
     only_left _ (over_left c.over.result c.over.new.self.value c.over.new.self.leave _ o.gives) (rw (o.gives, o.left, o.store) (_, v, refl))
 
 pub arguments-returns-clause-came : goal.arguments-returns-clause-came
-arguments-returns-clause-came g m c = λ aim at S start h k me names size st e l a.
+arguments-returns-clause-came g m c = λ aim at S start k names size st e l a.
     let inv = c.each.invariant in
     let whole : c.each.arg-index ≡ length c.args.args.now = omega (arith, c.each-test.false, c.each.auto.arg-index-end) in
-    only_came _ refl (passed _ (ap (λ j. map plain (take j (drop c.args.self.now.base c.each.room))) (sym whole)) (passing [] (sym (ap (map erase) (drop_all _ _ c.each-test.false))) (inv.came aim at S start h k me names size st e l a)))
+    only_came _ refl (passed _ (ap (λ j. map plain (take j (drop c.args.self.now.base c.each.room))) (sym whole)) (passing [] (sym (ap (map erase) (drop_all _ _ c.each-test.false))) (inv.came aim at S start k names size st e l a)))
 
 pub send-returns-then-is_left-clause-kept : goal.send-returns-then-is_left-clause-kept
-send-returns-then-is_left-clause-kept g m c = λ name S names size st e l i p q.
+send-returns-then-is_left-clause-kept g m c = λ S names size st e l i p q.
     c.walk-came.ensures.kept S names size st e (sub (fits S c.args.receiver.now) l (fst _ _ (snd _ _ l.fits))) i p q
 
 pub send-returns-then-is_left-clause-came : goal.send-returns-then-is_left-clause-came
-send-returns-then-is_left-clause-came g m c = λ name S start h k me names size st e l a.
+send-returns-then-is_left-clause-came g m c = λ S start k names size st e l a.
     let w = c.walk-came in
-    let step = ReceiverOf (text_of S name) (map erase c.args.args.now) None c.args.at in
-    let come = w.ensures.came S start h (Then step ∷ k) me names size st e (sub (fits S c.args.receiver.now) l (fst _ _ (snd _ _ l.fits))) a in
-    passes S _ start h w.result w.new.self.value w.new.self.leave _ step k _ _ _ (sym c.is_left.ensures ∙ c.if-is_left.true) come
+    let step = ReceiverOf (text_of S c.args.name) (map erase c.args.args.now) None c.args.at in
+    let come = w.ensures.came S start (Then step ∷ k) names size st e (sub (fits S c.args.receiver.now) l (fst _ _ (snd _ _ l.fits))) a in
+    passes S _ start _ w.result w.new.self.value w.new.self.leave _ step k _ _ _ (sym c.is_left.ensures ∙ c.if-is_left.true) come
 
 pub send-returns-then-is_left-2-clause-kept : goal.send-returns-then-is_left-2-clause-kept
-send-returns-then-is_left-2-clause-kept g m c = λ name S names size st e l i p q.
-    let w = c.walk-came in
-    let first = w.ensures.kept S names size st e (sub (fits S c.args.receiver.now) l (fst _ _ (snd _ _ l.fits))) i p q in
-    let under = moved _ _ (c.take-receiver.ensures.base ∙ w.ensures.base) w.ensures.room (sub (every (map (fits S) c.args.args.now)) l (snd _ _ (snd _ _ l.fits))) in
-    let f = rw (c.take-receiver.ensures.context, w.ensures.context) at c.arguments-came.ensures.kept in
-    f S names size st e under i p (omega (arith, q, c.take-receiver.ensures.base, w.ensures.base)) ∙ first
-
-pub send-returns-clause-kept : goal.send-returns-clause-kept
-send-returns-clause-kept g m c = λ name S names size st e l i p q.
+send-returns-then-is_left-2-clause-kept g m c = λ S names size st e l i p q.
     let w = c.walk-came in
     let first = w.ensures.kept S names size st e (sub (fits S c.args.receiver.now) l (fst _ _ (snd _ _ l.fits))) i p q in
     let under = moved _ _ (c.take-receiver.ensures.base ∙ w.ensures.base) w.ensures.room (sub (every (map (fits S) c.args.args.now)) l (snd _ _ (snd _ _ l.fits))) in
@@ -865,124 +758,17 @@ send-returns-clause-kept g m c = λ name S names size st e l i p q.
     f S names size st e under i p (omega (arith, q, c.take-receiver.ensures.base, w.ensures.base)) ∙ first
 
 pub send-returns-then-is_left-2-clause-came : goal.send-returns-then-is_left-2-clause-came
-send-returns-then-is_left-2-clause-came g m c = λ name S start h k me names size st e l a.
+send-returns-then-is_left-2-clause-came g m c = λ S start k names size st e l a.
     let w = c.walk-came in
-    let step = ReceiverOf (text_of S name) (map erase c.args.args.now) None c.args.at in
-    let come = w.ensures.came S start h (Then step ∷ k) me names size st e (sub (fits S c.args.receiver.now) l (fst _ _ (snd _ _ l.fits))) a in
+    let step = ReceiverOf (text_of S c.args.name) (map erase c.args.args.now) None c.args.at in
+    let come = w.ensures.came S start (Then step ∷ k) names size st e (sub (fits S c.args.receiver.now) l (fst _ _ (snd _ _ l.fits))) a in
     let none = sym c.is_left.ensures ∙ c.if-is_left.false in
     let v = value_of w.result w.new.self.value in
     let g1 = given w.result w.new.self.value w.new.self.leave none come in
     let under = moved _ _ (c.take-receiver.ensures.base ∙ w.ensures.base) w.ensures.room (sub (every (map (fits S) c.args.args.now)) l (snd _ _ (snd _ _ l.fits))) in
     let f = rw (c.take-receiver.ensures.context, w.ensures.context, c.take-receiver.ensures.left, c.take-receiver.ensures.store) at c.arguments-came.ensures.came in
-    let p = f (OnReceiver v (text_of S name) None) c.args.at S start h k me names size st e under (on _ g1 refl) in
+    let p = f (OnReceiver v (text_of S c.args.name) None) c.args.at S start k names size st e under (on _ g1 refl) in
     p.0 (sym c.is_left-2.ensures ∙ c.if-is_left-2.true)
-
-pub send-returns-clause-came : goal.send-returns-clause-came
-send-returns-clause-came g m c = λ name S start h k me names size st e l a.
-    let w = c.walk-came in
-    let step = ReceiverOf (text_of S name) (map erase c.args.args.now) None c.args.at in
-    let come = w.ensures.came S start h (Then step ∷ k) me names size st e (sub (fits S c.args.receiver.now) l (fst _ _ (snd _ _ l.fits))) a in
-    let none = sym c.is_left.ensures ∙ c.if-is_left.false in
-    let v = value_of w.result w.new.self.value in
-    let g1 = given w.result w.new.self.value w.new.self.leave none come in
-    let under = moved _ _ (c.take-receiver.ensures.base ∙ w.ensures.base) w.ensures.room (sub (every (map (fits S) c.args.args.now)) l (snd _ _ (snd _ _ l.fits))) in
-    let f = rw (c.take-receiver.ensures.context, w.ensures.context, c.take-receiver.ensures.left, c.take-receiver.ensures.store) at c.arguments-came.ensures.came in
-    let p = f (OnReceiver v (text_of S name) None) c.args.at S start h k me names size st e under (on _ g1 refl) in
-    let r = c.arguments-came in
-    let came = sym c.is_left-2.ensures ∙ c.if-is_left-2.false in
-    let base = c.take-receiver.new.self.base in
-    let long : base + length c.args.args.now ≤ length r.new.room = omega (arith, r.ensures.base came, r.ensures.fits under.room) in
-    let values = map plain (take (length c.args.args.now) (drop base r.new.room)) in
-    let number = same_is _ _ (fst _ _ l.fits) in
-    let m1 = rw (r.ensures.context, c.take-receiver.ensures.context, w.ensures.context, sym e, c.take-receiver.ensures.value, c.passed.ensures long) at (c.call_method.ensures.gives (text_of S name) number) in
-    rw (c.call_method.ensures.left, c.call_method.ensures.store) (calls S _ start h _ v (text_of S name) values c.args.at k _ _ _ _ st.classes m1 (on _ (p.1 came) refl))
-
-pub store_by-returns-then-is_left-clause-came : goal.store_by-returns-then-is_left-clause-came
-store_by-returns-then-is_left-clause-came g m c = λ name S start h k me names size st e l a.
-    let w = c.walk-came in
-    let step = ReceiverToStore (text_of S name) (map erase c.args.args.now) c.args.at in
-    let come = w.ensures.came S start h (Then step ∷ k) me names size st e (sub (fits S c.args.receiver.now) l (fst _ _ (snd _ _ l.fits))) a in
-    passes S _ start h w.result w.new.self.value w.new.self.leave _ step k _ _ _ (sym c.is_left.ensures ∙ c.if-is_left.true) come
-
-pub store_by-returns-then-is_left-2-clause-came : goal.store_by-returns-then-is_left-2-clause-came
-store_by-returns-then-is_left-2-clause-came g m c = λ name S start h k me names size st e l a.
-    let w = c.walk-came in
-    let step = ReceiverToStore (text_of S name) (map erase c.args.args.now) c.args.at in
-    let come = w.ensures.came S start h (Then step ∷ k) me names size st e (sub (fits S c.args.receiver.now) l (fst _ _ (snd _ _ l.fits))) a in
-    let none = sym c.is_left.ensures ∙ c.if-is_left.false in
-    let v = value_of w.result w.new.self.value in
-    let g1 = given w.result w.new.self.value w.new.self.leave none come in
-    let under = moved _ _ w.ensures.base w.ensures.room (sub (every (map (fits S) c.args.args.now)) l (snd _ _ (snd _ _ l.fits))) in
-    let f = rw w.ensures.context at c.arguments-came.ensures.came in
-    let p = f (Storing v (text_of S name)) c.args.at S start h k me names size st e under (on _ g1 refl) in
-    p.0 (sym c.is_left-2.ensures ∙ c.if-is_left-2.true)
-
-pub store_by-returns-clause-came : goal.store_by-returns-clause-came
-store_by-returns-clause-came g m c = λ name S start h k me names size st e l a.
-    let w = c.walk-came in
-    let step = ReceiverToStore (text_of S name) (map erase c.args.args.now) c.args.at in
-    let come = w.ensures.came S start h (Then step ∷ k) me names size st e (sub (fits S c.args.receiver.now) l (fst _ _ (snd _ _ l.fits))) a in
-    let none = sym c.is_left.ensures ∙ c.if-is_left.false in
-    let v = value_of w.result w.new.self.value in
-    let g1 = given w.result w.new.self.value w.new.self.leave none come in
-    let under = moved _ _ w.ensures.base w.ensures.room (sub (every (map (fits S) c.args.args.now)) l (snd _ _ (snd _ _ l.fits))) in
-    let f = rw w.ensures.context at c.arguments-came.ensures.came in
-    let p = f (Storing v (text_of S name)) c.args.at S start h k me names size st e under (on _ g1 refl) in
-    let r = c.arguments-came in
-    let came = sym c.is_left-2.ensures ∙ c.if-is_left-2.false in
-    let values = map plain (take (length c.args.args.now) (drop w.new.self.base r.new.room)) in
-    let o = c.raise.ensures in
-    rw (o.gives, o.left, o.store) (same (on _ (p.1 came) refl) (no_such S v (text_of S name) values None c.args.at (Then (Instead (last_value S values)) ∷ k) _ _ _ st.classes (fst _ _ l.fits)))
-
-pub print-returns-then-is_left-clause-came : goal.print-returns-then-is_left-clause-came
-print-returns-then-is_left-clause-came g m c = λ name S start h k me names size st e l a.
-    let r = c.arguments-came in
-    let right = printing_is S c.args.form name (length c.args.args.now) (λ s. every (map (fits s) c.args.args.now)) names size l.fits in
-    let under = sub (every (map (fits S) c.args.args.now)) l right.3 in
-    let p = r.ensures.came (ByName name) c.args.at S start h k me names size st e under a in
-    p.0 (sym c.is_left.ensures ∙ c.if-is_left.true)
-
-pub print-returns-then-is_left-2-clause-came : goal.print-returns-then-is_left-2-clause-came
-print-returns-then-is_left-2-clause-came g m c = λ name S start h k me names size st e l a.
-    let r = c.arguments-came in
-    let right = printing_is S c.args.form name (length c.args.args.now) (λ s. every (map (fits s) c.args.args.now)) names size l.fits in
-    let under = sub (every (map (fits S) c.args.args.now)) l right.3 in
-    let p = r.ensures.came (ByName name) c.args.at S start h k me names size st e under a in
-    let came = sym c.is_left.ensures ∙ c.if-is_left.false in
-    let base = c.args.self.now.base in
-    let count = length c.args.args.now in
-    let long : base + count ≤ length r.new.room = omega (arith, r.ensures.base came, r.ensures.fits l.room) in
-    let values = map plain (take count (drop base r.new.room)) in
-    let many : length values ≡ count = len_map plain (take count (drop base r.new.room)) ∙ len_args r.new.room base count long in
-    let step = Instead (shown_value c.args.form values) in
-    let q = same (on _ (p.1 came) refl) (by_form S c.args.form name values c.args.at k _ _ _ st.classes right.0 right.1 (rw many right.2)) in
-    let z = c.show-shown in
-    let f = rw (r.ensures.context, sym e, c.passed.ensures long) at (z.ensures.came S start h step k (scope_of me names r.new.room) c.args.depth) in
-    let show = f q in
-    rw z.ensures.left (passes S _ start h z.result z.new.self.value z.new.self.leave _ step k _ _ _ (sym c.is_left-2.ensures ∙ c.if-is_left-2.true) show)
-
-pub print-returns-clause-came : goal.print-returns-clause-came
-print-returns-clause-came g m c = λ name S start h k me names size st e l a.
-    let r = c.arguments-came in
-    let right = printing_is S c.args.form name (length c.args.args.now) (λ s. every (map (fits s) c.args.args.now)) names size l.fits in
-    let under = sub (every (map (fits S) c.args.args.now)) l right.3 in
-    let p = r.ensures.came (ByName name) c.args.at S start h k me names size st e under a in
-    let came = sym c.is_left.ensures ∙ c.if-is_left.false in
-    let base = c.args.self.now.base in
-    let count = length c.args.args.now in
-    let long : base + count ≤ length r.new.room = omega (arith, r.ensures.base came, r.ensures.fits l.room) in
-    let values = map plain (take count (drop base r.new.room)) in
-    let many : length values ≡ count = len_map plain (take count (drop base r.new.room)) ∙ len_args r.new.room base count long in
-    let step = Instead (shown_value c.args.form values) in
-    let q = same (on _ (p.1 came) refl) (by_form S c.args.form name values c.args.at k _ _ _ st.classes right.0 right.1 (rw many right.2)) in
-    let z = c.show-shown in
-    let f = rw (r.ensures.context, sym e, c.passed.ensures long) at (z.ensures.came S start h step k (scope_of me names r.new.room) c.args.depth) in
-    let show = f q in
-    let none = sym c.is_left-2.ensures ∙ c.if-is_left-2.false in
-    let g1 = given z.result z.new.self.value z.new.self.leave none show in
-    let o = c.shown_value.ensures in
-    let m1 = rw (c.passed-2.ensures long) at o.gives in
-    rw (o.left, z.ensures.left, o.store) (shown S _ start h _ _ k _ _ _ c.args.form values _ (m1 (rw (len_args r.new.room base count long) right.2)) g1)
 
 pub begin_slow_update-returns-in-UpdateLocal-clause-kept : goal.begin_slow_update-returns-in-UpdateLocal-clause-kept
 begin_slow_update-returns-in-UpdateLocal-clause-kept g m c = λ S names size st e l i p q.
@@ -992,11 +778,11 @@ begin_slow_update-returns-in-UpdateLocal-clause-kept g m c = λ S names size st 
     c.update_local.ensures.kept x.field-1 S names size st e under i p q
 
 pub begin_slow_update-returns-in-UpdateLocal-clause-came : goal.begin_slow_update-returns-in-UpdateLocal-clause-came
-begin_slow_update-returns-in-UpdateLocal-clause-came g m c = λ S start h k me names size st e l a.
+begin_slow_update-returns-in-UpdateLocal-clause-came g m c = λ S start k names size st e l a.
     let x = c.in-UpdateLocal in
     let s = sym (ap (λ d. fits S d names size) x.is ∙ fits-update_local S names size x.slot x.field-1 x.op x.value x.at) ∙ l.fits in
     let under = sub _ l (rw c.get.ensures s) in
-    c.update_local.ensures.came x.field-1 S start h k me names size st e under (rw c.get.ensures (same (begins _ _ k _ _ _ (shows-update_local c.args.code.now x.slot x.field-1 x.op x.value x.at x.is) a) (target_local S x.field-1 x.op (erase x.value) x.at k (scope_of me names c.args.room.now) c.args.depth c.args.self.now.left)))
+    c.update_local.ensures.came x.field-1 S start k names size st e under (rw c.get.ensures (same (begins _ _ k _ _ _ (shows-update_local c.args.code.now x.slot x.field-1 x.op x.value x.at x.is) a) (target_local S x.field-1 x.op (erase x.value) x.at k (scope_of (me_of c.args.self.now.context.me) names c.args.room.now) c.args.depth c.args.self.now.left)))
 
 pub begin_other-returns-in-UpdateElement-clause-kept : goal.begin_other-returns-in-UpdateElement-clause-kept
 begin_other-returns-in-UpdateElement-clause-kept g m c = λ S names size st e l i p q.
@@ -1007,56 +793,56 @@ begin_other-returns-in-UpdateElement-clause-kept g m c = λ S names size st e l 
     c.read_element.ensures.kept x.field-2 (erase x.field-3) S names size st e under i p q
 
 pub begin_other-returns-in-UpdateElement-clause-came : goal.begin_other-returns-in-UpdateElement-clause-came
-begin_other-returns-in-UpdateElement-clause-came g m c = λ S start h k me names size st e l a.
+begin_other-returns-in-UpdateElement-clause-came g m c = λ S start k names size st e l a.
     let x = c.in-UpdateElement in
     let s = sym (ap (λ d. fits S d names size) x.is ∙ fits-update_element S names size x.receiver x.index x.field-2 x.field-3 x.at) ∙ l.fits in
     let both = fst_two (fits S x.receiver names size) (fits S x.index names size) (fits S x.field-3 names size) s in
     let under = sub _ l (rw (c.get.ensures, c.get-in-UpdateElement.ensures) both) in
-    c.read_element.ensures.came x.field-2 (erase x.field-3) S start h k me names size st e under (rw (c.get.ensures, c.get-in-UpdateElement.ensures) (same (begins _ _ k _ _ _ (shows-update_element c.args.code.now x.receiver x.index x.field-2 x.field-3 x.at x.is) a) (target_element S (erase x.receiver) (erase x.index) x.field-2 (erase x.field-3) x.at k (scope_of me names c.args.room.now) c.args.depth c.args.self.now.left)))
+    c.read_element.ensures.came x.field-2 (erase x.field-3) S start k names size st e under (rw (c.get.ensures, c.get-in-UpdateElement.ensures) (same (begins _ _ k _ _ _ (shows-update_element c.args.code.now x.receiver x.index x.field-2 x.field-3 x.at x.is) a) (target_element S (erase x.receiver) (erase x.index) x.field-2 (erase x.field-3) x.at k (scope_of (me_of c.args.self.now.context.me) names c.args.room.now) c.args.depth c.args.self.now.left)))
 
 pub begin_other-returns-in-UpdateAttribute-clause-kept : goal.begin_other-returns-in-UpdateAttribute-clause-kept
 begin_other-returns-in-UpdateAttribute-clause-kept g m c = λ S names size st e l i p q.
     let x = c.in-UpdateAttribute in
-    let s = sym (ap (λ d. fits S d names size) x.is ∙ fits-update_attribute S names size x.number x.field-1 x.receiver x.op x.value x.at) ∙ l.fits in
+    let s = sym (ap (λ d. fits S d names size) x.is ∙ fits-update_attribute S names size x.number x.writer x.name x.receiver x.op x.value x.at) ∙ l.fits in
     let under = sub _ l (rw (c.get-in-UpdateAttribute.ensures, c.get-in-UpdateAttribute-2.ensures) s) in
-    c.update_attribute.ensures.kept x.field-1 S names size st e under i p q
+    c.update_attribute.ensures.kept S names size st e under i p q
 
 pub begin_other-returns-in-UpdateAttribute-clause-came : goal.begin_other-returns-in-UpdateAttribute-clause-came
-begin_other-returns-in-UpdateAttribute-clause-came g m c = λ S start h k me names size st e l a.
+begin_other-returns-in-UpdateAttribute-clause-came g m c = λ S start k names size st e l a.
     let x = c.in-UpdateAttribute in
-    let s = sym (ap (λ d. fits S d names size) x.is ∙ fits-update_attribute S names size x.number x.field-1 x.receiver x.op x.value x.at) ∙ l.fits in
+    let s = sym (ap (λ d. fits S d names size) x.is ∙ fits-update_attribute S names size x.number x.writer x.name x.receiver x.op x.value x.at) ∙ l.fits in
     let under = sub _ l (rw (c.get-in-UpdateAttribute.ensures, c.get-in-UpdateAttribute-2.ensures) s) in
-    c.update_attribute.ensures.came x.field-1 S start h k me names size st e under (rw (c.get-in-UpdateAttribute.ensures, c.get-in-UpdateAttribute-2.ensures) (same (begins _ _ k _ _ _ (shows-update_attribute c.args.code.now x.number x.field-1 x.receiver x.op x.value x.at x.is) a) (target_attribute S (erase x.receiver) x.field-1 x.op (erase x.value) x.at k (scope_of me names c.args.room.now) c.args.depth c.args.self.now.left)))
+    c.update_attribute.ensures.came S start k names size st e under (rw (c.get-in-UpdateAttribute.ensures, c.get-in-UpdateAttribute-2.ensures) (same (begins _ _ k _ _ _ (shows-update_attribute c.args.code.now x.number x.writer x.name x.receiver x.op x.value x.at x.is) a) (target_attribute S (erase x.receiver) x.name x.op (erase x.value) x.at k (scope_of (me_of c.args.self.now.context.me) names c.args.room.now) c.args.depth c.args.self.now.left)))
 
 pub begin_other-returns-in-Store-clause-kept : goal.begin_other-returns-in-Store-clause-kept
 begin_other-returns-in-Store-clause-kept g m c = λ S names size st e l i p q.
     let x = c.in-Store in
-    let s = sym (ap (λ d. fits S d names size) x.is ∙ fits-store S names size x.receiver x.field-1 x.args x.at) ∙ l.fits in
+    let s = sym (ap (λ d. fits S d names size) x.is ∙ fits-store S names size x.receiver x.name x.args x.at) ∙ l.fits in
     let under = sub _ l (rw (c.get-in-Store.ensures, c.as_slice-in-Store.ensures) s) in
-    c.store_by.ensures.kept x.field-1 S names size st e under i p q
+    c.store_by.ensures.kept S names size st e under i p q
 
 pub begin_other-returns-in-Store-clause-came : goal.begin_other-returns-in-Store-clause-came
-begin_other-returns-in-Store-clause-came g m c = λ S start h k me names size st e l a.
+begin_other-returns-in-Store-clause-came g m c = λ S start k names size st e l a.
     let x = c.in-Store in
-    let s = sym (ap (λ d. fits S d names size) x.is ∙ fits-store S names size x.receiver x.field-1 x.args x.at) ∙ l.fits in
+    let s = sym (ap (λ d. fits S d names size) x.is ∙ fits-store S names size x.receiver x.name x.args x.at) ∙ l.fits in
     let under = sub _ l (rw (c.get-in-Store.ensures, c.as_slice-in-Store.ensures) s) in
-    c.store_by.ensures.came x.field-1 S start h k me names size st e under (rw (c.get-in-Store.ensures, c.as_slice-in-Store.ensures) (begins _ _ k _ _ _ (shows-store c.args.code.now x.receiver x.field-1 x.args x.at x.is) a))
+    c.store_by.ensures.came S start k names size st e under (rw (c.get-in-Store.ensures, c.as_slice-in-Store.ensures) (begins _ _ k _ _ _ (shows-store c.args.code.now x.receiver x.name x.args x.at x.is) a))
 
 pub begin_other-returns-in-Print-clause-kept : goal.begin_other-returns-in-Print-clause-kept
 begin_other-returns-in-Print-clause-kept g m c = λ S names size st e l i p q.
     let x = c.in-Print in
-    let r = sym (ap (λ d. fits S d names size) x.is ∙ fits-print S names size x.form x.field-1 x.args x.at) ∙ l.fits in
+    let r = sym (ap (λ d. fits S d names size) x.is ∙ fits-print S names size x.form x.name x.args x.at) ∙ l.fits in
     let s = rw (len_map (fits S) x.args) at r in
-    let under = sub (printing x.form x.field-1 (length c.as_slice-in-Print.result.now) (λ S. every (map (fits S) c.as_slice-in-Print.result.now)) S) l (rw c.as_slice-in-Print.ensures s) in
-    c.print.ensures.kept x.field-1 S names size st e under i p q
+    let under = sub (printing x.form x.name (length c.as_slice-in-Print.result.now) (λ S. every (map (fits S) c.as_slice-in-Print.result.now)) S) l (rw c.as_slice-in-Print.ensures s) in
+    c.begin_print.ensures.kept S names size st e under i p q
 
 pub begin_other-returns-in-Print-clause-came : goal.begin_other-returns-in-Print-clause-came
-begin_other-returns-in-Print-clause-came g m c = λ S start h k me names size st e l a.
+begin_other-returns-in-Print-clause-came g m c = λ S start k names size st e l a.
     let x = c.in-Print in
-    let r = sym (ap (λ d. fits S d names size) x.is ∙ fits-print S names size x.form x.field-1 x.args x.at) ∙ l.fits in
+    let r = sym (ap (λ d. fits S d names size) x.is ∙ fits-print S names size x.form x.name x.args x.at) ∙ l.fits in
     let s = rw (len_map (fits S) x.args) at r in
-    let under = sub (printing x.form x.field-1 (length c.as_slice-in-Print.result.now) (λ S. every (map (fits S) c.as_slice-in-Print.result.now)) S) l (rw c.as_slice-in-Print.ensures s) in
-    c.print.ensures.came x.field-1 S start h k me names size st e under (rw c.as_slice-in-Print.ensures (begins _ _ k _ _ _ (shows-print c.args.code.now x.form x.field-1 x.args x.at x.is) a))
+    let under = sub (printing x.form x.name (length c.as_slice-in-Print.result.now) (λ S. every (map (fits S) c.as_slice-in-Print.result.now)) S) l (rw c.as_slice-in-Print.ensures s) in
+    c.begin_print.ensures.came S start k names size st e under (rw c.as_slice-in-Print.ensures (begins _ _ k _ _ _ (shows-print c.args.code.now x.form x.name x.args x.at x.is) a))
 
 pub begin_other-returns-in-Return-clause-kept : goal.begin_other-returns-in-Return-clause-kept
 begin_other-returns-in-Return-clause-kept g m c = λ S names size st e l i p q.
@@ -1066,11 +852,11 @@ begin_other-returns-in-Return-clause-kept g m c = λ S names size st e l i p q.
     c.leave_method.ensures.kept S names size st e under i p q
 
 pub begin_other-returns-in-Return-clause-came : goal.begin_other-returns-in-Return-clause-came
-begin_other-returns-in-Return-clause-came g m c = λ S start h k me names size st e l a.
+begin_other-returns-in-Return-clause-came g m c = λ S start k names size st e l a.
     let x = c.in-Return in
     let s = sym (ap (λ d. fits S d names size) x.is ∙ fits-return S names size x.value x.field-1) ∙ l.fits in
     let under = sub _ l s in
-    c.leave_method.ensures.came S start h k me names size st e under (begins _ _ k _ _ _ (shows-return c.args.code.now x.value x.field-1 x.is) a)
+    c.leave_method.ensures.came S start k names size st e under (begins _ _ k _ _ _ (shows-return c.args.code.now x.value x.field-1 x.is) a)
 
 pub leave_method-returns-clause-kept : goal.leave_method-returns-clause-kept
 leave_method-returns-clause-kept g m c = λ S names size st e l i p q.
@@ -1079,165 +865,14 @@ leave_method-returns-clause-kept g m c = λ S names size st e l i p q.
     c.leave_with.ensures.kept S names size st e under i p q
 
 pub leave_method-returns-in_default-clause-came : goal.leave_method-returns-in_default-clause-came
-leave_method-returns-in_default-clause-came g m c = λ S start h k me names size st e l a.
-    same a (ap (λ v. begin_return S (option_map erase v) k (scope_of me names c.args.room.now) c.args.depth c.args.self.now.left) (nothing c.args.value.now c.in_default.not-Some))
+leave_method-returns-in_default-clause-came g m c = λ S start k names size st e l a.
+    same a (ap (λ v. begin_return S (option_map erase v) k (scope_of (me_of c.args.self.now.context.me) names c.args.room.now) c.args.depth c.args.self.now.left) (nothing c.args.value.now c.in_default.not-Some))
 
 pub leave_method-returns-clause-came : goal.leave_method-returns-clause-came
-leave_method-returns-clause-came g m c = λ S start h k me names size st e l a.
+leave_method-returns-clause-came g m c = λ S start k names size st e l a.
     let s = ap (λ v. if_some (option_map (fits S) v) names size) (sym c.in-Some.is) ∙ l.fits in
     let under = sub _ l (rw c.get.ensures s) in
-    c.leave_with.ensures.came S start h k me names size st e under (rw c.get.ensures (same a (ap (λ v. begin_return S (option_map erase v) k (scope_of me names c.args.room.now) c.args.depth c.args.self.now.left) c.in-Some.is)))
-
-pub text-returns-in-Err-clause-came : goal.text-returns-in-Err-clause-came
-text-returns-in-Err-clause-came g m c = λ S start h k me names size st e l a.
-    let o = c.over.ensures in
-    rw (o.gives, o.left, o.store) (_, c.pieces.invariant.came S start h k me names size st e l a, refl)
-
-pub text-returns-then-is_left-clause-kept : goal.text-returns-then-is_left-clause-kept
-text-returns-then-is_left-clause-kept g m c = λ S names size st e l i p q.
-    let loop = c.pieces in
-    let inv = loop.invariant in
-    let right = piece_code S _ _ c.piece-item.result c.in-Code.code names size c.pieces-test.true c.piece-item.is c.in-Code.is l.fits in
-    let under = moved _ _ inv.base inv.room (sub (fits S c.in-Code.code) l right) in
-    let f = rw inv.context at c.walk-came.ensures.kept in
-    f S names size st e under i p (omega (arith, q, inv.base)) ∙ inv.kept S names size st e l i p q
-
-pub text-returns-then-is_left-clause-came : goal.text-returns-then-is_left-clause-came
-text-returns-then-is_left-clause-came g m c = λ S start h k me names size st e l a.
-    let loop = c.pieces in
-    let inv = loop.invariant in
-    let item = next_item _ _ c.piece-item.result c.pieces-test.true c.piece-item.is in
-    let before = joining _ (sym (ap (map erase_piece) item)) (inv.came S start h k me names size st e l a) in
-    let right = piece_code S _ _ c.piece-item.result c.in-Code.code names size c.pieces-test.true c.piece-item.is c.in-Code.is l.fits in
-    let under = moved _ _ inv.base inv.room (sub (fits S c.in-Code.code) l right) in
-    let step = PieceOf loop.bytes.items (map erase_piece (drop (loop.piece-index + 1) c.args.pieces.now)) c.args.at in
-    let w = c.walk-came in
-    let f = rw inv.context at w.ensures.came in
-    let come = f S start h (Then step ∷ k) me names size st e under (joins_code _ (shows_code c.piece-item.result c.in-Code.code c.in-Code.is) before) in
-    passes S _ start h w.result w.new.self.value w.new.self.leave _ step k _ _ _ (sym c.is_left.ensures ∙ c.if-is_left.true) come
-
-pub text-returns-in-Err-add_value-clause-kept : goal.text-returns-in-Err-add_value-clause-kept
-text-returns-in-Err-add_value-clause-kept g m c = λ S names size st e l i p q.
-    let loop = c.pieces in
-    let inv = loop.invariant in
-    let right = piece_code S _ _ c.piece-item.result c.in-Code.code names size c.pieces-test.true c.piece-item.is c.in-Code.is l.fits in
-    let under = moved _ _ inv.base inv.room (sub (fits S c.in-Code.code) l right) in
-    let f = rw inv.context at c.walk-came.ensures.kept in
-    f S names size st e under i p (omega (arith, q, inv.base)) ∙ inv.kept S names size st e l i p q
-
-pub text-returns-in-Err-add_value-clause-came : goal.text-returns-in-Err-add_value-clause-came
-text-returns-in-Err-add_value-clause-came g m c = λ S start h k me names size st e l a.
-    let loop = c.pieces in
-    let inv = loop.invariant in
-    let item = next_item _ _ c.piece-item.result c.pieces-test.true c.piece-item.is in
-    let before = joining _ (sym (ap (map erase_piece) item)) (inv.came S start h k me names size st e l a) in
-    let right = piece_code S _ _ c.piece-item.result c.in-Code.code names size c.pieces-test.true c.piece-item.is c.in-Code.is l.fits in
-    let under = moved _ _ inv.base inv.room (sub (fits S c.in-Code.code) l right) in
-    let step = PieceOf loop.bytes.items (map erase_piece (drop (loop.piece-index + 1) c.args.pieces.now)) c.args.at in
-    let w = c.walk-came in
-    let f = rw inv.context at w.ensures.came in
-    let come = f S start h (Then step ∷ k) me names size st e under (joins_code _ (shows_code c.piece-item.result c.in-Code.code c.in-Code.is) before) in
-    let g1 = given w.result w.new.self.value w.new.self.leave (sym c.is_left.ensures ∙ c.if-is_left.false) come in
-    let t = c.take-value.ensures in
-    let o = c.over-in-Err-add_value.ensures in
-    rw (o.gives, o.left, o.store, t.left, t.store) (_, g1, refl)
-
-pub text-returns-then-len-gt-MAX_BYTES-clause-kept : goal.text-returns-then-len-gt-MAX_BYTES-clause-kept
-text-returns-then-len-gt-MAX_BYTES-clause-kept g m c = λ S names size st e l i p q.
-    let loop = c.pieces in
-    let inv = loop.invariant in
-    elim c.match-piece.branch [
-      | text-in-Text+in_default x ↦ rw x.room-is (inv.kept S names size st e l i p q)
-      | text-in-Code+else-is_left+in_default-add_value x ↦
-          let right = piece_code S _ _ c.piece-item.result x.in-Code.code names size c.pieces-test.true c.piece-item.is x.in-Code.is l.fits in
-          let under = moved _ _ inv.base inv.room (sub (fits S x.in-Code.code) l right) in
-          let f = rw inv.context at x.walk-came.ensures.kept in
-          rw x.room-is (f S names size st e under i p (omega (arith, q, inv.base)) ∙ inv.kept S names size st e l i p q)
-    ]
-
-pub text-returns-then-len-gt-MAX_BYTES-clause-came : goal.text-returns-then-len-gt-MAX_BYTES-clause-came
-text-returns-then-len-gt-MAX_BYTES-clause-came g m c = λ S start h k me names size st e l a.
-    let loop = c.pieces in
-    let inv = loop.invariant in
-    let item = next_item _ _ c.piece-item.result c.pieces-test.true c.piece-item.is in
-    let before = joining _ (sym (ap (map erase_piece) item)) (inv.came S start h k me names size st e l a) in
-    let long : 16777216 < length c.match-piece.bytes.items = omega (arith, c.if-len-gt-MAX_BYTES.true, c.len.ensures, c.match-piece.bytes.ok) in
-    let o = c.raise.ensures in
-    rw (o.gives, o.left, o.store) (elim c.match-piece.branch [
-      | text-in-Text+in_default x ↦
-          let shows = shows_text c.piece-item.result x.in-Text.text x.as_slice.result.now x.in-Text.is x.as_slice.ensures in
-          rw x.self-is (text_long loop.bytes.items x.as_slice.result.now _ _ c.args.at k _ _ _ c.match-piece.bytes.items shows (rw x.bytes-is x.in_default.ensures) long before)
-      | text-in-Code+else-is_left+in_default-add_value x ↦
-          let right = piece_code S _ _ c.piece-item.result x.in-Code.code names size c.pieces-test.true c.piece-item.is x.in-Code.is l.fits in
-          let under = moved _ _ inv.base inv.room (sub (fits S x.in-Code.code) l right) in
-          let step = PieceOf loop.bytes.items (map erase_piece (drop (loop.piece-index + 1) c.args.pieces.now)) c.args.at in
-          let w = x.walk-came in
-          let f = rw inv.context at w.ensures.came in
-          let come = f S start h (Then step ∷ k) me names size st e under (joins_code _ (shows_code c.piece-item.result x.in-Code.code x.in-Code.is) before) in
-          let g1 = given w.result w.new.self.value w.new.self.leave (sym x.is_left.ensures ∙ x.if-is_left.false) come in
-          let t = x.take-value.ensures in
-          let said = rw (t.context, w.ensures.context, inv.context, sym e, t.value) at x.in_default-add_value.ensures in
-          rw (x.self-is, t.left, t.store) (value_long loop.bytes.items (value_of w.result w.new.self.value) _ c.args.at k _ _ _ c.match-piece.bytes.items (rw x.bytes-is said) long g1)
-    ])
-
-pub text-pieces-preserved : goal.text-pieces-preserved
-text-pieces-preserved g m c =
-    let loop = c.pieces in
-    let inv = loop.invariant in
-    let short : length c.match-piece.bytes.items ≤ 16777216 = omega (arith, c.if-len-gt-MAX_BYTES.false, c.len.ensures, c.match-piece.bytes.ok) in
-    elim c.match-piece.branch [
-      | text-in-Text+in_default x ↦ rw (x.self-is, x.room-is) (record {
-        base = inv.base;
-        context = inv.context;
-        room = inv.room;
-        less = inv.less;
-        unended = inv.unended;
-        kept = inv.kept;
-        came = λ S start h k me names size st e l a.
-            let item = next_item _ _ c.piece-item.result c.pieces-test.true c.piece-item.is in
-            let before = joining _ (sym (ap (map erase_piece) item)) (inv.came S start h k me names size st e l a) in
-            let shows = shows_text c.piece-item.result x.in-Text.text x.as_slice.result.now x.in-Text.is x.as_slice.ensures in
-            text_joins loop.bytes.items x.as_slice.result.now _ _ c.args.at k _ _ _ c.match-piece.bytes.items shows (rw x.bytes-is x.in_default.ensures) short before;
-      })
-      | text-in-Code+else-is_left+in_default-add_value x ↦
-          let y = x.walk-came.ensures in
-          let t = x.take-value.ensures in
-          rw (x.self-is, x.room-is) (record {
-            base = t.base ∙ (y.base ∙ inv.base);
-            context = t.context ∙ (y.context ∙ inv.context);
-            room = y.room ∙ inv.room;
-            less = omega (arith, t.left, y.less, inv.less);
-            unended = rw t.store y.unended;
-            kept = λ S names size st e l i p q.
-                let right = piece_code S _ _ c.piece-item.result x.in-Code.code names size c.pieces-test.true c.piece-item.is x.in-Code.is l.fits in
-                let under = moved _ _ inv.base inv.room (sub (fits S x.in-Code.code) l right) in
-                let f = rw inv.context at x.walk-came.ensures.kept in
-                f S names size st e under i p (omega (arith, q, inv.base)) ∙ inv.kept S names size st e l i p q;
-            came = λ S start h k me names size st e l a.
-                let item = next_item _ _ c.piece-item.result c.pieces-test.true c.piece-item.is in
-                let before = joining _ (sym (ap (map erase_piece) item)) (inv.came S start h k me names size st e l a) in
-                let right = piece_code S _ _ c.piece-item.result x.in-Code.code names size c.pieces-test.true c.piece-item.is x.in-Code.is l.fits in
-                let under = moved _ _ inv.base inv.room (sub (fits S x.in-Code.code) l right) in
-                let step = PieceOf loop.bytes.items (map erase_piece (drop (loop.piece-index + 1) c.args.pieces.now)) c.args.at in
-                let w = x.walk-came in
-                let f = rw inv.context at w.ensures.came in
-                let come = f S start h (Then step ∷ k) me names size st e under (joins_code _ (shows_code c.piece-item.result x.in-Code.code x.in-Code.is) before) in
-                let g1 = given w.result w.new.self.value w.new.self.leave (sym x.is_left.ensures ∙ x.if-is_left.false) come in
-                let said = rw (t.context, w.ensures.context, inv.context, sym e, t.value) at x.in_default-add_value.ensures in
-                rw (t.left, t.store) (value_joins loop.bytes.items (value_of w.result w.new.self.value) _ c.args.at k _ _ _ c.match-piece.bytes.items (rw x.bytes-is said) short g1);
-          })
-    ]
-
-pub text-returns-in-Ok-clause-came : goal.text-returns-in-Ok-clause-came
-text-returns-in-Ok-clause-came g m c = λ S start h k me names size st e l a.
-    let o = c.give.ensures in
-    let inv = c.pieces.invariant in
-    rw (o.gives, o.left, o.store, c.in-Ok.ensures) (on _ (joining [] (sym (ap (map erase_piece) (drop_all _ _ c.pieces-test.false))) (inv.came S start h k me names size st e l a)) refl)
-
-pub text-returns-in-Err-from_vec-clause-came : goal.text-returns-in-Err-from_vec-clause-came
-text-returns-in-Err-from_vec-clause-came g m c = λ S start h k me names size st e l a.
-    let o = c.over-in-Err-from_vec.ensures in
-    rw (o.gives, o.left, o.store) (_, c.pieces.invariant.came S start h k me names size st e l a, refl)
+    c.leave_with.ensures.came S start k names size st e under (rw c.get.ensures (same a (ap (λ v. begin_return S (option_map erase v) k (scope_of (me_of c.args.self.now.context.me) names c.args.room.now) c.args.depth c.args.self.now.left) c.in-Some.is)))
 
 pub begin_other-returns-in-Str-clause-kept : goal.begin_other-returns-in-Str-clause-kept
 begin_other-returns-in-Str-clause-kept g m c = λ S names size st e l i p q.
@@ -1247,33 +882,33 @@ begin_other-returns-in-Str-clause-kept g m c = λ S names size st e l i p q.
     c.literal.ensures.kept S names size st e under i p q
 
 pub begin_other-returns-in-Str-clause-came : goal.begin_other-returns-in-Str-clause-came
-begin_other-returns-in-Str-clause-came g m c = λ S start h k me names size st e l a.
+begin_other-returns-in-Str-clause-came g m c = λ S start k names size st e l a.
     let x = c.in-Str in
     let s = sym (ap (λ d. fits S d names size) x.is ∙ fits-str S names size x.pieces x.at) ∙ l.fits in
     let under = sub _ l (rw c.as_slice.ensures s) in
-    c.literal.ensures.came S start h k me names size st e under (rw c.as_slice.ensures (begins _ _ k _ _ _ (shows-str c.args.code.now x.pieces x.at x.is) a))
+    c.literal.ensures.came S start k names size st e under (rw c.as_slice.ensures (begins _ _ k _ _ _ (shows-str c.args.code.now x.pieces x.at x.is) a))
 
 pub turns-returns-then-first-last-clause-came : goal.turns-returns-then-first-last-clause-came
-turns-returns-then-first-last-clause-came g m c = λ S start h k me names size st e l a.
+turns-returns-then-first-last-clause-came g m c = λ S start k names size st e l a.
     let zf : to_z w64 (of_z w64 c.args.first) ≡ c.args.first = to_z-of_z w64 c.args.first c.ranges.first in
     let zl : to_z w64 (of_z w64 c.args.last) ≡ c.args.last = to_z-of_z w64 c.args.last c.ranges.last in
     let za : to_z w64 (of_z w64 c.args.answer) ≡ c.args.answer = to_z-of_z w64 c.args.answer c.ranges.answer in
     rw za (turns_end (none_left c.args.first c.args.last (rw (zf, zl) at c.if-first-last.true)) a)
 
 pub turns-returns-then-room-from-clause-came : goal.turns-returns-then-room-from-clause-came
-turns-returns-then-room-from-clause-came g m c = λ S start h k me names size st e l a.
+turns-returns-then-room-from-clause-came g m c = λ S start k names size st e l a.
     let o = c.over.ensures in
-    rw (o.left, o.store) (cut S _ start h _ _ k _ _ _ _ o.gives a refl)
+    rw (o.left, o.store) (cut S _ start _ _ _ k _ _ _ _ o.gives a refl)
 
 pub turns-returns-then-self-eq0-clause-came : goal.turns-returns-then-self-eq0-clause-came
-turns-returns-then-self-eq0-clause-came g m c = λ S start h k me names size st e l a.
+turns-returns-then-self-eq0-clause-came g m c = λ S start k names size st e l a.
     let inv = c.turns.invariant in
     let zf : to_z w64 (of_z w64 c.args.first) ≡ c.args.first = to_z-of_z w64 c.args.first c.ranges.first in
     let zl : to_z w64 (of_z w64 c.args.last) ≡ c.args.last = to_z-of_z w64 c.args.last c.ranges.last in
     let za : to_z w64 (of_z w64 c.args.answer) ≡ c.args.answer = to_z-of_z w64 c.args.answer c.ranges.answer in
     let next = to_z w64 c.turns.next-bits in
     let back = rw (zf, zl, za) at inv.came in
-    let i = back S start h k me names size st e l a in
+    let i = back S start k names size st e l a in
     let more = some_left next c.args.last (rw zl at inv.ordered) in
     let o = c.over-then-self-eq0.ensures in
     rw (o.gives, o.left, o.store) (turn_too_many more c.if-self-eq0.true i)
@@ -1287,14 +922,14 @@ turns-returns-then-not-goes_on-clause-kept g m c = λ S names size st e l i p q.
     f S (names ++ S.block_names c.args.block.now.at) size st e within i p (omega (arith, q, inv.base)) ∙ (c.start_block.ensures.above i (omega (arith, p, edge)) ∙ inv.kept S names size st e l i p q)
 
 pub turns-returns-then-not-goes_on-clause-came : goal.turns-returns-then-not-goes_on-clause-came
-turns-returns-then-not-goes_on-clause-came g m c = λ S start h k me names size st e l a.
+turns-returns-then-not-goes_on-clause-came g m c = λ S start k names size st e l a.
     let inv = c.turns.invariant in
     let zf : to_z w64 (of_z w64 c.args.first) ≡ c.args.first = to_z-of_z w64 c.args.first c.ranges.first in
     let zl : to_z w64 (of_z w64 c.args.last) ≡ c.args.last = to_z-of_z w64 c.args.last c.ranges.last in
     let za : to_z w64 (of_z w64 c.args.answer) ≡ c.args.answer = to_z-of_z w64 c.args.answer c.ranges.answer in
     let next = to_z w64 c.turns.next-bits in
     let back = rw (zf, zl, za) at inv.came in
-    let i = back S start h k me names size st e l a in
+    let i = back S start k names size st e l a in
     let more = some_left next c.args.last (rw zl at inv.ordered) in
     let block = c.args.block.now in
     let own = S.block_names block.at in
@@ -1303,10 +938,10 @@ turns-returns-then-not-goes_on-clause-came g m c = λ S start h k me names size 
     let within = deeper S block (moved _ _ inv.base (c.start_block.ensures.room ∙ inv.room) l) in
     let f = rw (inv.context, c.as_slice.ensures) at c.body-came.ensures.came in
     let later = Counting (next +ℤ pos 1) (c.args.last +ℤ pos 1) (Int c.args.answer) in
-    let come = f S start h (Turn later (erase_block block) (length names) ∷ k) me (names ++ own) size st e within t in
+    let come = f S start (Turn later (erase_block block) (length names) ∷ k) (names ++ own) size st e within t in
     let long : length names ≤ length c.body-came.new.room = omega (arith, l.within, l.below, l.room, c.body-came.ensures.room, c.start_block.ensures.room, inv.room) in
     let stop = sym c.goes_on.ensures ∙ c.if-not-goes_on.true in
-    rw (c.out_of_loop.ensures stop) (closes_out S _ start h _ _ later (erase_block block) k me names own _ _ _ long stop come)
+    rw (c.out_of_loop.ensures stop) (closes_out S _ start _ _ _ later (erase_block block) k _ names own _ _ _ long stop come)
 
 pub turns-returns-then-next-last-clause-kept : goal.turns-returns-then-next-last-clause-kept
 turns-returns-then-next-last-clause-kept g m c = λ S names size st e l i p q.
@@ -1317,14 +952,14 @@ turns-returns-then-next-last-clause-kept g m c = λ S names size st e l i p q.
     f S (names ++ S.block_names c.args.block.now.at) size st e within i p (omega (arith, q, inv.base)) ∙ (c.start_block.ensures.above i (omega (arith, p, edge)) ∙ inv.kept S names size st e l i p q)
 
 pub turns-returns-then-next-last-clause-came : goal.turns-returns-then-next-last-clause-came
-turns-returns-then-next-last-clause-came g m c = λ S start h k me names size st e l a.
+turns-returns-then-next-last-clause-came g m c = λ S start k names size st e l a.
     let inv = c.turns.invariant in
     let zf : to_z w64 (of_z w64 c.args.first) ≡ c.args.first = to_z-of_z w64 c.args.first c.ranges.first in
     let zl : to_z w64 (of_z w64 c.args.last) ≡ c.args.last = to_z-of_z w64 c.args.last c.ranges.last in
     let za : to_z w64 (of_z w64 c.args.answer) ≡ c.args.answer = to_z-of_z w64 c.args.answer c.ranges.answer in
     let next = to_z w64 c.turns.next-bits in
     let back = rw (zf, zl, za) at inv.came in
-    let i = back S start h k me names size st e l a in
+    let i = back S start k names size st e l a in
     let more = some_left next c.args.last (rw zl at inv.ordered) in
     let block = c.args.block.now in
     let own = S.block_names block.at in
@@ -1333,12 +968,12 @@ turns-returns-then-next-last-clause-came g m c = λ S start h k me names size st
     let within = deeper S block (moved _ _ inv.base (c.start_block.ensures.room ∙ inv.room) l) in
     let f = rw (inv.context, c.as_slice.ensures) at c.body-came.ensures.came in
     let later = Counting (next +ℤ pos 1) (c.args.last +ℤ pos 1) (Int c.args.answer) in
-    let come = f S start h (Turn later (erase_block block) (length names) ∷ k) me (names ++ own) size st e within t in
+    let come = f S start (Turn later (erase_block block) (length names) ∷ k) (names ++ own) size st e within t in
     let long : length names ≤ length c.body-came.new.room = omega (arith, l.within, l.below, l.room, c.body-came.ensures.room, c.start_block.ensures.room, inv.room) in
     let more_on = sym c.goes_on.ensures ∙ c.if-not-goes_on.false in
     let test = rw zl at c.if-next-last.true in
     let past : c.args.last ≤ℤ next = grind (arith, ints) in
-    rw za (turns_end (last_done next c.args.last past) (closes S _ start h _ _ later (erase_block block) k me names own _ _ _ long more_on come))
+    rw za (turns_end (last_done next c.args.last past) (closes S _ start _ _ _ later (erase_block block) k _ names own _ _ _ long more_on come))
 
 pub turns-turns-preserved : goal.turns-turns-preserved
 turns-turns-preserved g m c =
@@ -1364,12 +999,12 @@ turns-turns-preserved g m c =
           let edge = ends_within S c.args.block.now l in
           let f = rw (inv.context, c.as_slice.ensures) at c.body-came.ensures.kept in
           f S (names ++ S.block_names c.args.block.now.at) size st e within i p (omega (arith, q, inv.base)) ∙ (c.start_block.ensures.above i (omega (arith, p, edge)) ∙ inv.kept S names size st e l i p q);
-      came = λ S start h k me names size st e l a.
+      came = λ S start k names size st e l a.
           let inv = c.turns.invariant in
           let next = to_z w64 c.turns.next-bits in
           let last = to_z w64 (of_z w64 c.args.last) in
           let answer = to_z w64 (of_z w64 c.args.answer) in
-          let i = inv.came S start h k me names size st e l a in
+          let i = inv.came S start k names size st e l a in
           let more = some_left next last inv.ordered in
           let block = c.args.block.now in
           let own = S.block_names block.at in
@@ -1378,109 +1013,30 @@ turns-turns-preserved g m c =
           let within = deeper S block (moved _ _ inv.base (c.start_block.ensures.room ∙ inv.room) l) in
           let f = rw (inv.context, c.as_slice.ensures) at c.body-came.ensures.came in
           let later = Counting (next +ℤ pos 1) (last +ℤ pos 1) (Int answer) in
-          let come = f S start h (Turn later (erase_block block) (length names) ∷ k) me (names ++ own) size st e within t in
+          let come = f S start (Turn later (erase_block block) (length names) ∷ k) (names ++ own) size st e within t in
           let long : length names ≤ length c.body-came.new.room = omega (arith, l.within, l.below, l.room, c.body-came.ensures.room, c.start_block.ensures.room, inv.room) in
           let more_on = sym c.goes_on.ensures ∙ c.if-not-goes_on.false in
-          rw zn (closes S _ start h _ _ later (erase_block block) k me names own _ _ _ long more_on come);
+          rw zn (closes S _ start _ _ _ later (erase_block block) k _ names own _ _ _ long more_on come);
     }
 
-pub function-returns-in_default-clause-came : goal.function-returns-in_default-clause-came
-function-returns-in_default-clause-came g m c = λ name S start h k me names size st e l a.
-    let o = c.over.ensures in
-    rw (o.left, o.store) (cut S _ start h _ _ k _ _ _ _ o.gives a refl)
-
-pub function-returns-then-room-before-clause-came : goal.function-returns-then-room-before-clause-came
-function-returns-then-room-before-clause-came g m c = λ name S start h k me names size st e l a.
-    let o = c.over-then-room-before.ensures in
-    rw (o.left, o.store) (cut S _ start h _ _ k _ _ _ _ o.gives a refl)
-
-pub function-returns-then-is_left-clause-kept : goal.function-returns-then-is_left-clause-kept
-function-returns-then-is_left-clause-kept g m c = λ name S names size st e l i p q.
-    let under = sub (every (map (fits S) c.args.args.now)) l (snd _ _ l.fits) in
-    c.arguments-came.ensures.kept S names size st e under i p q
-
-pub function-returns-then-is_left-clause-came : goal.function-returns-then-is_left-clause-came
-function-returns-then-is_left-clause-came g m c = λ name S start h k me names size st e l a.
-    let under = sub (every (map (fits S) c.args.args.now)) l (snd _ _ l.fits) in
-    let y = c.arguments-came in
-    let both = y.ensures.came (ByName name) c.args.at S start h k me names size st e under a in
-    both.0 (sym c.is_left.ensures ∙ c.if-is_left.true)
-
-pub function-returns-then-args-len-clause-came : goal.function-returns-then-args-len-clause-came
-function-returns-then-args-len-clause-came g m c = λ name S start h k me names size st e l a.
-    let under = sub (every (map (fits S) c.args.args.now)) l (snd _ _ l.fits) in
-    let y = c.arguments-came in
-    let both = y.ensures.came (ByName name) c.args.at S start h k me names size st e under a in
-    let none = sym c.is_left.ensures ∙ c.if-is_left.false in
-    let count = length c.args.args.now in
-    let before = c.args.self.now.base in
-    let there = y.new.room in
-    let m = c.in-Some.method.now in
-    let script = c.args.self.now.context.script.now in
-    let is = fst _ _ l.fits in
-    let found = sym c.in-Some.ensures.value in
-    let end = y.ensures.base none in
-    let edge = y.ensures.fits l.room in
-    let long : before + count ≤ length there = omega (arith, end, edge) in
-    let o = c.raise.ensures in
-    let other : count ≡ length m.params → ⊥ = λ z. omega (arith, z, c.if-args-len.true, c.len.ensures) in
-    rw (o.gives, o.left, o.store) (other_count script c.args.number name m count before there c.args.at st is found other long (both.1 none))
-
-pub function-returns-clause-kept : goal.function-returns-clause-kept
-function-returns-clause-kept g m c = λ name S names size st e l i p q.
-    let under = sub (every (map (fits S) c.args.args.now)) l (snd _ _ l.fits) in
-    let y = c.arguments-came in
-    let split = c.split_at_mut-frame.ensures in
-    let short : c.args.self.now.base ≤ length y.new.room = omega (arith, y.ensures.room, l.room) in
-    ap (λ xs. slice_get (xs ++ c.body-came.new.room) i) split.front ∙ (front y.new.room c.body-came.new.room c.args.self.now.base i short q ∙ y.ensures.kept S names size st e under i p q)
-
-pub function-returns-clause-came : goal.function-returns-clause-came
-function-returns-clause-came g m c = λ name S start h k me names size st e l a.
-    let under = sub (every (map (fits S) c.args.args.now)) l (snd _ _ l.fits) in
-    let y = c.arguments-came in
-    let both = y.ensures.came (ByName name) c.args.at S start h k me names size st e under a in
-    let none = sym c.is_left.ensures ∙ c.if-is_left.false in
-    let count = length c.args.args.now in
-    let before = c.args.self.now.base in
-    let there = y.new.room in
-    let m = c.in-Some.method.now in
-    let script = c.args.self.now.context.script.now in
-    let is = fst _ _ l.fits in
-    let found = sym c.in-Some.ensures.value in
-    let end = y.ensures.base none in
-    let edge = y.ensures.fits l.room in
-    let long : before + count ≤ length there = omega (arith, end, edge) in
-    let split = c.split_at_mut-frame.ensures in
-    let frame = c.clear.new.room in
-    let counts : count ≡ length m.params = omega (arith, c.if-args-len.false, c.len.ensures) in
-    let f = enters script c.args.number name m count before there frame c.args.at st is found counts long (λ i q. c.clear.ensures.below i q ∙ ap (λ xs. slice_get xs i) split.back) c.clear.ensures.within (both.1 none) in
-    let sizes : m.size ≤ length frame = omega (arith, c.clear.ensures.room, split.back_len, y.ensures.room, c.if-room-before.false, c.if-room-before-2.false) in
-    let inside = frame_lies S script c.args.number m (length frame) st found sizes in
-    let g1 = rw (y.ensures.context, c.as_slice.ensures) at c.body-came.ensures.came in
-    let done = g1 S start h (Frame (scope_of me names there) ∷ k) Nil (S.method_names (erase_method m)) m.size st e inside f in
-    let out = called S _ start h _ _ (scope_of me names there) k _ _ _ done in
-    let scope : bound names (map plain (c.split_at_mut-frame.result.0.now ++ c.body-came.new.room)) ≡ bound names (map plain there) = ap (λ xs. bound names (map plain (xs ++ c.body-came.new.room))) split.front ∙ frame_back names there c.body-came.new.room before (omega (arith, l.within, l.below)) (omega (arith, long)) in
-    let o = c.out_of_call.ensures in
-    rw (o.gives, o.left, o.store, scope) out
-
 pub send_block-returns-then-is_left-clause-kept : goal.send_block-returns-then-is_left-clause-kept
-send_block-returns-then-is_left-clause-kept g m c = λ name S names size st e l i p q.
+send_block-returns-then-is_left-clause-kept g m c = λ S names size st e l i p q.
     let w = c.walk-came in
     let right = snd _ _ l.fits in
     let first = sub (fits S c.args.receiver.now) l (fst _ _ right) in
     w.ensures.kept S names size st e first i p q
 
 pub send_block-returns-then-is_left-clause-came : goal.send_block-returns-then-is_left-clause-came
-send_block-returns-then-is_left-clause-came g m c = λ name S start h k me names size st e l a.
+send_block-returns-then-is_left-clause-came g m c = λ S start k names size st e l a.
     let w = c.walk-came in
     let right = snd _ _ l.fits in
     let first = sub (fits S c.args.receiver.now) l (fst _ _ right) in
-    let step = ReceiverOf (text_of S name) (map erase c.args.args.now) (Some (erase_block c.args.block.now)) c.args.at in
-    let come = w.ensures.came S start h (Then step ∷ k) me names size st e first a in
-    passes S _ start h w.result w.new.self.value w.new.self.leave _ step k _ _ _ (sym c.is_left.ensures ∙ c.if-is_left.true) come
+    let step = ReceiverOf (text_of S c.args.name) (map erase c.args.args.now) (Some (erase_block c.args.block.now)) c.args.at in
+    let come = w.ensures.came S start (Then step ∷ k) names size st e first a in
+    passes S _ start _ w.result w.new.self.value w.new.self.leave _ step k _ _ _ (sym c.is_left.ensures ∙ c.if-is_left.true) come
 
 pub send_block-returns-then-is_left-2-clause-kept : goal.send_block-returns-then-is_left-2-clause-kept
-send_block-returns-then-is_left-2-clause-kept g m c = λ name S names size st e l i p q.
+send_block-returns-then-is_left-2-clause-kept g m c = λ S names size st e l i p q.
     let w = c.walk-came in
     let right = snd _ _ l.fits in
     let first = sub (fits S c.args.receiver.now) l (fst _ _ right) in
@@ -1492,23 +1048,23 @@ send_block-returns-then-is_left-2-clause-kept g m c = λ name S names size st e 
     stays
 
 pub send_block-returns-then-is_left-2-clause-came : goal.send_block-returns-then-is_left-2-clause-came
-send_block-returns-then-is_left-2-clause-came g m c = λ name S start h k me names size st e l a.
+send_block-returns-then-is_left-2-clause-came g m c = λ S start k names size st e l a.
     let w = c.walk-came in
     let right = snd _ _ l.fits in
     let first = sub (fits S c.args.receiver.now) l (fst _ _ right) in
-    let step = ReceiverOf (text_of S name) (map erase c.args.args.now) (Some (erase_block c.args.block.now)) c.args.at in
-    let come = w.ensures.came S start h (Then step ∷ k) me names size st e first a in
+    let step = ReceiverOf (text_of S c.args.name) (map erase c.args.args.now) (Some (erase_block c.args.block.now)) c.args.at in
+    let come = w.ensures.came S start (Then step ∷ k) names size st e first a in
     let t = c.take-receiver.ensures in
     let y = c.arguments-came in
     let under = moved _ _ w.ensures.base w.ensures.room (sub (every (map (fits S) c.args.args.now)) l (fst _ _ (snd _ _ right))) in
     let none = sym c.is_left.ensures ∙ c.if-is_left.false in
     let v = value_of w.result w.new.self.value in
     let f = rw (t.context, t.base, t.left, t.store, w.ensures.context) at y.ensures.came in
-    let ends = f (OnReceiver v (text_of S name) (Some (erase_block c.args.block.now))) c.args.at S start h k me names size st e under (on _ (given w.result w.new.self.value w.new.self.leave none come) refl) in
+    let ends = f (OnReceiver v (text_of S c.args.name) (Some (erase_block c.args.block.now))) c.args.at S start k names size st e under (on _ (given w.result w.new.self.value w.new.self.leave none come) refl) in
     ends.0 (sym c.is_left-2.ensures ∙ c.if-is_left-2.true)
 
 pub send_block-returns-in-Ok-clause-kept : goal.send_block-returns-in-Ok-clause-kept
-send_block-returns-in-Ok-clause-kept g m c = λ name S names size st e l i p q.
+send_block-returns-in-Ok-clause-kept g m c = λ S names size st e l i p q.
     let w = c.walk-came in
     let right = snd _ _ l.fits in
     let first = sub (fits S c.args.receiver.now) l (fst _ _ right) in
@@ -1524,19 +1080,23 @@ send_block-returns-in-Ok-clause-kept g m c = λ name S names size st e l i p q.
     u S names size st e inside i p (omega (arith, q, base)) ∙ stays
 
 pub send_block-returns-in-Ok-clause-came : goal.send_block-returns-in-Ok-clause-came
-send_block-returns-in-Ok-clause-came g m c = λ name S start h k me names size st e l a.
+send_block-returns-in-Ok-clause-came g m c =
+    let z1 : to_z w64 (of_z w64 c.in-Ok.rounds.first) ≡ c.in-Ok.rounds.first = search rules in
+    let z2 : to_z w64 (of_z w64 c.in-Ok.rounds.last) ≡ c.in-Ok.rounds.last = search rules in
+    let z3 : to_z w64 (of_z w64 c.in-Ok.rounds.answer) ≡ c.in-Ok.rounds.answer = search rules in
+    λ S start k names size st e l a.
     let w = c.walk-came in
     let right = snd _ _ l.fits in
     let first = sub (fits S c.args.receiver.now) l (fst _ _ right) in
-    let step = ReceiverOf (text_of S name) (map erase c.args.args.now) (Some (erase_block c.args.block.now)) c.args.at in
-    let come = w.ensures.came S start h (Then step ∷ k) me names size st e first a in
+    let step = ReceiverOf (text_of S c.args.name) (map erase c.args.args.now) (Some (erase_block c.args.block.now)) c.args.at in
+    let come = w.ensures.came S start (Then step ∷ k) names size st e first a in
     let t = c.take-receiver.ensures in
     let y = c.arguments-came in
     let under = moved _ _ w.ensures.base w.ensures.room (sub (every (map (fits S) c.args.args.now)) l (fst _ _ (snd _ _ right))) in
     let none = sym c.is_left.ensures ∙ c.if-is_left.false in
     let v = value_of w.result w.new.self.value in
     let f = rw (t.context, t.base, t.left, t.store, w.ensures.context) at y.ensures.came in
-    let ends = f (OnReceiver v (text_of S name) (Some (erase_block c.args.block.now))) c.args.at S start h k me names size st e under (on _ (given w.result w.new.self.value w.new.self.leave none come) refl) in
+    let ends = f (OnReceiver v (text_of S c.args.name) (Some (erase_block c.args.block.now))) c.args.at S start k names size st e under (on _ (given w.result w.new.self.value w.new.self.leave none come) refl) in
     let at_end = ends.1 (sym c.is_left-2.ensures ∙ c.if-is_left-2.false) in
     let short : w.new.self.base ≤ length w.new.room = omega (arith, w.ensures.base, w.ensures.room, l.room) in
     let from = rw t.base at y.ensures.fits in
@@ -1546,24 +1106,22 @@ send_block-returns-in-Ok-clause-came g m c = λ name S start h k me names size s
     let passed = rw t.base at c.passed-args.ensures in
     let long : w.new.self.base + length c.args.args.now ≤ length y.new.room = omega (arith, edge, last) in
     let values = passed long in
-    let number = same_is (builtin_of (text_of S name)) c.args.method (fst _ _ l.fits) in
+    let number = same_is (builtin_of (text_of S c.args.name)) c.args.method (fst _ _ l.fits) in
     let args = map plain (take (length c.args.args.now) (drop w.new.self.base y.new.room)) in
-    let answer = deed c.args.self.now.context.names.now v (text_of S name) args (Some (length c.args.block.now.params)) in
-    let table = answers_block c.args.block.now v (text_of S name) args c.args.at answer st.classes (ap (λ (ns : List (List ℕ)). deed ns v (text_of S name) args (Some (length c.args.block.now.params))) (sym e)) at_end in
+    let answer = deed c.args.self.now.context.program.now v (text_of S c.args.name) args (Some (length c.args.block.now.params)) in
+    let none_own = (rw (y.ensures.context, t.context, w.ensures.context, t.value) at (c.target_of.ensures.none c.in_default.is)) S st in
+    let table = answers_block c.args.block.now v (text_of S c.args.name) args c.args.at answer none_own (ap (λ (ns : Program). deed ns v (text_of S c.args.name) args (Some (length c.args.block.now.params))) (sym e)) at_end in
     let o = c.in-Ok.ensures in
     let base : c.rounds.new.self.base ≡ c.args.self.now.base = o.base ∙ (t.base ∙ w.ensures.base) in
     let inside = moved _ _ base (y.ensures.room ∙ w.ensures.room) (sub (block_fits S c.args.block.now) l (snd _ _ (snd _ _ right))) in
     let r = c.in-Ok.rounds in
-    let z1 : to_z w64 (of_z w64 c.in-Ok.rounds.first) ≡ c.in-Ok.rounds.first = search rules in
-    let z2 : to_z w64 (of_z w64 c.in-Ok.rounds.last) ≡ c.in-Ok.rounds.last = search rules in
-    let z3 : to_z w64 (of_z w64 c.in-Ok.rounds.answer) ≡ c.in-Ok.rounds.answer = search rules in
     let said = rw (y.ensures.context, t.context, w.ensures.context, t.value, values, c.len.ensures) at o.rounds in
-    let turning = block_turns S _ start h _ answer (Counting c.in-Ok.rounds.first (c.in-Ok.rounds.last +ℤ pos 1) (Int c.in-Ok.rounds.answer)) (erase_block c.args.block.now) c.args.at k _ _ _ (said (text_of S name) number) table in
+    let turning = block_turns S _ start _ _ answer (Counting c.in-Ok.rounds.first (c.in-Ok.rounds.last +ℤ pos 1) (Int c.in-Ok.rounds.answer)) (erase_block c.args.block.now) c.args.at k _ _ _ (said (text_of S c.args.name) number) table in
     let u = rw (z1, z2, z3, o.context, o.left, o.store, y.ensures.context, t.context, w.ensures.context) at c.turns.ensures.came in
-    u S start h k me names size st e inside turning
+    u S start k names size st e inside turning
 
 pub send_block-returns-clause-kept : goal.send_block-returns-clause-kept
-send_block-returns-clause-kept g m c = λ name S names size st e l i p q.
+send_block-returns-clause-kept g m c = λ S names size st e l i p q.
     let w = c.walk-came in
     let right = snd _ _ l.fits in
     let first = sub (fits S c.args.receiver.now) l (fst _ _ right) in
@@ -1575,19 +1133,19 @@ send_block-returns-clause-kept g m c = λ name S names size st e l i p q.
     stays
 
 pub send_block-returns-clause-came : goal.send_block-returns-clause-came
-send_block-returns-clause-came g m c = λ name S start h k me names size st e l a.
+send_block-returns-clause-came g m c = λ S start k names size st e l a.
     let w = c.walk-came in
     let right = snd _ _ l.fits in
     let first = sub (fits S c.args.receiver.now) l (fst _ _ right) in
-    let step = ReceiverOf (text_of S name) (map erase c.args.args.now) (Some (erase_block c.args.block.now)) c.args.at in
-    let come = w.ensures.came S start h (Then step ∷ k) me names size st e first a in
+    let step = ReceiverOf (text_of S c.args.name) (map erase c.args.args.now) (Some (erase_block c.args.block.now)) c.args.at in
+    let come = w.ensures.came S start (Then step ∷ k) names size st e first a in
     let t = c.take-receiver.ensures in
     let y = c.arguments-came in
     let under = moved _ _ w.ensures.base w.ensures.room (sub (every (map (fits S) c.args.args.now)) l (fst _ _ (snd _ _ right))) in
     let none = sym c.is_left.ensures ∙ c.if-is_left.false in
     let v = value_of w.result w.new.self.value in
     let f = rw (t.context, t.base, t.left, t.store, w.ensures.context) at y.ensures.came in
-    let ends = f (OnReceiver v (text_of S name) (Some (erase_block c.args.block.now))) c.args.at S start h k me names size st e under (on _ (given w.result w.new.self.value w.new.self.leave none come) refl) in
+    let ends = f (OnReceiver v (text_of S c.args.name) (Some (erase_block c.args.block.now))) c.args.at S start k names size st e under (on _ (given w.result w.new.self.value w.new.self.leave none come) refl) in
     let at_end = ends.1 (sym c.is_left-2.ensures ∙ c.if-is_left-2.false) in
     let short : w.new.self.base ≤ length w.new.room = omega (arith, w.ensures.base, w.ensures.room, l.room) in
     let from = rw t.base at y.ensures.fits in
@@ -1597,41 +1155,28 @@ send_block-returns-clause-came g m c = λ name S start h k me names size st e l 
     let passed = rw t.base at c.passed-args.ensures in
     let long : w.new.self.base + length c.args.args.now ≤ length y.new.room = omega (arith, edge, last) in
     let values = passed long in
-    let number = same_is (builtin_of (text_of S name)) c.args.method (fst _ _ l.fits) in
+    let number = same_is (builtin_of (text_of S c.args.name)) c.args.method (fst _ _ l.fits) in
     let args = map plain (take (length c.args.args.now) (drop w.new.self.base y.new.room)) in
-    let answer = deed c.args.self.now.context.names.now v (text_of S name) args (Some (length c.args.block.now.params)) in
-    let table = answers_block c.args.block.now v (text_of S name) args c.args.at answer st.classes (ap (λ (ns : List (List ℕ)). deed ns v (text_of S name) args (Some (length c.args.block.now.params))) (sym e)) at_end in
+    let answer = deed c.args.self.now.context.program.now v (text_of S c.args.name) args (Some (length c.args.block.now.params)) in
+    let none_own = (rw (y.ensures.context, t.context, w.ensures.context, t.value) at (c.target_of.ensures.none c.in_default.is)) S st in
+    let table = answers_block c.args.block.now v (text_of S c.args.name) args c.args.at answer none_own (ap (λ (ns : Program). deed ns v (text_of S c.args.name) args (Some (length c.args.block.now.params))) (sym e)) at_end in
     let g1 = rw (y.ensures.context, t.context, w.ensures.context, t.value, values, c.len.ensures) at c.in-Err.ensures.gives in
     let o = c.rounds.ensures in
-    rw (o.left, o.store) (g1 (text_of S name) S start h (erase_block c.args.block.now) k (scope_of me names y.new.room) c.args.depth number table)
+    rw (o.left, o.store) (g1 (text_of S c.args.name) S start _ (erase_block c.args.block.now) k (scope_of (me_of c.args.self.now.context.me) names y.new.room) c.args.depth number table)
 
 pub begin_other-returns-in-Walk-clause-kept : goal.begin_other-returns-in-Walk-clause-kept
 begin_other-returns-in-Walk-clause-kept g m c = λ S names size st e l i p q.
     let x = c.in-Walk in
-    let s = sym (ap (λ d. fits S d names size) x.is ∙ fits-walk S names size x.method x.field-1 x.receiver x.args x.block x.at) ∙ l.fits in
+    let s = sym (ap (λ d. fits S d names size) x.is ∙ fits-walk S names size x.method x.name x.receiver x.args x.block x.at) ∙ l.fits in
     let under = sub _ l (rw (c.get-in-Walk.ensures, c.as_slice-in-Walk.ensures, c.get-in-Walk-2.ensures) s) in
-    c.send_block.ensures.kept x.field-1 S names size st e under i p q
+    c.send_block.ensures.kept S names size st e under i p q
 
 pub begin_other-returns-in-Walk-clause-came : goal.begin_other-returns-in-Walk-clause-came
-begin_other-returns-in-Walk-clause-came g m c = λ S start h k me names size st e l a.
+begin_other-returns-in-Walk-clause-came g m c = λ S start k names size st e l a.
     let x = c.in-Walk in
-    let s = sym (ap (λ d. fits S d names size) x.is ∙ fits-walk S names size x.method x.field-1 x.receiver x.args x.block x.at) ∙ l.fits in
+    let s = sym (ap (λ d. fits S d names size) x.is ∙ fits-walk S names size x.method x.name x.receiver x.args x.block x.at) ∙ l.fits in
     let under = sub _ l (rw (c.get-in-Walk.ensures, c.as_slice-in-Walk.ensures, c.get-in-Walk-2.ensures) s) in
-    c.send_block.ensures.came x.field-1 S start h k me names size st e under (rw (c.get-in-Walk.ensures, c.as_slice-in-Walk.ensures, c.get-in-Walk-2.ensures) (begins _ _ k _ _ _ (shows-walk c.args.code.now x.method x.field-1 x.receiver x.args x.block x.at x.is) a))
-
-pub begin_function-returns-in-Function-clause-kept : goal.begin_function-returns-in-Function-clause-kept
-begin_function-returns-in-Function-clause-kept g m c = λ S names size st e l i p q.
-    let x = c.in-Function in
-    let s = sym (ap (λ d. fits S d names size) x.is ∙ fits-function S names size x.number x.field-1 x.args x.at) ∙ l.fits in
-    let under = sub _ l (rw c.as_slice.ensures s) in
-    c.function.ensures.kept x.field-1 S names size st e under i p q
-
-pub begin_function-returns-in-Function-clause-came : goal.begin_function-returns-in-Function-clause-came
-begin_function-returns-in-Function-clause-came g m c = λ S start h k me names size st e l a.
-    let x = c.in-Function in
-    let s = sym (ap (λ d. fits S d names size) x.is ∙ fits-function S names size x.number x.field-1 x.args x.at) ∙ l.fits in
-    let under = sub _ l (rw c.as_slice.ensures s) in
-    c.function.ensures.came x.field-1 S start h k me names size st e under (rw c.as_slice.ensures (begins _ _ k _ _ _ (shows-function c.args.code.now x.number x.field-1 x.args x.at x.is) a))
+    c.send_block.ensures.came S start k names size st e under (rw (c.get-in-Walk.ensures, c.as_slice-in-Walk.ensures, c.get-in-Walk-2.ensures) (begins _ _ k _ _ _ (shows-walk c.args.code.now x.method x.name x.receiver x.args x.block x.at x.is) a))
 
 pub begin-returns-in-SetLocal-clause-kept : goal.begin-returns-in-SetLocal-clause-kept
 begin-returns-in-SetLocal-clause-kept g m c = c.begin_set.ensures.kept
@@ -1676,49 +1221,49 @@ pub begin-returns-in_default-clause-came : goal.begin-returns-in_default-clause-
 begin-returns-in_default-clause-came g m c = c.begin_other.ensures.came
 
 pub begin_set-returns-in_default-clause-came : goal.begin_set-returns-in_default-clause-came
-begin_set-returns-in_default-clause-came g m c = λ S start h k me names size st e l a.
+begin_set-returns-in_default-clause-came g m c = λ S start k names size st e l a.
     let o = c.over.ensures in
-    rw (o.gives, o.left, o.store) (_, a, begin_left S (out-Node (erase c.args.code.now)) k (scope_of me names c.args.room.now) c.args.depth c.args.self.now.left)
+    rw (o.gives, o.left, o.store) (_, a, begin_left S (out-Node (erase c.args.code.now)) k (scope_of (me_of c.args.self.now.context.me) names c.args.room.now) c.args.depth c.args.self.now.left)
 
 pub begin_update-returns-in_default-clause-came : goal.begin_update-returns-in_default-clause-came
-begin_update-returns-in_default-clause-came g m c = λ S start h k me names size st e l a.
+begin_update-returns-in_default-clause-came g m c = λ S start k names size st e l a.
     let o = c.over.ensures in
-    rw (o.gives, o.left, o.store) (_, a, begin_left S (out-Node (erase c.args.code.now)) k (scope_of me names c.args.room.now) c.args.depth c.args.self.now.left)
+    rw (o.gives, o.left, o.store) (_, a, begin_left S (out-Node (erase c.args.code.now)) k (scope_of (me_of c.args.self.now.context.me) names c.args.room.now) c.args.depth c.args.self.now.left)
 
 pub begin_slow_update-returns-in_default-clause-came : goal.begin_slow_update-returns-in_default-clause-came
-begin_slow_update-returns-in_default-clause-came g m c = λ S start h k me names size st e l a.
+begin_slow_update-returns-in_default-clause-came g m c = λ S start k names size st e l a.
     let o = c.over.ensures in
-    rw (o.gives, o.left, o.store) (_, a, begin_left S (out-Node (erase c.args.code.now)) k (scope_of me names c.args.room.now) c.args.depth c.args.self.now.left)
+    rw (o.gives, o.left, o.store) (_, a, begin_left S (out-Node (erase c.args.code.now)) k (scope_of (me_of c.args.self.now.context.me) names c.args.room.now) c.args.depth c.args.self.now.left)
 
 pub begin_operate-returns-in_default-clause-came : goal.begin_operate-returns-in_default-clause-came
-begin_operate-returns-in_default-clause-came g m c = λ S start h k me names size st e l a.
+begin_operate-returns-in_default-clause-came g m c = λ S start k names size st e l a.
     let o = c.over.ensures in
-    rw (o.gives, o.left, o.store) (_, a, begin_left S (out-Node (erase c.args.code.now)) k (scope_of me names c.args.room.now) c.args.depth c.args.self.now.left)
+    rw (o.gives, o.left, o.store) (_, a, begin_left S (out-Node (erase c.args.code.now)) k (scope_of (me_of c.args.self.now.context.me) names c.args.room.now) c.args.depth c.args.self.now.left)
 
 pub begin_slow_operate-returns-in_default-clause-came : goal.begin_slow_operate-returns-in_default-clause-came
-begin_slow_operate-returns-in_default-clause-came g m c = λ S start h k me names size st e l a.
+begin_slow_operate-returns-in_default-clause-came g m c = λ S start k names size st e l a.
     let o = c.over.ensures in
-    rw (o.gives, o.left, o.store) (_, a, begin_left S (out-Node (erase c.args.code.now)) k (scope_of me names c.args.room.now) c.args.depth c.args.self.now.left)
+    rw (o.gives, o.left, o.store) (_, a, begin_left S (out-Node (erase c.args.code.now)) k (scope_of (me_of c.args.self.now.context.me) names c.args.room.now) c.args.depth c.args.self.now.left)
 
 pub begin_send-returns-in_default-clause-came : goal.begin_send-returns-in_default-clause-came
-begin_send-returns-in_default-clause-came g m c = λ S start h k me names size st e l a.
+begin_send-returns-in_default-clause-came g m c = λ S start k names size st e l a.
     let o = c.over.ensures in
-    rw (o.gives, o.left, o.store) (_, a, begin_left S (out-Node (erase c.args.code.now)) k (scope_of me names c.args.room.now) c.args.depth c.args.self.now.left)
+    rw (o.gives, o.left, o.store) (_, a, begin_left S (out-Node (erase c.args.code.now)) k (scope_of (me_of c.args.self.now.context.me) names c.args.room.now) c.args.depth c.args.self.now.left)
 
 pub begin_function-returns-in_default-clause-came : goal.begin_function-returns-in_default-clause-came
-begin_function-returns-in_default-clause-came g m c = λ S start h k me names size st e l a.
+begin_function-returns-in_default-clause-came g m c = λ S start k names size st e l a.
     let o = c.over.ensures in
-    rw (o.gives, o.left, o.store) (_, a, begin_left S (out-Node (erase c.args.code.now)) k (scope_of me names c.args.room.now) c.args.depth c.args.self.now.left)
+    rw (o.gives, o.left, o.store) (_, a, begin_left S (out-Node (erase c.args.code.now)) k (scope_of (me_of c.args.self.now.context.me) names c.args.room.now) c.args.depth c.args.self.now.left)
 
 pub begin_choice-returns-in_default-clause-came : goal.begin_choice-returns-in_default-clause-came
-begin_choice-returns-in_default-clause-came g m c = λ S start h k me names size st e l a.
+begin_choice-returns-in_default-clause-came g m c = λ S start k names size st e l a.
     let o = c.over.ensures in
-    rw (o.gives, o.left, o.store) (_, a, begin_left S (out-Node (erase c.args.code.now)) k (scope_of me names c.args.room.now) c.args.depth c.args.self.now.left)
+    rw (o.gives, o.left, o.store) (_, a, begin_left S (out-Node (erase c.args.code.now)) k (scope_of (me_of c.args.self.now.context.me) names c.args.room.now) c.args.depth c.args.self.now.left)
 
 pub begin_other-returns-in_default-clause-came : goal.begin_other-returns-in_default-clause-came
-begin_other-returns-in_default-clause-came g m c = λ S start h k me names size st e l a.
+begin_other-returns-in_default-clause-came g m c = λ S start k names size st e l a.
     let o = c.over.ensures in
-    rw (o.gives, o.left, o.store) (_, a, begin_left S (out-Node (erase c.args.code.now)) k (scope_of me names c.args.room.now) c.args.depth c.args.self.now.left)
+    rw (o.gives, o.left, o.store) (_, a, begin_left S (out-Node (erase c.args.code.now)) k (scope_of (me_of c.args.self.now.context.me) names c.args.room.now) c.args.depth c.args.self.now.left)
 
 pub begin_update-returns-in-Some-clause-kept : goal.begin_update-returns-in-Some-clause-kept
 begin_update-returns-in-Some-clause-kept g m c = λ S names size st e l i p q.
@@ -1729,17 +1274,17 @@ begin_update-returns-in-Some-clause-kept g m c = λ S names size st e l i p q.
     ap (λ r. slice_get r i) is.7 ∙ get_set c.args.room.now x.slot i _ (λ z. omega (arith, z, within, l.within, p))
 
 pub begin_update-returns-in-Some-clause-came : goal.begin_update-returns-in-Some-clause-came
-begin_update-returns-in-Some-clause-came g m c = λ S start h k me names size st e l a.
+begin_update-returns-in-Some-clause-came g m c = λ S start k names size st e l a.
     let x = c.in-UpdateLocal in
     let s = sym (ap (λ d. fits S d names size) x.is ∙ fits-update_local S names size x.slot x.field-1 x.op x.value x.field-4) ∙ l.fits in
     let right : fits S c.get.result.now names size ≡ true = rw c.get.ensures (snd _ _ s) in
     let len : length names ≤ length c.args.room.now = omega (arith, l.within, l.below, l.room) in
-    let b = same (begins _ _ k _ _ _ (shows-update_local c.args.code.now x.slot x.field-1 x.op x.value x.field-4 x.is) a) (target_local S x.field-1 x.op (erase x.value) x.field-4 k (scope_of me names c.args.room.now) c.args.depth c.args.self.now.left) in
+    let b = same (begins _ _ k _ _ _ (shows-update_local c.args.code.now x.slot x.field-1 x.op x.value x.field-4 x.is) a) (target_local S x.field-1 x.op (erase x.value) x.field-4 k (scope_of (me_of c.args.self.now.context.me) names c.args.room.now) c.args.depth c.args.self.now.left) in
     let z : to_z w64 (of_z w64 c.in-Some.n) ≡ c.in-Some.n = search rules in
-    rw z (updates S _ start h _ k me names size c.args.depth c.args.self.now.left c.args.room.now c.quick_update.new.room x.slot x.field-1 x.op c.get.result.now x.field-4 c.in-Some.n st.classes (fst _ _ s) right len c.if-self-gt0.true c.if-depth-lt-MAX_DEPTH.true c.in-Some.ensures.some (rw c.get.ensures b))
+    rw z (updates S _ start _ _ k _ names size c.args.depth c.args.self.now.left c.args.room.now c.quick_update.new.room x.slot x.field-1 x.op c.get.result.now x.field-4 c.in-Some.n (fst _ _ s) right len c.if-self-gt0.true c.if-depth-lt-MAX_DEPTH.true c.in-Some.ensures.some (rw c.get.ensures b))
 
 pub begin_operate-returns-in-Some-clause-came : goal.begin_operate-returns-in-Some-clause-came
-begin_operate-returns-in-Some-clause-came g m c = λ S start h k me names size st e l a.
+begin_operate-returns-in-Some-clause-came g m c = λ S start k names size st e l a.
     let x = c.in-Operate in
     let s = sym (ap (λ d. fits S d names size) x.is ∙ fits-operate S names size x.method x.field-1 x.left x.right x.at) ∙ l.fits in
     let first = c.get.result.now in
@@ -1751,13 +1296,13 @@ begin_operate-returns-in-Some-clause-came g m c = λ S start h k me names size s
     let o = c.answer.ensures in
     let number = same_is (builtin_of (text_of S x.field-1)) x.method (fst _ _ s) in
     let b = begins _ _ k _ _ _ (shows-operate c.args.code.now x.method x.field-1 x.left x.right x.at x.is) a in
-    rw (o.gives, o.left, o.store, sym (is.4 S.program.names (text_of S x.field-1) number))
-    (calls_pair S _ start h _ k me names size c.args.depth c.args.self.now.left c.args.room.now x.field-1 first second x.at (Int is.0) (Int is.1) _ st.classes fl fr len c.if-self-gt1.true c.if-depth-lt-MAX_DEPTH.true is.2 is.3 (inl refl) (rw (c.get.ensures, c.get-then-depth-lt-MAX_DEPTH.ensures) b))
+    rw (o.gives, o.left, o.store, sym (is.4 S.program (text_of S x.field-1) number))
+    (calls_pair S _ start _ _ k _ names size c.args.depth c.args.self.now.left c.args.room.now x.field-1 first second x.at (Int is.0) (Int is.1) _ (none_plain S (Int is.0) (text_of S x.field-1) refl) fl fr len c.if-self-gt1.true c.if-depth-lt-MAX_DEPTH.true is.2 is.3 (inl refl) (rw (c.get.ensures, c.get-then-depth-lt-MAX_DEPTH.ensures) b))
 
 pub begin_slow_operate-returns-in-Some-held_alone-clause-came : goal.begin_slow_operate-returns-in-Some-held_alone-clause-came
-begin_slow_operate-returns-in-Some-held_alone-clause-came g m c = λ S start h k me names size st e l a.
+begin_slow_operate-returns-in-Some-held_alone-clause-came g m c = λ S start k names size st e l a.
     let x = c.in-Operate in
-    let s = sym (ap (λ d. fits S d names size) x.is ∙ fits-operate S names size x.method x.field-1 x.left x.right x.at) ∙ l.fits in
+    let s = sym (ap (λ d. fits S d names size) x.is ∙ fits-operate S names size x.method x.name x.left x.right x.at) ∙ l.fits in
     let first = c.get-left.result.now in
     let second = c.get-right.result.now in
     let fl : fits S first names size ≡ true = rw c.get-left.ensures (fst _ _ (snd _ _ s)) in
@@ -1765,135 +1310,135 @@ begin_slow_operate-returns-in-Some-held_alone-clause-came g m c = λ S start h k
     let len : length names ≤ length c.args.room.now = omega (arith, l.within, l.below, l.room) in
     let vs = c.in-Some-held_alone.ensures in
     let o = c.call_held.ensures in
-    let number = same_is (builtin_of (text_of S x.field-1)) x.method (fst _ _ s) in
-    let given = rw (sym e, vs.1) at (o.gives (text_of S x.field-1) number) in
-    let b = begins _ _ k _ _ _ (shows-operate c.args.code.now x.method x.field-1 x.left x.right x.at x.is) a in
+    let number = same_is (builtin_of (text_of S x.name)) x.method (fst _ _ s) in
+    let given = rw (sym e, vs.1) at (o.gives (text_of S x.name) number) in
+    let b = begins _ _ k _ _ _ (shows-operate c.args.code.now x.method x.name x.left x.right x.at x.is) a in
     rw (o.left, o.store)
-    (calls_pair S _ start h _ k me names size c.args.depth c.args.self.now.left c.args.room.now x.field-1 first second x.at (plain c.in-Some.receiver.now) vs.0 _ st.classes fl fr len c.if-self-gt1.true c.if-depth-lt-MAX_DEPTH.true c.in-Some.ensures vs.2 given (rw (c.get-left.ensures, c.get-right.ensures) b))
+    (calls_pair S _ start _ _ k _ names size c.args.depth c.args.self.now.left c.args.room.now x.name first second x.at (plain c.in-Some.receiver.now) vs.0 _ (none_plain S (plain c.in-Some.receiver.now) (text_of S x.name) c.in-Some.ensures.plain) fl fr len c.if-self-gt1.true c.if-depth-lt-MAX_DEPTH.true c.in-Some.ensures.held vs.2 given (rw (c.get-left.ensures, c.get-right.ensures) b))
 
 pub begin_slow_operate-returns-after-self-gt1-clause-kept : goal.begin_slow_operate-returns-after-self-gt1-clause-kept
 begin_slow_operate-returns-after-self-gt1-clause-kept g m c = λ S names size st e l i p q.
     let x = c.in-Operate in
-    let s = sym (ap (λ d. fits S d names size) x.is ∙ fits-operate S names size x.method x.field-1 x.left x.right x.at) ∙ l.fits in
+    let s = sym (ap (λ d. fits S d names size) x.is ∙ fits-operate S names size x.method x.name x.left x.right x.at) ∙ l.fits in
     let under = sub _ l (rw (c.get-left.ensures, c.get-right.ensures) s) in
-    c.operate.ensures.kept x.field-1 S names size st e under i p q
+    c.operate.ensures.kept S names size st e under i p q
 
 pub begin_slow_operate-returns-after-self-gt1-clause-came : goal.begin_slow_operate-returns-after-self-gt1-clause-came
-begin_slow_operate-returns-after-self-gt1-clause-came g m c = λ S start h k me names size st e l a.
+begin_slow_operate-returns-after-self-gt1-clause-came g m c = λ S start k names size st e l a.
     let x = c.in-Operate in
-    let s = sym (ap (λ d. fits S d names size) x.is ∙ fits-operate S names size x.method x.field-1 x.left x.right x.at) ∙ l.fits in
+    let s = sym (ap (λ d. fits S d names size) x.is ∙ fits-operate S names size x.method x.name x.left x.right x.at) ∙ l.fits in
     let under = sub _ l (rw (c.get-left.ensures, c.get-right.ensures) s) in
-    c.operate.ensures.came x.field-1 S start h k me names size st e under (rw (c.get-left.ensures, c.get-right.ensures) (begins _ _ k _ _ _ (shows-operate c.args.code.now x.method x.field-1 x.left x.right x.at x.is) a))
+    c.operate.ensures.came S start k names size st e under (rw (c.get-left.ensures, c.get-right.ensures) (begins _ _ k _ _ _ (shows-operate c.args.code.now x.method x.name x.left x.right x.at x.is) a))
 
 pub begin_send-returns-in-Some-clause-came : goal.begin_send-returns-in-Some-clause-came
-begin_send-returns-in-Some-clause-came g m c = λ S start h k me names size st e l a.
+begin_send-returns-in-Some-clause-came g m c = λ S start k names size st e l a.
     let x = c.in-Send in
-    let s = sym (ap (λ d. fits S d names size) x.is ∙ fits-send S names size x.method x.field-1 x.receiver x.args x.at) ∙ l.fits in
+    let s = sym (ap (λ d. fits S d names size) x.is ∙ fits-send S names size x.method x.name x.receiver x.args x.at) ∙ l.fits in
     let first = c.get-receiver.result.now in
     let right : fits S first names size ≡ true = rw c.get-receiver.ensures (fst _ _ (snd _ _ s)) in
     let len : length names ≤ length c.args.room.now = omega (arith, l.within, l.below, l.room) in
     let none : x.args ≡ [] = c.if-is_empty.ensures.0 refl in
     let o = c.call_held.ensures in
-    let number = same_is (builtin_of (text_of S x.field-1)) x.method (fst _ _ s) in
-    let given = rw (sym e) at (o.gives (text_of S x.field-1) number) in
-    let b = same (begins _ _ k _ _ _ (shows-send c.args.code.now x.method x.field-1 x.receiver x.args x.at x.is) a) (ap (λ args. On (Eval (erase x.receiver)) (Then (ReceiverOf (text_of S x.field-1) (map erase args) None x.at) ∷ k) (scope_of me names c.args.room.now) c.args.depth c.args.self.now.left) none) in
+    let number = same_is (builtin_of (text_of S x.name)) x.method (fst _ _ s) in
+    let given = rw (sym e) at (o.gives (text_of S x.name) number) in
+    let b = same (begins _ _ k _ _ _ (shows-send c.args.code.now x.method x.name x.receiver x.args x.at x.is) a) (ap (λ args. On (Eval (erase x.receiver)) (Then (ReceiverOf (text_of S x.name) (map erase args) None x.at) ∷ k) (scope_of (me_of c.args.self.now.context.me) names c.args.room.now) c.args.depth c.args.self.now.left) none) in
     rw (o.left, o.store)
-    (calls_held S _ start h _ k me names size c.args.depth c.args.self.now.left c.args.room.now x.field-1 first x.at (plain c.in-Some.held.now) _ st.classes right len c.if-self-gt0.true c.if-depth-lt-MAX_DEPTH.true c.in-Some.ensures given (rw c.get-receiver.ensures b))
+    (calls_held S _ start _ _ k _ names size c.args.depth c.args.self.now.left c.args.room.now x.name first x.at (plain c.in-Some.held.now) _ (none_plain S (plain c.in-Some.held.now) (text_of S x.name) c.in-Some.ensures.plain) right len c.if-self-gt0.true c.if-depth-lt-MAX_DEPTH.true c.in-Some.ensures.held given (rw c.get-receiver.ensures b))
 
 pub begin_send-returns-after-self-gt0-clause-kept : goal.begin_send-returns-after-self-gt0-clause-kept
 begin_send-returns-after-self-gt0-clause-kept g m c = λ S names size st e l i p q.
     let x = c.in-Send in
-    let s = sym (ap (λ d. fits S d names size) x.is ∙ fits-send S names size x.method x.field-1 x.receiver x.args x.at) ∙ l.fits in
+    let s = sym (ap (λ d. fits S d names size) x.is ∙ fits-send S names size x.method x.name x.receiver x.args x.at) ∙ l.fits in
     let under = sub _ l (rw (c.get-receiver.ensures, c.as_slice.ensures) s) in
-    c.send.ensures.kept x.field-1 S names size st e under i p q
+    c.send.ensures.kept S names size st e under i p q
 
 pub begin_send-returns-after-self-gt0-clause-came : goal.begin_send-returns-after-self-gt0-clause-came
-begin_send-returns-after-self-gt0-clause-came g m c = λ S start h k me names size st e l a.
+begin_send-returns-after-self-gt0-clause-came g m c = λ S start k names size st e l a.
     let x = c.in-Send in
-    let s = sym (ap (λ d. fits S d names size) x.is ∙ fits-send S names size x.method x.field-1 x.receiver x.args x.at) ∙ l.fits in
+    let s = sym (ap (λ d. fits S d names size) x.is ∙ fits-send S names size x.method x.name x.receiver x.args x.at) ∙ l.fits in
     let under = sub _ l (rw (c.get-receiver.ensures, c.as_slice.ensures) s) in
-    c.send.ensures.came x.field-1 S start h k me names size st e under (rw (c.get-receiver.ensures, c.as_slice.ensures) (begins _ _ k _ _ _ (shows-send c.args.code.now x.method x.field-1 x.receiver x.args x.at x.is) a))
+    c.send.ensures.came S start k names size st e under (rw (c.get-receiver.ensures, c.as_slice.ensures) (begins _ _ k _ _ _ (shows-send c.args.code.now x.method x.name x.receiver x.args x.at x.is) a))
 
 pub operate-returns-then-is_left-clause-came : goal.operate-returns-then-is_left-clause-came
-operate-returns-then-is_left-clause-came g m c = λ name S start h k me names size st e l a.
+operate-returns-then-is_left-clause-came g m c = λ S start k names size st e l a.
     let w = c.evaluate_call-came in
-    let e1 = w.ensures.came S start h (Then (ReceiverOf (text_of S name) (erase c.args.right.now ∷ []) None c.args.at) ∷ k) me names size st e (sub (fits S c.args.left.now) l (fst _ _ (snd _ _ l.fits))) a in
-    passes S _ start h w.result w.new.self.value w.new.self.leave _ (ReceiverOf (text_of S name) (erase c.args.right.now ∷ []) None c.args.at) k _ _ _ (sym c.is_left.ensures ∙ c.if-is_left.true) e1
+    let e1 = w.ensures.came S start (Then (ReceiverOf (text_of S c.args.name) (erase c.args.right.now ∷ []) None c.args.at) ∷ k) names size st e (sub (fits S c.args.left.now) l (fst _ _ (snd _ _ l.fits))) a in
+    passes S _ start _ w.result w.new.self.value w.new.self.leave _ (ReceiverOf (text_of S c.args.name) (erase c.args.right.now ∷ []) None c.args.at) k _ _ _ (sym c.is_left.ensures ∙ c.if-is_left.true) e1
 
 pub operate-returns-then-is_left-clause-kept : goal.operate-returns-then-is_left-clause-kept
-operate-returns-then-is_left-clause-kept g m c = λ name S names size st e l i p q.
+operate-returns-then-is_left-clause-kept g m c = λ S names size st e l i p q.
     c.evaluate_call-came.ensures.kept S names size st e (sub (fits S c.args.left.now) l (fst _ _ (snd _ _ l.fits))) i p q
 
 pub operate-returns-in-Int-clause-kept : goal.operate-returns-in-Int-clause-kept
-operate-returns-in-Int-clause-kept g m c = λ name S names size st e l i p q.
+operate-returns-in-Int-clause-kept g m c = λ S names size st e l i p q.
     let w = c.evaluate_call-came in
     let right = two _ (fits S c.args.right.now names size) (fst _ _ l.fits) (snd _ _ (snd _ _ l.fits)) in
-    let under = moved _ _ w.ensures.base w.ensures.room (sub (numbered c.args.method name (λ S. fits S c.args.right.now) S) l right) in
+    let under = moved _ _ w.ensures.base w.ensures.room (sub (numbered c.args.method c.args.name (λ S. fits S c.args.right.now) S) l right) in
     let f = rw w.ensures.context at c.operate_integer.ensures.kept in
-    f name S names size st e under i p (omega (arith, q, w.ensures.base)) ∙ w.ensures.kept S names size st e (sub (fits S c.args.left.now) l (fst _ _ (snd _ _ l.fits))) i p q
+    f c.args.name S names size st e under i p (omega (arith, q, w.ensures.base)) ∙ w.ensures.kept S names size st e (sub (fits S c.args.left.now) l (fst _ _ (snd _ _ l.fits))) i p q
 
 pub operate-returns-in-Int-clause-came : goal.operate-returns-in-Int-clause-came
-operate-returns-in-Int-clause-came g m c = λ name S start h k me names size st e l a.
+operate-returns-in-Int-clause-came g m c = λ S start k names size st e l a.
     let w = c.evaluate_call-came in
-    let e1 = w.ensures.came S start h (Then (ReceiverOf (text_of S name) (erase c.args.right.now ∷ []) None c.args.at) ∷ k) me names size st e (sub (fits S c.args.left.now) l (fst _ _ (snd _ _ l.fits))) a in
+    let e1 = w.ensures.came S start (Then (ReceiverOf (text_of S c.args.name) (erase c.args.right.now ∷ []) None c.args.at) ∷ k) names size st e (sub (fits S c.args.left.now) l (fst _ _ (snd _ _ l.fits))) a in
     let g1 = given w.result w.new.self.value w.new.self.leave (sym c.is_left.ensures ∙ c.if-is_left.false) e1 in
     let z : to_z w64 (of_z w64 c.in-Int.m) ≡ c.in-Int.m = search rules in
     let m = to_z w64 (of_z w64 c.in-Int.m) in
     let v : value_of w.result w.new.self.value ≡ Int m = ap (λ r. value_of r w.new.self.value) c.in-Int.is ∙ ap Int (sym z) in
     let g2 = gives (Int m) v g1 in
     let right = two _ (fits S c.args.right.now names size) (fst _ _ l.fits) (snd _ _ (snd _ _ l.fits)) in
-    let under = moved _ _ w.ensures.base w.ensures.room (sub (numbered c.args.method name (λ S. fits S c.args.right.now) S) l right) in
+    let under = moved _ _ w.ensures.base w.ensures.room (sub (numbered c.args.method c.args.name (λ S. fits S c.args.right.now) S) l right) in
     let f = rw w.ensures.context at c.operate_integer.ensures.came in
-    f name S start h k me names size st e under (on _ (on _ g2 refl) refl)
+    f c.args.name S start k names size st e under (on _ (on _ g2 refl) refl)
 
 pub operate-returns-in_default-clause-kept : goal.operate-returns-in_default-clause-kept
-operate-returns-in_default-clause-kept g m c = λ name S names size st e l i p q.
+operate-returns-in_default-clause-kept g m c = λ S names size st e l i p q.
     let w = c.evaluate_call-came in
     let right = two _ (fits S c.args.right.now names size) (fst _ _ l.fits) (snd _ _ (snd _ _ l.fits)) in
-    let under = moved _ _ w.ensures.base w.ensures.room (sub (numbered c.args.method name (λ S. fits S c.args.right.now) S) l right) in
+    let under = moved _ _ w.ensures.base w.ensures.room (sub (numbered c.args.method c.args.name (λ S. fits S c.args.right.now) S) l right) in
     let f = rw w.ensures.context at c.operate_value.ensures.kept in
-    f name S names size st e under i p (omega (arith, q, w.ensures.base)) ∙ w.ensures.kept S names size st e (sub (fits S c.args.left.now) l (fst _ _ (snd _ _ l.fits))) i p q
+    f S names size st e under i p (omega (arith, q, w.ensures.base)) ∙ w.ensures.kept S names size st e (sub (fits S c.args.left.now) l (fst _ _ (snd _ _ l.fits))) i p q
 
 pub operate-returns-in_default-clause-came : goal.operate-returns-in_default-clause-came
-operate-returns-in_default-clause-came g m c = λ name S start h k me names size st e l a.
+operate-returns-in_default-clause-came g m c = λ S start k names size st e l a.
     let w = c.evaluate_call-came in
-    let e1 = w.ensures.came S start h (Then (ReceiverOf (text_of S name) (erase c.args.right.now ∷ []) None c.args.at) ∷ k) me names size st e (sub (fits S c.args.left.now) l (fst _ _ (snd _ _ l.fits))) a in
+    let e1 = w.ensures.came S start (Then (ReceiverOf (text_of S c.args.name) (erase c.args.right.now ∷ []) None c.args.at) ∷ k) names size st e (sub (fits S c.args.left.now) l (fst _ _ (snd _ _ l.fits))) a in
     let g1 = given w.result w.new.self.value w.new.self.leave (sym c.is_left.ensures ∙ c.if-is_left.false) e1 in
     let g2 = g1 in
     let right = two _ (fits S c.args.right.now names size) (fst _ _ l.fits) (snd _ _ (snd _ _ l.fits)) in
-    let under = moved _ _ w.ensures.base w.ensures.room (sub (numbered c.args.method name (λ S. fits S c.args.right.now) S) l right) in
+    let under = moved _ _ w.ensures.base w.ensures.room (sub (numbered c.args.method c.args.name (λ S. fits S c.args.right.now) S) l right) in
     let f = rw w.ensures.context at c.operate_value.ensures.came in
-    f name S start h k me names size st e under (on _ (on _ g2 refl) refl)
+    f S start k names size st e under (on _ (on _ g2 refl) refl)
 
 pub operate_integer-returns-then-is_left-clause-kept : goal.operate_integer-returns-then-is_left-clause-kept
 operate_integer-returns-then-is_left-clause-kept g m c = λ name S names size st e l i p q. c.evaluate-came.ensures.kept S names size st e (sub (fits S c.args.right.now) l (snd _ _ l.fits)) i p q
 
 pub operate_integer-returns-then-is_left-clause-came : goal.operate_integer-returns-then-is_left-clause-came
-operate_integer-returns-then-is_left-clause-came g m c = λ name S start h k me names size st e l a.
+operate_integer-returns-then-is_left-clause-came g m c = λ name S start k names size st e l a.
     let w = c.evaluate-came in
     let step = Argument (OnReceiver (Int c.args.m) (text_of S name) None) [] [] c.args.at in
-    let come = w.ensures.came S start h (Then step ∷ k) me names size st e (sub (fits S c.args.right.now) l (snd _ _ l.fits)) a in
-    passes S _ start h w.result w.new.self.value w.new.self.leave _ step k _ _ _ (sym c.is_left.ensures ∙ c.if-is_left.true) come
+    let come = w.ensures.came S start (Then step ∷ k) names size st e (sub (fits S c.args.right.now) l (snd _ _ l.fits)) a in
+    passes S _ start _ w.result w.new.self.value w.new.self.leave _ step k _ _ _ (sym c.is_left.ensures ∙ c.if-is_left.true) come
 
 pub operate_integer-returns-clause-kept : goal.operate_integer-returns-clause-kept
 operate_integer-returns-clause-kept g m c = λ name S names size st e l i p q. c.evaluate-came.ensures.kept S names size st e (sub (fits S c.args.right.now) l (snd _ _ l.fits)) i p q
 
 pub operate_integer-returns-clause-came : goal.operate_integer-returns-clause-came
-operate_integer-returns-clause-came g m c = λ name S start h k me names size st e l a.
+operate_integer-returns-clause-came g m c = λ name S start k names size st e l a.
     let w = c.evaluate-came in
     let step = Argument (OnReceiver (Int c.args.m) (text_of S name) None) [] [] c.args.at in
-    let come = w.ensures.came S start h (Then step ∷ k) me names size st e (sub (fits S c.args.right.now) l (snd _ _ l.fits)) a in
+    let come = w.ensures.came S start (Then step ∷ k) names size st e (sub (fits S c.args.right.now) l (snd _ _ l.fits)) a in
     let none = sym c.is_left.ensures ∙ c.if-is_left.false in
     let g1 = given w.result w.new.self.value w.new.self.leave none come in
     let o = c.operated_by.ensures in
     let number = same_is (builtin_of (text_of S name)) c.args.method (fst _ _ l.fits) in
     let z : to_z w64 (of_z w64 c.args.m) ≡ c.args.m = search rules in
-    let d0 : OrMemory (outcome_of (deed w.new.self.context.names.now (Int (to_z w64 (of_z w64 c.args.m))) (text_of S name) (value_of w.result w.new.self.value ∷ []) None) c.args.at) (outcome c.operated_by.result c.operated_by.new.self.value c.operated_by.new.self.leave) = o.gives (text_of S name) number in
+    let d0 : OrMemory (outcome_of (deed w.new.self.context.program.now (Int (to_z w64 (of_z w64 c.args.m))) (text_of S name) (value_of w.result w.new.self.value ∷ []) None) c.args.at) (outcome c.operated_by.result c.operated_by.new.self.value c.operated_by.new.self.leave) = o.gives (text_of S name) number in
     let d = rw (z, w.ensures.context, sym e) at d0 in
-    rw (o.left, o.store) (calls S _ start h _ (Int c.args.m) (text_of S name) (value_of w.result w.new.self.value ∷ []) c.args.at k _ _ _ _ st.classes d (on _ (on _ g1 refl) refl))
+    rw (o.left, o.store) (calls S _ start _ _ (Int c.args.m) (text_of S name) (value_of w.result w.new.self.value ∷ []) c.args.at k _ _ _ _ (none_plain S (Int c.args.m) (text_of S name) refl) d (on _ (on _ g1 refl) refl))
 
 pub operate_value-returns-then-is_left-clause-kept : goal.operate_value-returns-then-is_left-clause-kept
-operate_value-returns-then-is_left-clause-kept g m c = λ name S names size st e l i p q.
+operate_value-returns-then-is_left-clause-kept g m c = λ S names size st e l i p q.
     let t = c.take-receiver in
     let w = c.walk-came in
     let under = moved _ _ t.ensures.base refl (sub (fits S c.args.right.now) l (snd _ _ l.fits)) in
@@ -1901,17 +1446,17 @@ operate_value-returns-then-is_left-clause-kept g m c = λ name S names size st e
     f S names size st e under i p (omega (arith, q, t.ensures.base))
 
 pub operate_value-returns-then-is_left-clause-came : goal.operate_value-returns-then-is_left-clause-came
-operate_value-returns-then-is_left-clause-came g m c = λ name S start h k me names size st e l a.
+operate_value-returns-then-is_left-clause-came g m c = λ S start k names size st e l a.
     let t = c.take-receiver in
     let w = c.walk-came in
-    let step = Argument (OnReceiver (value_of c.args.came c.args.self.now.value) (text_of S name) None) [] [] c.args.at in
+    let step = Argument (OnReceiver (value_of c.args.came c.args.self.now.value) (text_of S c.args.name) None) [] [] c.args.at in
     let under = moved _ _ t.ensures.base refl (sub (fits S c.args.right.now) l (snd _ _ l.fits)) in
     let f = rw (t.ensures.context, t.ensures.left, t.ensures.store) at w.ensures.came in
-    let come = f S start h (Then step ∷ k) me names size st e under a in
-    passes S _ start h w.result w.new.self.value w.new.self.leave _ step k _ _ _ (sym c.is_left.ensures ∙ c.if-is_left.true) come
+    let come = f S start (Then step ∷ k) names size st e under a in
+    passes S _ start _ w.result w.new.self.value w.new.self.leave _ step k _ _ _ (sym c.is_left.ensures ∙ c.if-is_left.true) come
 
 pub operate_value-returns-clause-kept : goal.operate_value-returns-clause-kept
-operate_value-returns-clause-kept g m c = λ name S names size st e l i p q.
+operate_value-returns-clause-kept g m c = λ S names size st e l i p q.
     let t = c.take-receiver in
     let w = c.walk-came in
     let under = moved _ _ t.ensures.base refl (sub (fits S c.args.right.now) l (snd _ _ l.fits)) in
@@ -1919,29 +1464,29 @@ operate_value-returns-clause-kept g m c = λ name S names size st e l i p q.
     f S names size st e under i p (omega (arith, q, t.ensures.base))
 
 pub operate_value-returns-clause-came : goal.operate_value-returns-clause-came
-operate_value-returns-clause-came g m c = λ name S start h k me names size st e l a.
+operate_value-returns-clause-came g m c = λ S start k names size st e l a.
     let t = c.take-receiver in
     let w = c.walk-came in
     let first = value_of c.args.came c.args.self.now.value in
-    let step = Argument (OnReceiver (value_of c.args.came c.args.self.now.value) (text_of S name) None) [] [] c.args.at in
+    let step = Argument (OnReceiver (value_of c.args.came c.args.self.now.value) (text_of S c.args.name) None) [] [] c.args.at in
     let under = moved _ _ t.ensures.base refl (sub (fits S c.args.right.now) l (snd _ _ l.fits)) in
     let f = rw (t.ensures.context, t.ensures.left, t.ensures.store) at w.ensures.came in
-    let come = f S start h (Then step ∷ k) me names size st e under a in
+    let come = f S start (Then step ∷ k) names size st e under a in
     let g1 = given w.result w.new.self.value w.new.self.leave (sym c.is_left.ensures ∙ c.if-is_left.false) come in
     let y = c.take-arg in
     let o = c.operated.ensures in
-    let number = same_is (builtin_of (text_of S name)) c.args.method (fst _ _ l.fits) in
-    let d = rw (y.ensures.context, w.ensures.context, t.ensures.context, sym e, t.ensures.value, y.ensures.value) at o.gives (text_of S name) number in
-    rw (o.left, o.store, y.ensures.left, y.ensures.store) (calls S _ start h _ first (text_of S name) (value_of w.result w.new.self.value ∷ []) c.args.at k _ _ _ _ st.classes d (on _ (on _ g1 refl) refl))
+    let number = same_is (builtin_of (text_of S c.args.name)) c.args.method (fst _ _ l.fits) in
+    let d = rw (y.ensures.context, w.ensures.context, t.ensures.context, sym e, t.ensures.value, y.ensures.value) at o.gives (text_of S c.args.name) number in
+    rw (o.left, o.store, y.ensures.left, y.ensures.store) (calls S _ start _ _ first (text_of S c.args.name) (value_of w.result w.new.self.value ∷ []) c.args.at k _ _ _ _ ((rw (y.ensures.context, w.ensures.context, t.ensures.context, t.ensures.value) at (c.target_of.ensures.none c.in-None.is)) S st) d (on _ (on _ g1 refl) refl))
 
 pub combine-returns-in-Int-clause-kept : goal.combine-returns-in-Int-clause-kept
 combine-returns-in-Int-clause-kept g m c = c.combine_integer.ensures.kept
 
 pub combine-returns-in-Int-clause-came : goal.combine-returns-in-Int-clause-came
-combine-returns-in-Int-clause-came g m c = λ S start h k me names size st e l a.
+combine-returns-in-Int-clause-came g m c = λ S start k names size st e l a.
     let z : to_z w64 (of_z w64 c.in-Int.m) ≡ c.in-Int.m = search rules in
     let v : value_of c.args.current c.args.self.now.value ≡ Int (to_z w64 (of_z w64 c.in-Int.m)) = ap (λ r. value_of r c.args.self.now.value) c.in-Int.is ∙ ap Int (sym z) in
-    c.combine_integer.ensures.came S start h k me names size st e l (same a (ap (λ v. On (Eval (erase c.args.value.now)) (Then (RightOf v c.args.op c.args.at) ∷ k) (scope_of me names c.args.room.now) c.args.depth c.args.self.now.left) v))
+    c.combine_integer.ensures.came S start k names size st e l (same a (ap (λ v. On (Eval (erase c.args.value.now)) (Then (RightOf v c.args.op c.args.at) ∷ k) (scope_of (me_of c.args.self.now.context.me) names c.args.room.now) c.args.depth c.args.self.now.left) v))
 
 pub combine-returns-in_default-clause-kept : goal.combine-returns-in_default-clause-kept
 combine-returns-in_default-clause-kept g m c = c.combine_value.ensures.kept
@@ -1953,51 +1498,51 @@ pub combine_integer-returns-then-is_left-clause-kept : goal.combine_integer-retu
 combine_integer-returns-then-is_left-clause-kept g m c = c.evaluate_call-came.ensures.kept
 
 pub combine_integer-returns-then-is_left-clause-came : goal.combine_integer-returns-then-is_left-clause-came
-combine_integer-returns-then-is_left-clause-came g m c = λ S start h k me names size st e l a.
+combine_integer-returns-then-is_left-clause-came g m c = λ S start k names size st e l a.
     let w = c.evaluate_call-came in
     let step = RightOf (Int c.args.m) c.args.op c.args.at in
-    let come = w.ensures.came S start h (Then step ∷ k) me names size st e l a in
-    passes S _ start h w.result w.new.self.value w.new.self.leave _ step k _ _ _ (sym c.is_left.ensures ∙ c.if-is_left.true) come
+    let come = w.ensures.came S start (Then step ∷ k) names size st e l a in
+    passes S _ start _ w.result w.new.self.value w.new.self.leave _ step k _ _ _ (sym c.is_left.ensures ∙ c.if-is_left.true) come
 
 pub combine_integer-returns-clause-kept : goal.combine_integer-returns-clause-kept
 combine_integer-returns-clause-kept g m c = c.evaluate_call-came.ensures.kept
 
 pub combine_integer-returns-clause-came : goal.combine_integer-returns-clause-came
-combine_integer-returns-clause-came g m c = λ S start h k me names size st e l a.
+combine_integer-returns-clause-came g m c = λ S start k names size st e l a.
     let w = c.evaluate_call-came in
     let step = RightOf (Int c.args.m) c.args.op c.args.at in
-    let come = w.ensures.came S start h (Then step ∷ k) me names size st e l a in
+    let come = w.ensures.came S start (Then step ∷ k) names size st e l a in
     let none = sym c.is_left.ensures ∙ c.if-is_left.false in
     let g1 = given w.result w.new.self.value w.new.self.leave none come in
     let o = c.operated_by.ensures in
     let number = operator_number S c.args.op ∙ sym c.method_of.ensures in
     let z : to_z w64 (of_z w64 c.args.m) ≡ c.args.m = search rules in
-    let d0 : OrMemory (outcome_of (deed w.new.self.context.names.now (Int (to_z w64 (of_z w64 c.args.m))) (operator S c.args.op) (value_of w.result w.new.self.value ∷ []) None) c.args.at) (outcome c.operated_by.result c.operated_by.new.self.value c.operated_by.new.self.leave) = o.gives (operator S c.args.op) number in
+    let d0 : OrMemory (outcome_of (deed w.new.self.context.program.now (Int (to_z w64 (of_z w64 c.args.m))) (operator S c.args.op) (value_of w.result w.new.self.value ∷ []) None) c.args.at) (outcome c.operated_by.result c.operated_by.new.self.value c.operated_by.new.self.leave) = o.gives (operator S c.args.op) number in
     let d = rw (z, w.ensures.context, sym e) at d0 in
-    rw (o.left, o.store) (calls S _ start h _ (Int c.args.m) (operator S c.args.op) (value_of w.result w.new.self.value ∷ []) c.args.at k _ _ _ _ st.classes d (on _ g1 refl))
+    rw (o.left, o.store) (calls S _ start _ _ (Int c.args.m) (operator S c.args.op) (value_of w.result w.new.self.value ∷ []) c.args.at k _ _ _ _ (none_plain S (Int c.args.m) (operator S c.args.op) refl) d (on _ g1 refl))
 
 pub combine_value-returns-then-is_left-clause-came : goal.combine_value-returns-then-is_left-clause-came
-combine_value-returns-then-is_left-clause-came g m c = λ S start h k me names size st e l a.
+combine_value-returns-then-is_left-clause-came g m c = λ S start k names size st e l a.
     let t = c.take-receiver in
     let w = c.walk-came in
     let under = moved _ _ t.ensures.base refl (sub (fits S c.args.value.now) l l.fits) in
     let f = rw (t.ensures.context, t.ensures.left, t.ensures.store) at w.ensures.came in
-    let e1 = f S start h (Then (RightOf (value_of c.args.current c.args.self.now.value) c.args.op c.args.at) ∷ k) me names size st e under a in
-    passes S _ start h w.result w.new.self.value w.new.self.leave _ (RightOf (value_of c.args.current c.args.self.now.value) c.args.op c.args.at) k _ _ _ (sym c.is_left.ensures ∙ c.if-is_left.true) e1
+    let e1 = f S start (Then (RightOf (value_of c.args.current c.args.self.now.value) c.args.op c.args.at) ∷ k) names size st e under a in
+    passes S _ start _ w.result w.new.self.value w.new.self.leave _ (RightOf (value_of c.args.current c.args.self.now.value) c.args.op c.args.at) k _ _ _ (sym c.is_left.ensures ∙ c.if-is_left.true) e1
 
 pub combine_value-returns-clause-came : goal.combine_value-returns-clause-came
-combine_value-returns-clause-came g m c = λ S start h k me names size st e l a.
+combine_value-returns-clause-came g m c = λ S start k names size st e l a.
     let t = c.take-receiver in
     let w = c.walk-came in
     let under = moved _ _ t.ensures.base refl (sub (fits S c.args.value.now) l l.fits) in
     let f = rw (t.ensures.context, t.ensures.left, t.ensures.store) at w.ensures.came in
-    let e1 = f S start h (Then (RightOf (value_of c.args.current c.args.self.now.value) c.args.op c.args.at) ∷ k) me names size st e under a in
+    let e1 = f S start (Then (RightOf (value_of c.args.current c.args.self.now.value) c.args.op c.args.at) ∷ k) names size st e under a in
     let g1 = given w.result w.new.self.value w.new.self.leave (sym c.is_left.ensures ∙ c.if-is_left.false) e1 in
     let y = c.take-arg in
     let o = c.operated.ensures in
     let number = operator_number S c.args.op ∙ sym c.method_of-method.ensures in
     let d = rw (y.ensures.context, w.ensures.context, t.ensures.context, sym e, t.ensures.value, y.ensures.value) at o.gives (operator S c.args.op) number in
-    rw (o.left, o.store, y.ensures.left, y.ensures.store) (calls S _ start h _ (value_of c.args.current c.args.self.now.value) (operator S c.args.op) (value_of w.result w.new.self.value ∷ []) c.args.at k _ _ _ _ st.classes d (on _ g1 refl))
+    rw (o.left, o.store, y.ensures.left, y.ensures.store) (calls S _ start _ _ (value_of c.args.current c.args.self.now.value) (operator S c.args.op) (value_of w.result w.new.self.value ∷ []) c.args.at k _ _ _ _ (update_none c.args.self.now.context.script.now S st (value_of c.args.current c.args.self.now.value) c.args.op) d (on _ g1 refl))
 
 pub combine_value-returns-then-is_left-clause-kept : goal.combine_value-returns-then-is_left-clause-kept
 combine_value-returns-then-is_left-clause-kept g m c = λ S names size st e l i p q.
@@ -2037,7 +1582,7 @@ arguments-each-preserved g m c =
           let under = lies (fits S c.arg-item.result) names size loop.self.base (length loop.room) right l.within (omega (arith, l.below, inv.base)) (inv.bound l.room) in
           let f = rw inv.context at w.ensures.kept in
           ap (λ r. slice_get r i) t.passed.2 ∙ (get_set w.new.room w.new.self.base i _ (λ z. omega (arith, z, q, w.ensures.base, inv.base)) ∙ (f S names size st e under i p (omega (arith, q, inv.base)) ∙ inv.kept S names size st e l i p q));
-      came = λ aim at S start h k me names size st e l a.
+      came = λ aim at S start k names size st e l a.
           let loop = c.each in
           let inv = loop.invariant in
           let w = c.evaluate-came in
@@ -2046,23 +1591,23 @@ arguments-each-preserved g m c =
           let item = next_item _ _ c.arg-item.result c.each-test.true c.arg-item.is in
           let rest = map erase (drop (loop.arg-index + 1) c.args.args.now) in
           let step = Argument aim (map plain (take loop.arg-index (drop c.args.self.now.base loop.room))) rest at in
-          let h1 = on _ (passing _ (sym (ap (map erase) item)) (inv.came aim at S start h k me names size st e l a)) refl in
+          let h1 = on _ (passing _ (sym (ap (map erase) item)) (inv.came aim at S start k names size st e l a)) refl in
           let f = rw inv.context at w.ensures.came in
-          let come = f S start h (Then step ∷ k) me names size st e under h1 in
+          let come = f S start (Then step ∷ k) names size st e under h1 in
           let v = value_of w.result w.new.self.value in
           let base = c.args.self.now.base in
           let spot : w.new.self.base ≡ base + loop.arg-index = w.ensures.base ∙ inv.base in
           let within : base + loop.arg-index < length w.new.room = omega (arith, w.ensures.base, inv.base, c.if-self-room.false) in
           let f2 = rw inv.context at w.ensures.kept in
           let g1 = given w.result w.new.self.value w.new.self.leave (sym c.is_left.ensures ∙ c.if-is_left.false) come in
-          rw (t.left, t.store, t.passed.2, spot) (joined me names base loop.arg-index loop.room w.new.room t.passed.0 v t.passed.1 (omega (arith, l.within, l.below)) within (λ j q. f2 S names size st e under (base + j) (omega (arith, l.below)) (omega (arith, q, inv.base))) g1);
+          rw (t.left, t.store, t.passed.2, spot) (joined (me_of c.args.self.now.context.me) names base loop.arg-index loop.room w.new.room t.passed.0 v t.passed.1 (omega (arith, l.within, l.below)) within (λ j q. f2 S names size st e under (base + j) (omega (arith, l.below)) (omega (arith, q, inv.base))) g1);
     }
 
 pub evaluate-returns-in-Some-clause-came : goal.evaluate-returns-in-Some-clause-came
-evaluate-returns-in-Some-clause-came g m c = λ S start h k me names size st e l a.
+evaluate-returns-in-Some-clause-came g m c = λ S start k names size st e l a.
     let len : length names ≤ length c.args.room.now = omega (arith, l.within, l.below, l.room) in
     let z : to_z w64 (of_z w64 c.in-Some.n) ≡ c.in-Some.n = search rules in
-    rw z (c.in-Some.ensures S _ names size c.args.depth c.args.self.now.left start h _ k me l.fits len c.if-self-gt0.true c.if-depth-lt-MAX_DEPTH.true a)
+    rw z (c.in-Some.ensures S _ names size c.args.depth c.args.self.now.left start _ _ k _ l.fits len c.if-self-gt0.true c.if-depth-lt-MAX_DEPTH.true a)
 
 pub walk-returns-clause-kept : goal.walk-returns-clause-kept
 walk-returns-clause-kept g m c = c.walk_here.ensures.kept
@@ -2071,9 +1616,9 @@ pub walk-returns-clause-came : goal.walk-returns-clause-came
 walk-returns-clause-came g m c = c.walk_here.ensures.came
 
 pub literal-returns-in-Some-clause-came : goal.literal-returns-in-Some-clause-came
-literal-returns-in-Some-clause-came g m c = λ S start h k me names size st e l a.
+literal-returns-in-Some-clause-came g m c = λ S start k names size st e l a.
     let o = c.share_text.ensures in
-    rw (o.left, o.store) (whole_text S _ start h _ c.in-Some.text.now c.args.pieces.now c.args.at k _ _ _ _ c.in-Some.ensures o.gives a)
+    rw (o.left, o.store) (whole_text S _ start _ _ c.in-Some.text.now c.args.pieces.now c.args.at k _ _ _ _ c.in-Some.ensures o.gives a)
 
 pub literal-returns-in-None-clause-kept : goal.literal-returns-in-None-clause-kept
 literal-returns-in-None-clause-kept g m c = c.text.ensures.kept
@@ -2082,7 +1627,7 @@ pub literal-returns-in-None-clause-came : goal.literal-returns-in-None-clause-ca
 literal-returns-in-None-clause-came g m c = c.text.ensures.came
 
 pub evaluate_call-returns-in-Some-clause-came : goal.evaluate_call-returns-in-Some-clause-came
-evaluate_call-returns-in-Some-clause-came g m c = λ S start h k me names size st e l a.
+evaluate_call-returns-in-Some-clause-came g m c = λ S start k names size st e l a.
     let x = c.in-Operate in
     let s = sym (ap (λ d. fits S d names size) x.is ∙ fits-operate S names size x.method x.field-1 x.left x.right x.at) ∙ l.fits in
     let first = c.get.result.now in
@@ -2096,22 +1641,22 @@ evaluate_call-returns-in-Some-clause-came g m c = λ S start h k me names size s
     let inside = Under c.args.depth ∷ k in
     let b = begins _ _ inside _ _ _ (shows-operate c.args.code.now x.method x.field-1 x.left x.right x.at x.is) (counts (omega (arith, c.if-self-gt2.true)) (omega (arith, c.if-depth.true)) a) in
     let thrice : c.args.self.now.left - 3 ≡ c.args.self.now.left - 1 - 2 = omega arith in
-    rw (o.gives, o.left, o.store, sym (is.4 S.program.names (text_of S x.field-1) number), thrice)
-    (left S _ start h _ _ k _ _ _ _ (calls_pair S _ start h _ inside me names size (c.args.depth + 1) (c.args.self.now.left - 1) c.args.room.now x.field-1 first second x.at (Int is.0) (Int is.1) _ st.classes fl fr len (omega (arith, c.if-self-gt2.true)) (omega (arith, c.if-depth.true)) is.2 is.3 (inl refl) (rw (c.get.ensures, c.get-then-depth.ensures) b)))
+    rw (o.gives, o.left, o.store, sym (is.4 S.program (text_of S x.field-1) number), thrice)
+    (left S _ start _ _ _ k _ _ _ _ (calls_pair S _ start _ _ inside _ names size (c.args.depth + 1) (c.args.self.now.left - 1) c.args.room.now x.field-1 first second x.at (Int is.0) (Int is.1) _ (none_plain S (Int is.0) (text_of S x.field-1) refl) fl fr len (omega (arith, c.if-self-gt2.true)) (omega (arith, c.if-depth.true)) is.2 is.3 (inl refl) (rw (c.get.ensures, c.get-then-depth.ensures) b)))
 
 pub evaluate_call-returns-then-depth-clause-kept : goal.evaluate_call-returns-then-depth-clause-kept
 evaluate_call-returns-then-depth-clause-kept g m c = c.begin_slow_operate.ensures.kept
 
 pub evaluate_call-returns-then-depth-clause-came : goal.evaluate_call-returns-then-depth-clause-came
-evaluate_call-returns-then-depth-clause-came g m c = λ S start h k me names size st e l a.
-    left S _ start h _ _ k _ _ _ _ (c.begin_slow_operate.ensures.came S start h (Under c.args.depth ∷ k) me names size st e l (counts (omega (arith, c.if-self-gt2.true)) (omega (arith, c.if-depth.true)) a))
+evaluate_call-returns-then-depth-clause-came g m c = λ S start k names size st e l a.
+    left S _ start _ _ _ k _ _ _ _ (c.begin_slow_operate.ensures.came S start (Under c.args.depth ∷ k) names size st e l (counts (omega (arith, c.if-self-gt2.true)) (omega (arith, c.if-depth.true)) a))
 
 pub evaluate_call-returns-then-depth-lt-MAX_DEPTH-clause-kept : goal.evaluate_call-returns-then-depth-lt-MAX_DEPTH-clause-kept
 evaluate_call-returns-then-depth-lt-MAX_DEPTH-clause-kept g m c = c.begin_function.ensures.kept
 
 pub evaluate_call-returns-then-depth-lt-MAX_DEPTH-clause-came : goal.evaluate_call-returns-then-depth-lt-MAX_DEPTH-clause-came
-evaluate_call-returns-then-depth-lt-MAX_DEPTH-clause-came g m c = λ S start h k me names size st e l a.
-    left S _ start h _ _ k _ _ _ _ (c.begin_function.ensures.came S start h (Under c.args.depth ∷ k) me names size st e l (counts c.if-self-gt0.true c.if-depth-lt-MAX_DEPTH.true a))
+evaluate_call-returns-then-depth-lt-MAX_DEPTH-clause-came g m c = λ S start k names size st e l a.
+    left S _ start _ _ _ k _ _ _ _ (c.begin_function.ensures.came S start (Under c.args.depth ∷ k) names size st e l (counts c.if-self-gt0.true c.if-depth-lt-MAX_DEPTH.true a))
 
 pub evaluate_call-returns-else-self-gt2-clause-kept : goal.evaluate_call-returns-else-self-gt2-clause-kept
 evaluate_call-returns-else-self-gt2-clause-kept g m c = c.walk.ensures.kept
@@ -2124,3 +1669,1376 @@ evaluate_call-returns-else-self-gt0-clause-kept g m c = c.walk-in-Function.ensur
 
 pub evaluate_call-returns-else-self-gt0-clause-came : goal.evaluate_call-returns-else-self-gt0-clause-came
 evaluate_call-returns-else-self-gt0-clause-came g m c = c.walk-in-Function.ensures.came
+
+-- ---- methods of the script
+
+pub enter-returns-then-count-len-clause-came : goal.enter-returns-then-count-len-clause-came
+enter-returns-then-count-len-clause-came g m c = λ S start k names st e right le long a.
+    let o = c.raise.ensures in
+    rw (o.gives, o.left, o.store) (other_count c.args.method.now (me_of c.args.me) c.args.count c.args.self.now.base c.args.room.now c.args.at k _ _ _ (λ z. omega (arith, z, c.if-count-len.true, c.len.ensures)) long a)
+
+pub enter-returns-then-room-before-clause-came : goal.enter-returns-then-room-before-clause-came
+enter-returns-then-room-before-clause-came g m c = λ S start k names st e right le long a.
+    let o = c.over.ensures in
+    rw (o.left, o.store) (cut S _ start _ _ _ k _ _ _ _ o.gives a (enter_left S (erase_method c.args.method.now) (me_of c.args.me) (map plain (take c.args.count (drop c.args.self.now.base c.args.room.now))) c.args.at k (scope_of (me_of c.args.self.now.context.me) names c.args.room.now) c.args.depth c.args.self.now.left))
+
+pub enter-returns-clause-kept : goal.enter-returns-clause-kept
+enter-returns-clause-kept g m c = λ i q.
+    let before = c.args.self.now.base in
+    let there = c.args.room.now in
+    let short : before ≤ length there = omega (arith, c.if-room-before.false) in
+    ap (λ xs. slice_get (xs ++ c.body-came.new.room) i) c.split_at_mut-frame.ensures.front ∙ front there c.body-came.new.room before i short q
+
+pub enter-returns-clause-came : goal.enter-returns-clause-came
+enter-returns-clause-came g m c = λ S start k names st e right le long a.
+    let before = c.args.self.now.base in
+    let there = c.args.room.now in
+    let me = me_of c.args.self.now.context.me in
+    let meth = c.args.method.now in
+    let split = c.split_at_mut-frame.ensures in
+    let frame = c.clear.new.room in
+    let counts : c.args.count ≡ length meth.params = omega (arith, c.if-count-len.false, c.len.ensures) in
+    let f = enters meth (me_of c.args.me) c.args.count before there frame c.args.at right counts long (λ i q. c.clear.ensures.below i q ∙ ap (λ xs. slice_get xs i) split.back) c.clear.ensures.within a in
+    let sizes : meth.size ≤ length frame = omega (arith, c.clear.ensures.room, split.back_len, c.if-room-before.false, c.if-room-before-2.false) in
+    let inside = frame_lies S meth (length frame) right sizes in
+    let g1 = rw c.as_slice.ensures at c.body-came.ensures.came in
+    let done = g1 S start (Frame (scope_of me names there) ∷ k) (S.method_names (erase_method meth)) meth.size st e inside f in
+    let out = called S _ start _ _ _ (scope_of me names there) k _ _ _ done in
+    let scope : bound names (map plain (c.split_at_mut-frame.result.0.now ++ c.body-came.new.room)) ≡ bound names (map plain there) = ap (λ xs. bound names (map plain (xs ++ c.body-came.new.room))) split.front ∙ frame_back names there c.body-came.new.room before le (omega (arith, long)) in
+    let o = c.out_of_call.ensures in
+    rw (o.gives, o.left, o.store, scope) out
+
+pub enter_with-returns-then-self-room-clause-came : goal.enter_with-returns-then-self-room-clause-came
+enter_with-returns-then-self-room-clause-came g m c = λ S start k names st e right le long a.
+    let o = c.over.ensures in
+    rw (o.left, o.store) (cut S _ start _ _ _ k _ _ _ _ o.gives a (enter_left S (erase_method c.args.target.method.now) (me_of (Some c.args.target.object)) (plain c.args.arg ∷ []) c.args.at k (scope_of (me_of c.args.self.now.context.me) names c.args.room.now) c.args.depth c.args.self.now.left))
+
+pub enter_with-returns-clause-kept : goal.enter_with-returns-clause-kept
+enter_with-returns-clause-kept g m c = λ i q.
+    c.enter.ensures.kept i q ∙ get_set c.args.room.now c.args.self.now.base i c.args.arg (λ z. omega (arith, z, q))
+
+pub enter_with-returns-clause-came : goal.enter_with-returns-clause-came
+enter_with-returns-clause-came g m c = λ S start k names st e right le long a.
+    let base = c.args.self.now.base in
+    let room = c.args.room.now in
+    let me = me_of c.args.self.now.context.me in
+    let within : base < length room = omega (arith, c.if-self-room.false) in
+    let scope : bound names (map plain (slice_set room base c.args.arg)) ≡ bound names (map plain room) = room_beyond names room base c.args.arg le in
+    let f = c.enter.ensures.came S start k names st e right le (omega (arith, within, len_set room base c.args.arg)) in
+    f (placed (erase_method c.args.target.method.now) (me_of (Some c.args.target.object)) c.args.at k _ _ me names base room c.args.arg le within a)
+
+pub invoke-returns-in-Some-clause-came : goal.invoke-returns-in-Some-clause-came
+invoke-returns-in-Some-clause-came g m c = λ S start k names st e number le long a.
+    let t = c.in-Some.ensures.some in
+    let args = map plain (take c.args.count (drop c.args.self.now.base c.args.room.now)) in
+    c.enter.ensures.came S start k names st e (t.right S st) le long
+    (same a (by_receiver S (plain c.args.receiver.now) (me_of (Some c.in-Some.target.object)) (text_of S c.args.name) (erase_method c.in-Some.target.method.now) args c.args.at k _ _ _ (t.finds S st) t.me))
+
+pub invoke-returns-in-Some-clause-kept : goal.invoke-returns-in-Some-clause-kept
+invoke-returns-in-Some-clause-kept g m c = c.enter.ensures.kept
+
+pub invoke-returns-in-None-clause-came : goal.invoke-returns-in-None-clause-came
+invoke-returns-in-None-clause-came g m c = λ S start k names st e number le long a.
+    let v = plain c.args.receiver.now in
+    let args = map plain (take c.args.count (drop c.args.self.now.base c.args.room.now)) in
+    let m1 = rw (sym e, c.passed.ensures long) at (c.call_method.ensures.gives (text_of S c.args.name) number) in
+    rw (c.call_method.ensures.left, c.call_method.ensures.store) (calls S _ start _ _ v (text_of S c.args.name) args c.args.at k _ _ _ _ (c.target_of.ensures.none c.in-None.is S st) m1 a)
+
+pub own-returns-then-is_left-clause-kept : goal.own-returns-then-is_left-clause-kept
+own-returns-then-is_left-clause-kept g m c = λ S names size st e l i p q.
+    c.arguments-came.ensures.kept S names size st e l i p q
+
+pub own-returns-then-is_left-clause-came : goal.own-returns-then-is_left-clause-came
+own-returns-then-is_left-clause-came g m c = λ S start k names size st e l a.
+    let both = c.arguments-came.ensures.came (ByName c.args.name) c.args.at S start k names size st e l a in
+    both.0 (sym c.is_left.ensures ∙ c.if-is_left.true)
+
+pub own-returns-clause-kept : goal.own-returns-clause-kept
+own-returns-clause-kept g m c = λ S names size st e l i p q.
+    c.enter.ensures.kept i (omega (arith, q)) ∙ c.arguments-came.ensures.kept S names size st e l i p q
+
+pub own-returns-clause-came : goal.own-returns-clause-came
+own-returns-clause-came g m c = λ S start k names size st e l a.
+    let y = c.arguments-came in
+    let both = y.ensures.came (ByName c.args.name) c.args.at S start k names size st e l a in
+    let none = sym c.is_left.ensures ∙ c.if-is_left.false in
+    let count = length c.args.args.now in
+    let base = c.args.self.now.base in
+    let long : base + count ≤ length y.new.room = omega (arith, y.ensures.base none, y.ensures.fits l.room) in
+    let t = c.requires.target in
+    let args = map plain (take count (drop base y.new.room)) in
+    let entered = same (on _ (both.1 none) refl) (by_own S c.args.name (erase_method c.args.target.method.now) (me_of (Some c.args.target.object)) args c.args.at k _ _ _ (t.finds S st) t.me) in
+    let f = rw y.ensures.context at c.enter.ensures.came in
+    f S start k names st e (t.right S st) (omega (arith, l.within, l.below)) long entered
+
+pub function-returns-in_default-clause-came : goal.function-returns-in_default-clause-came
+function-returns-in_default-clause-came g m c = λ S start k names size st e l a.
+    let o = c.over.ensures in
+    rw (o.left, o.store) (cut S _ start _ _ _ k _ _ _ _ o.gives a refl)
+
+pub function-returns-then-is_left-clause-kept : goal.function-returns-then-is_left-clause-kept
+function-returns-then-is_left-clause-kept g m c = λ S names size st e l i p q.
+    let under = sub (every (map (fits S) c.args.args.now)) l (snd _ _ l.fits) in
+    c.arguments-came.ensures.kept S names size st e under i p q
+
+pub function-returns-then-is_left-clause-came : goal.function-returns-then-is_left-clause-came
+function-returns-then-is_left-clause-came g m c = λ S start k names size st e l a.
+    let under = sub (every (map (fits S) c.args.args.now)) l (snd _ _ l.fits) in
+    let both = c.arguments-came.ensures.came (ByName c.args.name) c.args.at S start k names size st e under a in
+    both.0 (sym c.is_left.ensures ∙ c.if-is_left.true)
+
+pub function-returns-clause-kept : goal.function-returns-clause-kept
+function-returns-clause-kept g m c = λ S names size st e l i p q.
+    let under = sub (every (map (fits S) c.args.args.now)) l (snd _ _ l.fits) in
+    c.enter.ensures.kept i (omega (arith, q)) ∙ c.arguments-came.ensures.kept S names size st e under i p q
+
+pub function-returns-clause-came : goal.function-returns-clause-came
+function-returns-clause-came g m c = λ S start k names size st e l a.
+    let under = sub (every (map (fits S) c.args.args.now)) l (snd _ _ l.fits) in
+    let y = c.arguments-came in
+    let both = y.ensures.came (ByName c.args.name) c.args.at S start k names size st e under a in
+    let none = sym c.is_left.ensures ∙ c.if-is_left.false in
+    let count = length c.args.args.now in
+    let base = c.args.self.now.base in
+    let script = c.args.self.now.context.script.now in
+    let meth = c.in-Some.method.now in
+    let found = sym c.in-Some.ensures.value in
+    let long : base + count ≤ length y.new.room = omega (arith, y.ensures.base none, y.ensures.fits l.room) in
+    let args = map plain (take count (drop base y.new.room)) in
+    let entered = same (on _ (both.1 none) refl) (by_number S script c.args.number c.args.name meth args c.args.at k _ _ _ st (c.requires.alone S st) (fst _ _ l.fits) found) in
+    let f = rw y.ensures.context at c.enter.ensures.came in
+    f S start k names st e (function_right S script c.args.number meth st found) (omega (arith, l.within, l.below)) long entered
+
+pub begin_function-returns-in-Some-clause-kept : goal.begin_function-returns-in-Some-clause-kept
+begin_function-returns-in-Some-clause-kept g m c = λ S names size st e l i p q.
+    let x = c.in-Function in
+    let s = sym (ap (λ d. fits S d names size) x.is ∙ fits-function S names size x.number x.name x.args x.at) ∙ l.fits in
+    let under = sub _ l (rw c.as_slice-args.ensures (snd _ _ s)) in
+    c.own.ensures.kept S names size st e under i p q
+
+pub begin_function-returns-in-Some-clause-came : goal.begin_function-returns-in-Some-clause-came
+begin_function-returns-in-Some-clause-came g m c = λ S start k names size st e l a.
+    let x = c.in-Function in
+    let s = sym (ap (λ d. fits S d names size) x.is ∙ fits-function S names size x.number x.name x.args x.at) ∙ l.fits in
+    let under = sub _ l (rw c.as_slice-args.ensures (snd _ _ s)) in
+    c.own.ensures.came S start k names size st e under (rw c.as_slice-args.ensures (begins _ _ k _ _ _ (shows-function c.args.code.now x.number x.name x.args x.at x.is) a))
+
+pub begin_function-returns-in-None-clause-kept : goal.begin_function-returns-in-None-clause-kept
+begin_function-returns-in-None-clause-kept g m c = λ S names size st e l i p q.
+    let x = c.in-Function in
+    let s = sym (ap (λ d. fits S d names size) x.is ∙ fits-function S names size x.number x.name x.args x.at) ∙ l.fits in
+    let under = sub _ l (rw c.as_slice-args.ensures s) in
+    c.function.ensures.kept S names size st e under i p q
+
+pub begin_function-returns-in-None-clause-came : goal.begin_function-returns-in-None-clause-came
+begin_function-returns-in-None-clause-came g m c = λ S start k names size st e l a.
+    let x = c.in-Function in
+    let s = sym (ap (λ d. fits S d names size) x.is ∙ fits-function S names size x.number x.name x.args x.at) ∙ l.fits in
+    let under = sub _ l (rw c.as_slice-args.ensures s) in
+    c.function.ensures.came S start k names size st e under (rw c.as_slice-args.ensures (begins _ _ k _ _ _ (shows-function c.args.code.now x.number x.name x.args x.at x.is) a))
+
+pub begin_print-returns-in-Some-clause-kept : goal.begin_print-returns-in-Some-clause-kept
+begin_print-returns-in-Some-clause-kept g m c = λ S names size st e l i p q.
+    let right = printing_is S c.args.form c.args.name (length c.args.args.now) (λ s. every (map (fits s) c.args.args.now)) names size l.fits in
+    c.own.ensures.kept S names size st e (sub (every (map (fits S) c.args.args.now)) l right.3) i p q
+
+pub begin_print-returns-in-Some-clause-came : goal.begin_print-returns-in-Some-clause-came
+begin_print-returns-in-Some-clause-came g m c = λ S start k names size st e l a.
+    let right = printing_is S c.args.form c.args.name (length c.args.args.now) (λ s. every (map (fits s) c.args.args.now)) names size l.fits in
+    c.own.ensures.came S start k names size st e (sub (every (map (fits S) c.args.args.now)) l right.3) a
+
+pub operate_value-returns-in-Some-clause-kept : goal.operate_value-returns-in-Some-clause-kept
+operate_value-returns-in-Some-clause-kept g m c = λ S names size st e l i p q.
+    let t = c.take-receiver in
+    let w = c.walk-came in
+    let u = c.take-arg in
+    let f = rw t.ensures.context at w.ensures.kept in
+    let under = moved _ _ t.ensures.base refl (sub (fits S c.args.right.now) l (snd _ _ l.fits)) in
+    c.enter_with.ensures.kept i (omega (arith, q, t.ensures.base, w.ensures.base, u.ensures.base)) ∙ f S names size st e under i p (omega (arith, q, t.ensures.base))
+
+pub operate_value-returns-in-Some-clause-came : goal.operate_value-returns-in-Some-clause-came
+operate_value-returns-in-Some-clause-came g m c = λ S start k names size st e l a.
+    let t = c.take-receiver in
+    let w = c.walk-came in
+    let u = c.take-arg in
+    let under = moved _ _ t.ensures.base refl (sub (fits S c.args.right.now) l (snd _ _ l.fits)) in
+    let v = value_of c.args.came c.args.self.now.value in
+    let f = rw (t.ensures.context, t.ensures.left, t.ensures.store) at w.ensures.came in
+    let come = f S start (Then (Argument (OnReceiver v (text_of S c.args.name) None) [] [] c.args.at) ∷ k) names size st e under a in
+    let g1 = given w.result w.new.self.value w.new.self.leave (sym c.is_left.ensures ∙ c.if-is_left.false) come in
+    let x = value_of w.result w.new.self.value in
+    let target = rw (u.ensures.context, w.ensures.context, t.ensures.context, t.ensures.value) at c.in-Some.ensures.some in
+    let entered = same (on _ (on _ g1 refl) refl) (by_receiver S v (me_of (Some c.in-Some.target.object)) (text_of S c.args.name) (erase_method c.in-Some.target.method.now) (x ∷ []) c.args.at k _ _ _ (target.finds S st) target.me) in
+    let base = u.ensures.base ∙ (w.ensures.base ∙ t.ensures.base) in
+    let h1 = rw (u.ensures.context, w.ensures.context, t.ensures.context, u.ensures.left, u.ensures.store, u.ensures.value) at c.enter_with.ensures.came in
+    h1 S start k names st e (target.right S st) (omega (arith, l.within, l.below, base)) (omega (arith, l.room, base, w.ensures.room)) entered
+
+pub send-returns-clause-kept : goal.send-returns-clause-kept
+send-returns-clause-kept g m c = λ S names size st e l i p q.
+    let w = c.walk-came in
+    let first = w.ensures.kept S names size st e (sub (fits S c.args.receiver.now) l (fst _ _ (snd _ _ l.fits))) i p q in
+    let under = moved _ _ (c.take-receiver.ensures.base ∙ w.ensures.base) w.ensures.room (sub (every (map (fits S) c.args.args.now)) l (snd _ _ (snd _ _ l.fits))) in
+    let f = rw (c.take-receiver.ensures.context, w.ensures.context) at c.arguments-came.ensures.kept in
+    c.invoke.ensures.kept i (omega (arith, q, c.take-receiver.ensures.base, w.ensures.base)) ∙ (f S names size st e under i p (omega (arith, q, c.take-receiver.ensures.base, w.ensures.base)) ∙ first)
+
+pub send-returns-clause-came : goal.send-returns-clause-came
+send-returns-clause-came g m c = λ S start k names size st e l a.
+    let w = c.walk-came in
+    let step = ReceiverOf (text_of S c.args.name) (map erase c.args.args.now) None c.args.at in
+    let come = w.ensures.came S start (Then step ∷ k) names size st e (sub (fits S c.args.receiver.now) l (fst _ _ (snd _ _ l.fits))) a in
+    let none = sym c.is_left.ensures ∙ c.if-is_left.false in
+    let v = value_of w.result w.new.self.value in
+    let g1 = given w.result w.new.self.value w.new.self.leave none come in
+    let t = c.take-receiver in
+    let under = moved _ _ (t.ensures.base ∙ w.ensures.base) w.ensures.room (sub (every (map (fits S) c.args.args.now)) l (snd _ _ (snd _ _ l.fits))) in
+    let f = rw (t.ensures.context, w.ensures.context, t.ensures.left, t.ensures.store) at c.arguments-came.ensures.came in
+    let p = f (OnReceiver v (text_of S c.args.name) None) c.args.at S start k names size st e under (on _ g1 refl) in
+    let r = c.arguments-came in
+    let came = sym c.is_left-2.ensures ∙ c.if-is_left-2.false in
+    let base = t.new.self.base in
+    let long : base + length c.args.args.now ≤ length r.new.room = omega (arith, r.ensures.base came, r.ensures.fits under.room) in
+    let number = same_is _ _ (fst _ _ l.fits) in
+    let h1 = rw (r.ensures.context, t.ensures.context, w.ensures.context, t.ensures.value) at c.invoke.ensures.came in
+    h1 S start k names st e number (omega (arith, under.within, under.below)) long (on _ (p.1 came) refl)
+
+pub store_with-returns-in_default-clause-came : goal.store_with-returns-in_default-clause-came
+store_with-returns-in_default-clause-came g m c = λ S start k names st e right le long a.
+    let o = c.over.ensures in
+    rw (o.left, o.store) (cut S _ start _ _ _ k _ _ _ _ o.gives a (enter_left S (erase_method c.args.target.method.now) (me_of (Some c.args.target.object)) (map plain (take c.args.count (drop c.args.self.now.base c.args.room.now))) c.args.at _ (scope_of (me_of c.args.self.now.context.me) names c.args.room.now) c.args.depth c.args.self.now.left))
+
+pub store_with-returns-then-is_left-clause-kept : goal.store_with-returns-then-is_left-clause-kept
+store_with-returns-then-is_left-clause-kept g m c = c.enter-came.ensures.kept
+
+pub store_with-returns-then-is_left-clause-came : goal.store_with-returns-then-is_left-clause-came
+store_with-returns-then-is_left-clause-came g m c = λ S start k names st e right le long a.
+    let y = c.enter-came in
+    let step = Instead (last_value S (map plain (take c.args.count (drop c.args.self.now.base c.args.room.now)))) in
+    let come = y.ensures.came S start (Then step ∷ k) names st e right le long a in
+    passes S _ start _ y.result y.new.self.value y.new.self.leave _ step k _ _ _ (sym c.is_left.ensures ∙ c.if-is_left.true) come
+
+pub store_with-returns-clause-kept : goal.store_with-returns-clause-kept
+store_with-returns-clause-kept g m c = c.enter-came.ensures.kept
+
+pub store_with-returns-clause-came : goal.store_with-returns-clause-came
+store_with-returns-clause-came g m c = λ S start k names st e right le long a.
+    let y = c.enter-came in
+    let values = map plain (take c.args.count (drop c.args.self.now.base c.args.room.now)) in
+    let step = Instead (last_value S values) in
+    let come = y.ensures.came S start (Then step ∷ k) names st e right le long a in
+    let g1 = given y.result y.new.self.value y.new.self.leave (sym c.is_left.ensures ∙ c.if-is_left.false) come in
+    let o = c.give.ensures in
+    let last : plain c.in-Ok.last ≡ last_value S values = c.in-Ok.ensures S ∙ ap (λ vs. last_value S (map plain vs)) (c.passed.ensures long) in
+    rw (o.gives, o.left, o.store, last) (on _ g1 refl)
+
+pub write_member-returns-in_default-clause-came : goal.write_member-returns-in_default-clause-came
+write_member-returns-in_default-clause-came g m c = λ name S start k names st e writes free le bound_ a.
+    let script = c.args.self.now.context.script.now in
+    let v = value_of c.args.came c.args.self.now.value in
+    let receiver = plain c.args.receiver.now in
+    let o = c.raise.ensures in
+    rw (o.gives, o.left, o.store) (same a (no_such S receiver (text_of S name ++ codes "=") (v ∷ []) None c.args.at (Then (Instead v) ∷ k) _ _ _ (writer_none script S st receiver c.args.writer name writes (c.writer_of.ensures.none c.in_default.is)) free))
+
+pub write_member-returns-then-is_left-clause-kept : goal.write_member-returns-then-is_left-clause-kept
+write_member-returns-then-is_left-clause-kept g m c = λ i q. c.enter_with-came.ensures.kept i (omega (arith, q, c.take-value.ensures.base))
+
+pub write_member-returns-then-is_left-clause-came : goal.write_member-returns-then-is_left-clause-came
+write_member-returns-then-is_left-clause-came g m c = λ name S start k names st e writes free le bound_ a.
+    let script = c.args.self.now.context.script.now in
+    let v = value_of c.args.came c.args.self.now.value in
+    let receiver = plain c.args.receiver.now in
+    let t = c.take-value in
+    let y = c.enter_with-came in
+    let meth = c.in-Some.target.method.now in
+    let to = me_of (Some c.in-Some.target.object) in
+    let is = c.in-Some.ensures.some in
+    let entered = same a (by_receiver S receiver to (text_of S name ++ codes "=") (erase_method meth) (v ∷ []) c.args.at (Then (Instead v) ∷ k) _ _ _ (writer_some script S st receiver c.args.writer name c.in-Some.target.object meth writes is) (writer_me script receiver c.args.writer c.in-Some.target.object meth is)) in
+    let same_value : plain c.in-Ok.copy ≡ v = c.in-Ok.ensures ∙ t.ensures.value in
+    let f = rw (t.ensures.context, t.ensures.left, t.ensures.store, same_value) at y.ensures.came in
+    let come = f S start (Then (Instead v) ∷ k) names st e (writer_right script S st receiver c.args.writer c.in-Some.target.object meth is) (omega (arith, le, t.ensures.base)) (omega (arith, bound_, t.ensures.base)) entered in
+    passes S _ start _ y.result y.new.self.value y.new.self.leave _ (Instead v) k _ _ _ (sym c.is_left.ensures ∙ c.if-is_left.true) come
+
+pub write_member-returns-clause-kept : goal.write_member-returns-clause-kept
+write_member-returns-clause-kept g m c = λ i q. c.enter_with-came.ensures.kept i (omega (arith, q, c.take-value.ensures.base))
+
+pub write_member-returns-clause-came : goal.write_member-returns-clause-came
+write_member-returns-clause-came g m c = λ name S start k names st e writes free le bound_ a.
+    let script = c.args.self.now.context.script.now in
+    let v = value_of c.args.came c.args.self.now.value in
+    let receiver = plain c.args.receiver.now in
+    let t = c.take-value in
+    let y = c.enter_with-came in
+    let meth = c.in-Some.target.method.now in
+    let to = me_of (Some c.in-Some.target.object) in
+    let is = c.in-Some.ensures.some in
+    let entered = same a (by_receiver S receiver to (text_of S name ++ codes "=") (erase_method meth) (v ∷ []) c.args.at (Then (Instead v) ∷ k) _ _ _ (writer_some script S st receiver c.args.writer name c.in-Some.target.object meth writes is) (writer_me script receiver c.args.writer c.in-Some.target.object meth is)) in
+    let same_value : plain c.in-Ok.copy ≡ v = c.in-Ok.ensures ∙ t.ensures.value in
+    let f = rw (t.ensures.context, t.ensures.left, t.ensures.store, same_value) at y.ensures.came in
+    let come = f S start (Then (Instead v) ∷ k) names st e (writer_right script S st receiver c.args.writer c.in-Some.target.object meth is) (omega (arith, le, t.ensures.base)) (omega (arith, bound_, t.ensures.base)) entered in
+    let g1 = given y.result y.new.self.value y.new.self.leave (sym c.is_left.ensures ∙ c.if-is_left.false) come in
+    let o = c.give.ensures in
+    rw (o.gives, o.left, o.store, t.ensures.value) (on _ g1 refl)
+
+pub set_member-returns-then-is_left-clause-came : goal.set_member-returns-then-is_left-clause-came
+set_member-returns-then-is_left-clause-came g m c = λ name S start k names size st e l a.
+    let w = c.walk-came in
+    let step = WriteTo (OfAttribute (plain c.args.receiver.now) (text_of S name)) c.args.at in
+    let e1 = w.ensures.came S start (Then step ∷ k) names size st e (sub (fits S c.args.value.now) l (snd _ _ (snd _ _ l.fits))) a in
+    passes S _ start _ w.result w.new.self.value w.new.self.leave _ step k _ _ _ (sym c.is_left.ensures ∙ c.if-is_left.true) e1
+
+pub set_member-returns-clause-kept : goal.set_member-returns-clause-kept
+set_member-returns-clause-kept g m c = λ S names size st e l i p q.
+    let w = c.walk-came in
+    c.write_member.ensures.kept i (omega (arith, q, w.ensures.base)) ∙ w.ensures.kept S names size st e l i p q
+
+pub set_member-returns-clause-came : goal.set_member-returns-clause-came
+set_member-returns-clause-came g m c = λ name S start k names size st e l a.
+    let w = c.walk-came in
+    let step = WriteTo (OfAttribute (plain c.args.receiver.now) (text_of S name)) c.args.at in
+    let e1 = w.ensures.came S start (Then step ∷ k) names size st e (sub (fits S c.args.value.now) l (snd _ _ (snd _ _ l.fits))) a in
+    let g1 = given w.result w.new.self.value w.new.self.leave (sym c.is_left.ensures ∙ c.if-is_left.false) e1 in
+    let f = rw w.ensures.context at c.write_member.ensures.came in
+    f name S start k names st e (fst _ _ l.fits) (fst _ _ (snd _ _ l.fits)) (omega (arith, l.within, l.below, w.ensures.base)) (omega (arith, l.room, w.ensures.base, w.ensures.room)) (on _ g1 refl)
+
+pub update_member-returns-then-is_true_now-clause-came : goal.update_member-returns-then-is_true_now-clause-came
+update_member-returns-then-is_true_now-clause-came g m c = λ name S start k names size st e l a.
+    let t = sym (c.is_true_now.ensures c.requires.came) ∙ c.if-is_true_now.true in
+    comes S _ start _ _ k _ _ _ _ _ (gave c.args.current c.args.self.now.value c.args.self.now.leave c.requires.came) (or_else_stays S _ start _ (value_of c.args.current c.args.self.now.value) (OfAttribute (plain c.args.receiver.now) (text_of S name)) c.args.op (erase c.args.value.now) c.args.at c.in-OrElse.is t a)
+
+pub update_member-returns-else-is_true_now-clause-came : goal.update_member-returns-else-is_true_now-clause-came
+update_member-returns-else-is_true_now-clause-came g m c = λ name S start k names size st e l a.
+    let t = sym (c.is_true_now.ensures c.requires.came) ∙ c.if-is_true_now.false in
+    c.set_member.ensures.came name S start k names size st e l (or_else_goes S _ start _ (value_of c.args.current c.args.self.now.value) (OfAttribute (plain c.args.receiver.now) (text_of S name)) c.args.op (erase c.args.value.now) c.args.at c.in-OrElse.is t a)
+
+pub update_member-returns-then-not-is_true_now-clause-came : goal.update_member-returns-then-not-is_true_now-clause-came
+update_member-returns-then-not-is_true_now-clause-came g m c = λ name S start k names size st e l a.
+    let t = sym (c.is_true_now-in-AndThen.ensures c.requires.came) ∙ c.if-not-is_true_now.true in
+    comes S _ start _ _ k _ _ _ _ _ (gave c.args.current c.args.self.now.value c.args.self.now.leave c.requires.came) (and_then_stays S _ start _ (value_of c.args.current c.args.self.now.value) (OfAttribute (plain c.args.receiver.now) (text_of S name)) c.args.op (erase c.args.value.now) c.args.at c.in-AndThen.is t a)
+
+pub update_member-returns-else-not-is_true_now-clause-came : goal.update_member-returns-else-not-is_true_now-clause-came
+update_member-returns-else-not-is_true_now-clause-came g m c = λ name S start k names size st e l a.
+    let t = sym (c.is_true_now-in-AndThen.ensures c.requires.came) ∙ c.if-not-is_true_now.false in
+    c.set_member-in-AndThen.ensures.came name S start k names size st e l (and_then_goes S _ start _ (value_of c.args.current c.args.self.now.value) (OfAttribute (plain c.args.receiver.now) (text_of S name)) c.args.op (erase c.args.value.now) c.args.at c.in-AndThen.is t a)
+
+pub update_member-returns-then-is_left-clause-came : goal.update_member-returns-then-is_left-clause-came
+update_member-returns-then-is_left-clause-came g m c = λ name S start k names size st e l a.
+    let y = c.combine-made in
+    let place = OfAttribute (plain c.args.receiver.now) (text_of S name) in
+    let e2 = y.ensures.came S start (Then (WriteTo place c.args.at) ∷ k) names size st e (sub (fits S c.args.value.now) l (snd _ _ (snd _ _ l.fits))) (operates S _ start _ (value_of c.args.current c.args.self.now.value) place c.args.op (erase c.args.value.now) c.args.at c.in_default.not-OrElse c.in_default.not-AndThen a) in
+    passes S _ start _ y.result y.new.self.value y.new.self.leave _ (WriteTo place c.args.at) k _ _ _ (sym c.is_left.ensures ∙ c.if-is_left.true) e2
+
+pub update_member-returns-else-is_left-clause-kept : goal.update_member-returns-else-is_left-clause-kept
+update_member-returns-else-is_left-clause-kept g m c = λ S names size st e l i p q.
+    let y = c.combine-made in
+    c.write_member.ensures.kept i (omega (arith, q, y.ensures.base)) ∙ y.ensures.kept S names size st e l i p q
+
+pub update_member-returns-else-is_left-clause-came : goal.update_member-returns-else-is_left-clause-came
+update_member-returns-else-is_left-clause-came g m c = λ name S start k names size st e l a.
+    let y = c.combine-made in
+    let place = OfAttribute (plain c.args.receiver.now) (text_of S name) in
+    let e2 = y.ensures.came S start (Then (WriteTo place c.args.at) ∷ k) names size st e (sub (fits S c.args.value.now) l (snd _ _ (snd _ _ l.fits))) (operates S _ start _ (value_of c.args.current c.args.self.now.value) place c.args.op (erase c.args.value.now) c.args.at c.in_default.not-OrElse c.in_default.not-AndThen a) in
+    let g2 = given y.result y.new.self.value y.new.self.leave (sym c.is_left.ensures ∙ c.if-is_left.false) e2 in
+    let f = rw y.ensures.context at c.write_member.ensures.came in
+    f name S start k names st e (fst _ _ l.fits) (fst _ _ (snd _ _ l.fits)) (omega (arith, l.within, l.below, y.ensures.base)) (omega (arith, l.room, y.ensures.base, y.ensures.room)) (on _ g2 refl)
+
+pub update_attribute-returns-then-is_left-clause-came : goal.update_attribute-returns-then-is_left-clause-came
+update_attribute-returns-then-is_left-clause-came g m c = λ S start k names size st e l a.
+    let w = c.walk-came in
+    let is = attribute_is S c.args.number c.args.writer c.args.name c.args.receiver.now c.args.value.now names size l.fits in
+    let step = MemberOf (text_of S c.args.name) c.args.op (erase c.args.value.now) c.args.at in
+    let e1 = w.ensures.came S start (Then step ∷ k) names size st e (sub (fits S c.args.receiver.now) l is.1) a in
+    passes S _ start _ w.result w.new.self.value w.new.self.leave _ step k _ _ _ (sym c.is_left.ensures ∙ c.if-is_left.true) e1
+
+pub update_attribute-returns-then-is_left-clause-kept : goal.update_attribute-returns-then-is_left-clause-kept
+update_attribute-returns-then-is_left-clause-kept g m c = λ S names size st e l i p q.
+    let is = attribute_is S c.args.number c.args.writer c.args.name c.args.receiver.now c.args.value.now names size l.fits in
+    c.walk-came.ensures.kept S names size st e (sub (fits S c.args.receiver.now) l is.1) i p q
+
+pub update_attribute-returns-then-is_left-2-clause-kept : goal.update_attribute-returns-then-is_left-2-clause-kept
+update_attribute-returns-then-is_left-2-clause-kept g m c = λ S names size st e l i p q.
+    let is = attribute_is S c.args.number c.args.writer c.args.name c.args.receiver.now c.args.value.now names size l.fits in
+    let w = c.walk-came in
+    c.invoke-current.ensures.kept i (omega (arith, q, c.take-receiver.ensures.base, w.ensures.base)) ∙ w.ensures.kept S names size st e (sub (fits S c.args.receiver.now) l is.1) i p q
+
+pub update_attribute-returns-then-is_left-2-clause-came : goal.update_attribute-returns-then-is_left-2-clause-came
+update_attribute-returns-then-is_left-2-clause-came g m c = λ S start k names size st e l a.
+    let w = c.walk-came in
+    let is = attribute_is S c.args.number c.args.writer c.args.name c.args.receiver.now c.args.value.now names size l.fits in
+    let step = MemberOf (text_of S c.args.name) c.args.op (erase c.args.value.now) c.args.at in
+    let e1 = w.ensures.came S start (Then step ∷ k) names size st e (sub (fits S c.args.receiver.now) l is.1) a in
+    let first = value_of w.result w.new.self.value in
+    let g1 = given w.result w.new.self.value w.new.self.leave (sym c.is_left.ensures ∙ c.if-is_left.false) e1 in
+    let t = c.take-receiver in
+    let y = c.invoke-current in
+    let reads = ReadOf (OfAttribute first (text_of S c.args.name)) c.args.op (erase c.args.value.now) c.args.at in
+    let base = t.ensures.base ∙ w.ensures.base in
+    let f = rw (t.ensures.context, w.ensures.context, t.ensures.left, t.ensures.store, t.ensures.value) at y.ensures.came in
+    let e2 = f S start (Then reads ∷ k) names st e (same_is _ _ is.0) (omega (arith, l.within, l.below, base)) (omega (arith, l.room, base, w.ensures.room)) (on _ g1 refl) in
+    passes S _ start _ y.result y.new.self.value y.new.self.leave _ reads k _ _ _ (sym c.is_left-2.ensures ∙ c.if-is_left-2.true) e2
+
+pub update_attribute-returns-clause-kept : goal.update_attribute-returns-clause-kept
+update_attribute-returns-clause-kept g m c = λ S names size st e l i p q.
+    let is = attribute_is S c.args.number c.args.writer c.args.name c.args.receiver.now c.args.value.now names size l.fits in
+    let w = c.walk-came in
+    let t = c.take-receiver in
+    let y = c.invoke-current in
+    let base = y.ensures.base ∙ (t.ensures.base ∙ w.ensures.base) in
+    let f = rw (y.ensures.context, t.ensures.context, w.ensures.context) at c.update_member.ensures.kept in
+    let under = moved _ _ base (y.ensures.room ∙ w.ensures.room) (sub (fits S c.args.value.now) l (snd _ _ (snd _ _ is.2))) in
+    f S names size st e under i p (omega (arith, q, base)) ∙ (y.ensures.kept i (omega (arith, q, t.ensures.base, w.ensures.base)) ∙ w.ensures.kept S names size st e (sub (fits S c.args.receiver.now) l is.1) i p q)
+
+pub update_attribute-returns-clause-came : goal.update_attribute-returns-clause-came
+update_attribute-returns-clause-came g m c = λ S start k names size st e l a.
+    let w = c.walk-came in
+    let is = attribute_is S c.args.number c.args.writer c.args.name c.args.receiver.now c.args.value.now names size l.fits in
+    let step = MemberOf (text_of S c.args.name) c.args.op (erase c.args.value.now) c.args.at in
+    let e1 = w.ensures.came S start (Then step ∷ k) names size st e (sub (fits S c.args.receiver.now) l is.1) a in
+    let first = value_of w.result w.new.self.value in
+    let g1 = given w.result w.new.self.value w.new.self.leave (sym c.is_left.ensures ∙ c.if-is_left.false) e1 in
+    let t = c.take-receiver in
+    let y = c.invoke-current in
+    let reads = ReadOf (OfAttribute first (text_of S c.args.name)) c.args.op (erase c.args.value.now) c.args.at in
+    let base = t.ensures.base ∙ w.ensures.base in
+    let f = rw (t.ensures.context, w.ensures.context, t.ensures.left, t.ensures.store, t.ensures.value) at y.ensures.came in
+    let e2 = f S start (Then reads ∷ k) names st e (same_is _ _ is.0) (omega (arith, l.within, l.below, base)) (omega (arith, l.room, base, w.ensures.room)) (on _ g1 refl) in
+    let g2 = given y.result y.new.self.value y.new.self.leave (sym c.is_left-2.ensures ∙ c.if-is_left-2.false) e2 in
+    let h1 = rw (y.ensures.context, t.ensures.context, w.ensures.context, t.ensures.value) at c.update_member.ensures.came in
+    let under = moved _ _ (y.ensures.base ∙ base) (y.ensures.room ∙ w.ensures.room) (sub (written_by c.args.writer c.args.name (λ S. fits S c.args.value.now) S) l is.2) in
+    h1 c.args.name S start k names size st e under g2
+
+pub store_by-returns-then-is_left-clause-came : goal.store_by-returns-then-is_left-clause-came
+store_by-returns-then-is_left-clause-came g m c = λ S start k names size st e l a.
+    let w = c.walk-came in
+    let step = ReceiverToStore (text_of S c.args.name) (map erase c.args.args.now) c.args.at in
+    let come = w.ensures.came S start (Then step ∷ k) names size st e (sub (fits S c.args.receiver.now) l (fst _ _ (snd _ _ l.fits))) a in
+    passes S _ start _ w.result w.new.self.value w.new.self.leave _ step k _ _ _ (sym c.is_left.ensures ∙ c.if-is_left.true) come
+
+pub store_by-returns-then-is_left-clause-kept : goal.store_by-returns-then-is_left-clause-kept
+store_by-returns-then-is_left-clause-kept g m c = λ S names size st e l i p q.
+    c.walk-came.ensures.kept S names size st e (sub (fits S c.args.receiver.now) l (fst _ _ (snd _ _ l.fits))) i p q
+
+pub store_by-returns-then-is_left-2-clause-kept : goal.store_by-returns-then-is_left-2-clause-kept
+store_by-returns-then-is_left-2-clause-kept g m c = λ S names size st e l i p q.
+    let w = c.walk-came in
+    let t = c.take-receiver in
+    let first = w.ensures.kept S names size st e (sub (fits S c.args.receiver.now) l (fst _ _ (snd _ _ l.fits))) i p q in
+    let under = moved _ _ (t.ensures.base ∙ w.ensures.base) w.ensures.room (sub (every (map (fits S) c.args.args.now)) l (snd _ _ (snd _ _ l.fits))) in
+    let f = rw (t.ensures.context, w.ensures.context) at c.arguments-came.ensures.kept in
+    f S names size st e under i p (omega (arith, q, t.ensures.base, w.ensures.base)) ∙ first
+
+pub store_by-returns-then-is_left-2-clause-came : goal.store_by-returns-then-is_left-2-clause-came
+store_by-returns-then-is_left-2-clause-came g m c = λ S start k names size st e l a.
+    let w = c.walk-came in
+    let step = ReceiverToStore (text_of S c.args.name) (map erase c.args.args.now) c.args.at in
+    let come = w.ensures.came S start (Then step ∷ k) names size st e (sub (fits S c.args.receiver.now) l (fst _ _ (snd _ _ l.fits))) a in
+    let v = value_of w.result w.new.self.value in
+    let g1 = given w.result w.new.self.value w.new.self.leave (sym c.is_left.ensures ∙ c.if-is_left.false) come in
+    let t = c.take-receiver in
+    let under = moved _ _ (t.ensures.base ∙ w.ensures.base) w.ensures.room (sub (every (map (fits S) c.args.args.now)) l (snd _ _ (snd _ _ l.fits))) in
+    let f = rw (t.ensures.context, w.ensures.context, t.ensures.left, t.ensures.store) at c.arguments-came.ensures.came in
+    let p = f (Storing v (text_of S c.args.name)) c.args.at S start k names size st e under (on _ g1 refl) in
+    p.0 (sym c.is_left-2.ensures ∙ c.if-is_left-2.true)
+
+pub store_by-returns-in-Some-clause-kept : goal.store_by-returns-in-Some-clause-kept
+store_by-returns-in-Some-clause-kept g m c = λ S names size st e l i p q.
+    let w = c.walk-came in
+    let t = c.take-receiver in
+    let first = w.ensures.kept S names size st e (sub (fits S c.args.receiver.now) l (fst _ _ (snd _ _ l.fits))) i p q in
+    let under = moved _ _ (t.ensures.base ∙ w.ensures.base) w.ensures.room (sub (every (map (fits S) c.args.args.now)) l (snd _ _ (snd _ _ l.fits))) in
+    let f = rw (t.ensures.context, w.ensures.context) at c.arguments-came.ensures.kept in
+    c.store_with.ensures.kept i (omega (arith, q, t.ensures.base, w.ensures.base)) ∙ (f S names size st e under i p (omega (arith, q, t.ensures.base, w.ensures.base)) ∙ first)
+
+pub store_by-returns-in-Some-clause-came : goal.store_by-returns-in-Some-clause-came
+store_by-returns-in-Some-clause-came g m c = λ S start k names size st e l a.
+    let w = c.walk-came in
+    let step = ReceiverToStore (text_of S c.args.name) (map erase c.args.args.now) c.args.at in
+    let come = w.ensures.came S start (Then step ∷ k) names size st e (sub (fits S c.args.receiver.now) l (fst _ _ (snd _ _ l.fits))) a in
+    let v = value_of w.result w.new.self.value in
+    let g1 = given w.result w.new.self.value w.new.self.leave (sym c.is_left.ensures ∙ c.if-is_left.false) come in
+    let t = c.take-receiver in
+    let under = moved _ _ (t.ensures.base ∙ w.ensures.base) w.ensures.room (sub (every (map (fits S) c.args.args.now)) l (snd _ _ (snd _ _ l.fits))) in
+    let f = rw (t.ensures.context, w.ensures.context, t.ensures.left, t.ensures.store) at c.arguments-came.ensures.came in
+    let p = f (Storing v (text_of S c.args.name)) c.args.at S start k names size st e under (on _ g1 refl) in
+    let r = c.arguments-came in
+    let came = sym c.is_left-2.ensures ∙ c.if-is_left-2.false in
+    let base = t.new.self.base in
+    let long : base + length c.args.args.now ≤ length r.new.room = omega (arith, r.ensures.base came, r.ensures.fits under.room) in
+    let values = map plain (take (length c.args.args.now) (drop base r.new.room)) in
+    let target = rw (r.ensures.context, t.ensures.context, w.ensures.context, t.ensures.value) at c.in-Some.ensures.some in
+    let entered = same (on _ (p.1 came) refl) (by_receiver S v (me_of (Some c.in-Some.target.object)) (text_of S c.args.name) (erase_method c.in-Some.target.method.now) values c.args.at (Then (Instead (last_value S values)) ∷ k) _ _ _ (target.finds S st) target.me) in
+    let h1 = rw (r.ensures.context, t.ensures.context, w.ensures.context) at c.store_with.ensures.came in
+    h1 S start k names st e (target.right S st) (omega (arith, under.within, under.below)) long entered
+
+pub store_by-returns-clause-kept : goal.store_by-returns-clause-kept
+store_by-returns-clause-kept g m c = λ S names size st e l i p q.
+    let w = c.walk-came in
+    let t = c.take-receiver in
+    let first = w.ensures.kept S names size st e (sub (fits S c.args.receiver.now) l (fst _ _ (snd _ _ l.fits))) i p q in
+    let under = moved _ _ (t.ensures.base ∙ w.ensures.base) w.ensures.room (sub (every (map (fits S) c.args.args.now)) l (snd _ _ (snd _ _ l.fits))) in
+    let f = rw (t.ensures.context, w.ensures.context) at c.arguments-came.ensures.kept in
+    f S names size st e under i p (omega (arith, q, t.ensures.base, w.ensures.base)) ∙ first
+
+pub store_by-returns-clause-came : goal.store_by-returns-clause-came
+store_by-returns-clause-came g m c = λ S start k names size st e l a.
+    let w = c.walk-came in
+    let step = ReceiverToStore (text_of S c.args.name) (map erase c.args.args.now) c.args.at in
+    let come = w.ensures.came S start (Then step ∷ k) names size st e (sub (fits S c.args.receiver.now) l (fst _ _ (snd _ _ l.fits))) a in
+    let v = value_of w.result w.new.self.value in
+    let g1 = given w.result w.new.self.value w.new.self.leave (sym c.is_left.ensures ∙ c.if-is_left.false) come in
+    let t = c.take-receiver in
+    let under = moved _ _ (t.ensures.base ∙ w.ensures.base) w.ensures.room (sub (every (map (fits S) c.args.args.now)) l (snd _ _ (snd _ _ l.fits))) in
+    let f = rw (t.ensures.context, w.ensures.context, t.ensures.left, t.ensures.store) at c.arguments-came.ensures.came in
+    let p = f (Storing v (text_of S c.args.name)) c.args.at S start k names size st e under (on _ g1 refl) in
+    let r = c.arguments-came in
+    let came = sym c.is_left-2.ensures ∙ c.if-is_left-2.false in
+    let values = map plain (take (length c.args.args.now) (drop t.new.self.base r.new.room)) in
+    let none = (rw (r.ensures.context, t.ensures.context, w.ensures.context, t.ensures.value) at (c.target_of.ensures.none c.in-None.is)) S st in
+    let o = c.raise.ensures in
+    rw (o.gives, o.left, o.store) (same (on _ (p.1 came) refl) (no_such S v (text_of S c.args.name) values None c.args.at (Then (Instead (last_value S values)) ∷ k) _ _ _ none (fst _ _ l.fits)))
+
+-- ---- objects
+
+pub begin_other-returns-in-SelfRef-clause-came : goal.begin_other-returns-in-SelfRef-clause-came
+begin_other-returns-in-SelfRef-clause-came g m c = λ S start k names size st e l a.
+    let o = c.give_self.ensures in
+    rw (o.gives, o.left, o.store) (begins _ _ k _ _ _ (shows-self_ref c.args.code.now c.in-SelfRef.field-0 c.in-SelfRef.is) a)
+
+pub begin_other-returns-in-Field-clause-came : goal.begin_other-returns-in-Field-clause-came
+begin_other-returns-in-Field-clause-came g m c = λ S start k names size st e l a.
+    let o = c.field.ensures in
+    rw (o.left, o.log) (o.came S start k _ c.args.depth (begins _ _ k _ _ _ (shows-field c.args.code.now c.in-Field.name c.in-Field.at c.in-Field.is) a))
+
+pub begin_other-returns-in-SetField-clause-kept : goal.begin_other-returns-in-SetField-clause-kept
+begin_other-returns-in-SetField-clause-kept g m c = λ S names size st e l i p q.
+    let x = c.in-SetField in
+    let s = sym (ap (λ d. fits S d names size) x.is ∙ fits-set_field S names size x.name x.value x.at) ∙ l.fits in
+    c.set_field.ensures.kept S names size st e (sub _ l (rw c.get-in-SetField.ensures s)) i p q
+
+pub begin_other-returns-in-SetField-clause-came : goal.begin_other-returns-in-SetField-clause-came
+begin_other-returns-in-SetField-clause-came g m c = λ S start k names size st e l a.
+    let x = c.in-SetField in
+    let s = sym (ap (λ d. fits S d names size) x.is ∙ fits-set_field S names size x.name x.value x.at) ∙ l.fits in
+    c.set_field.ensures.came (FieldTo x.name x.at) fielded S start k names size st e (sub _ l (rw c.get-in-SetField.ensures s)) (rw c.get-in-SetField.ensures (begins _ _ k _ _ _ (shows-set_field c.args.code.now x.name x.value x.at x.is) a))
+
+pub begin_other-returns-in-UpdateField-clause-kept : goal.begin_other-returns-in-UpdateField-clause-kept
+begin_other-returns-in-UpdateField-clause-kept g m c = λ S names size st e l i p q.
+    let x = c.in-UpdateField in
+    let s = sym (ap (λ d. fits S d names size) x.is ∙ fits-update_field S names size x.name x.op x.value x.at) ∙ l.fits in
+    c.update_field.ensures.kept S names size st e (sub _ l (rw c.get-in-UpdateField.ensures s)) i p q
+
+pub begin_other-returns-in-UpdateField-clause-came : goal.begin_other-returns-in-UpdateField-clause-came
+begin_other-returns-in-UpdateField-clause-came g m c = λ S start k names size st e l a.
+    let x = c.in-UpdateField in
+    let s = sym (ap (λ d. fits S d names size) x.is ∙ fits-update_field S names size x.name x.op x.value x.at) ∙ l.fits in
+    let b = same (begins _ _ k _ _ _ (shows-update_field c.args.code.now x.name x.op x.value x.at x.is) a) (target_field S x.name x.op (erase x.value) x.at k (scope_of (me_of c.args.self.now.context.me) names c.args.room.now) c.args.depth c.args.self.now.left) in
+    c.update_field.ensures.came S start k names size st e (sub _ l (rw c.get-in-UpdateField.ensures s)) (rw c.get-in-UpdateField.ensures b)
+
+pub begin_other-returns-in-New-clause-kept : goal.begin_other-returns-in-New-clause-kept
+begin_other-returns-in-New-clause-kept g m c = λ S names size st e l i p q.
+    let x = c.in-New in
+    let s = sym (ap (λ d. fits S d names size) x.is ∙ fits-new S names size x.class x.first x.name x.args x.at) ∙ l.fits in
+    c.create.ensures.kept S names size st e (sub _ l (rw c.as_slice-in-New.ensures s)) i p q
+
+pub begin_other-returns-in-New-clause-came : goal.begin_other-returns-in-New-clause-came
+begin_other-returns-in-New-clause-came g m c = λ S start k names size st e l a.
+    let x = c.in-New in
+    let s = sym (ap (λ d. fits S d names size) x.is ∙ fits-new S names size x.class x.first x.name x.args x.at) ∙ l.fits in
+    c.create.ensures.came S start k names size st e (sub _ l (rw c.as_slice-in-New.ensures s)) (rw c.as_slice-in-New.ensures (begins _ _ k _ _ _ (shows-new c.args.code.now x.class x.first x.name x.args x.at x.is) a))
+
+pub set_field-returns-then-is_left-clause-came : goal.set_field-returns-then-is_left-clause-came
+set_field-returns-then-is_left-clause-came g m c = λ step is S start k names size st e l a.
+    let w = c.walk-came in
+    let come = w.ensures.came S start (Then step ∷ k) names size st e l a in
+    passes S _ start _ w.result w.new.self.value w.new.self.leave _ step k _ _ _ (sym c.is_left.ensures ∙ c.if-is_left.true) come
+
+pub set_field-returns-clause-kept : goal.set_field-returns-clause-kept
+set_field-returns-clause-kept g m c = λ S names size st e l i p q. c.walk-came.ensures.kept S names size st e l i p q
+
+pub set_field-returns-clause-came : goal.set_field-returns-clause-came
+set_field-returns-clause-came g m c = λ step is S start k names size st e l a.
+    let w = c.walk-came in
+    let come = w.ensures.came S start (Then step ∷ k) names size st e l a in
+    let g1 = given w.result w.new.self.value w.new.self.leave (sym c.is_left.ensures ∙ c.if-is_left.false) come in
+    let f = rw w.ensures.context at c.write_field.ensures.came in
+    rw (c.write_field.ensures.left, c.write_field.ensures.log) (f S start k _ c.args.depth (fielded_by S _ start _ c.args.name c.args.at step is (value_of w.result w.new.self.value) g1))
+
+pub update_field-returns-then-is_left-clause-came : goal.update_field-returns-then-is_left-clause-came
+update_field-returns-then-is_left-clause-came g m c = λ S start k names size st e l a.
+    let r = c.field-current in
+    let step = ReadOf (OfField c.args.name) c.args.op (erase c.args.value.now) c.args.at in
+    let come = r.ensures.came S start (Then step ∷ k) (scope_of (me_of c.args.self.now.context.me) names c.args.room.now) c.args.depth a in
+    rw (r.ensures.left, r.ensures.log) (passes S _ start _ r.result r.new.self.value r.new.self.leave _ step k _ _ _ (sym c.is_left.ensures ∙ c.if-is_left.true) come)
+
+pub update_field-returns-then-is_true_now-clause-came : goal.update_field-returns-then-is_true_now-clause-came
+update_field-returns-then-is_true_now-clause-came g m c = λ S start k names size st e l a.
+    let r = c.field-current in
+    let place = OfField c.args.name in
+    let step = ReadOf place c.args.op (erase c.args.value.now) c.args.at in
+    let come = r.ensures.came S start (Then step ∷ k) (scope_of (me_of c.args.self.now.context.me) names c.args.room.now) c.args.depth a in
+    let none = sym c.is_left.ensures ∙ c.if-is_left.false in
+    let g1 = given r.result r.new.self.value r.new.self.leave none come in
+    let t = sym (c.is_true_now.ensures none) ∙ c.if-is_true_now.true in
+    rw (r.ensures.left, r.ensures.log) (comes S _ start _ _ k _ _ _ _ _ (gave r.result r.new.self.value r.new.self.leave none) (or_else_stays S _ start _ (value_of r.result r.new.self.value) place c.args.op (erase c.args.value.now) c.args.at c.in-OrElse.is t g1))
+
+pub update_field-returns-else-is_true_now-clause-kept : goal.update_field-returns-else-is_true_now-clause-kept
+update_field-returns-else-is_true_now-clause-kept g m c = λ S names size st e l i p q.
+    let r = c.field-current in
+    let f = rw r.ensures.context at c.set_field.ensures.kept in
+    f S names size st e (moved _ _ r.ensures.base refl l) i p (omega (arith, q, r.ensures.base))
+
+pub update_field-returns-else-is_true_now-clause-came : goal.update_field-returns-else-is_true_now-clause-came
+update_field-returns-else-is_true_now-clause-came g m c = λ S start k names size st e l a.
+    let r = c.field-current in
+    let place = OfField c.args.name in
+    let step = ReadOf place c.args.op (erase c.args.value.now) c.args.at in
+    let come = r.ensures.came S start (Then step ∷ k) (scope_of (me_of c.args.self.now.context.me) names c.args.room.now) c.args.depth a in
+    let none = sym c.is_left.ensures ∙ c.if-is_left.false in
+    let g1 = given r.result r.new.self.value r.new.self.leave none come in
+    let t = sym (c.is_true_now.ensures none) ∙ c.if-is_true_now.false in
+    let f = rw (r.ensures.context, r.ensures.left, r.ensures.log) at c.set_field.ensures.came in
+    f (WriteTo place c.args.at) field_updated S start k names size st e (moved _ _ r.ensures.base refl l) (or_else_goes S _ start _ (value_of r.result r.new.self.value) place c.args.op (erase c.args.value.now) c.args.at c.in-OrElse.is t g1)
+
+pub update_field-returns-then-not-is_true_now-clause-came : goal.update_field-returns-then-not-is_true_now-clause-came
+update_field-returns-then-not-is_true_now-clause-came g m c = λ S start k names size st e l a.
+    let r = c.field-current in
+    let place = OfField c.args.name in
+    let step = ReadOf place c.args.op (erase c.args.value.now) c.args.at in
+    let come = r.ensures.came S start (Then step ∷ k) (scope_of (me_of c.args.self.now.context.me) names c.args.room.now) c.args.depth a in
+    let none = sym c.is_left.ensures ∙ c.if-is_left.false in
+    let g1 = given r.result r.new.self.value r.new.self.leave none come in
+    let t = sym (c.is_true_now-in-AndThen.ensures none) ∙ c.if-not-is_true_now.true in
+    rw (r.ensures.left, r.ensures.log) (comes S _ start _ _ k _ _ _ _ _ (gave r.result r.new.self.value r.new.self.leave none) (and_then_stays S _ start _ (value_of r.result r.new.self.value) place c.args.op (erase c.args.value.now) c.args.at c.in-AndThen.is t g1))
+
+pub update_field-returns-else-not-is_true_now-clause-kept : goal.update_field-returns-else-not-is_true_now-clause-kept
+update_field-returns-else-not-is_true_now-clause-kept g m c = λ S names size st e l i p q.
+    let r = c.field-current in
+    let f = rw r.ensures.context at c.set_field-in-AndThen.ensures.kept in
+    f S names size st e (moved _ _ r.ensures.base refl l) i p (omega (arith, q, r.ensures.base))
+
+pub update_field-returns-else-not-is_true_now-clause-came : goal.update_field-returns-else-not-is_true_now-clause-came
+update_field-returns-else-not-is_true_now-clause-came g m c = λ S start k names size st e l a.
+    let r = c.field-current in
+    let place = OfField c.args.name in
+    let step = ReadOf place c.args.op (erase c.args.value.now) c.args.at in
+    let come = r.ensures.came S start (Then step ∷ k) (scope_of (me_of c.args.self.now.context.me) names c.args.room.now) c.args.depth a in
+    let none = sym c.is_left.ensures ∙ c.if-is_left.false in
+    let g1 = given r.result r.new.self.value r.new.self.leave none come in
+    let t = sym (c.is_true_now-in-AndThen.ensures none) ∙ c.if-not-is_true_now.false in
+    let f = rw (r.ensures.context, r.ensures.left, r.ensures.log) at c.set_field-in-AndThen.ensures.came in
+    f (WriteTo place c.args.at) field_updated S start k names size st e (moved _ _ r.ensures.base refl l) (and_then_goes S _ start _ (value_of r.result r.new.self.value) place c.args.op (erase c.args.value.now) c.args.at c.in-AndThen.is t g1)
+
+pub update_field-returns-then-is_left-2-clause-kept : goal.update_field-returns-then-is_left-2-clause-kept
+update_field-returns-then-is_left-2-clause-kept g m c = λ S names size st e l i p q.
+    let r = c.field-current in
+    let f = rw r.ensures.context at c.combine-made.ensures.kept in
+    f S names size st e (moved _ _ r.ensures.base refl l) i p (omega (arith, q, r.ensures.base))
+
+pub update_field-returns-then-is_left-2-clause-came : goal.update_field-returns-then-is_left-2-clause-came
+update_field-returns-then-is_left-2-clause-came g m c = λ S start k names size st e l a.
+    let r = c.field-current in
+    let place = OfField c.args.name in
+    let step = ReadOf place c.args.op (erase c.args.value.now) c.args.at in
+    let come = r.ensures.came S start (Then step ∷ k) (scope_of (me_of c.args.self.now.context.me) names c.args.room.now) c.args.depth a in
+    let none = sym c.is_left.ensures ∙ c.if-is_left.false in
+    let g1 = given r.result r.new.self.value r.new.self.leave none come in
+    let y = c.combine-made in
+    let f = rw (r.ensures.context, r.ensures.left, r.ensures.log) at y.ensures.came in
+    let e2 = f S start (Then (WriteTo place c.args.at) ∷ k) names size st e (moved _ _ r.ensures.base refl l) (operates S _ start _ (value_of r.result r.new.self.value) place c.args.op (erase c.args.value.now) c.args.at c.in_default.not-OrElse c.in_default.not-AndThen g1) in
+    passes S _ start _ y.result y.new.self.value y.new.self.leave _ (WriteTo place c.args.at) k _ _ _ (sym c.is_left-in_default.ensures ∙ c.if-is_left-2.true) e2
+
+pub create-returns-then-is_left-clause-kept : goal.create-returns-then-is_left-clause-kept
+create-returns-then-is_left-clause-kept g m c = λ S names size st e l i p q.
+    c.arguments-came.ensures.kept S names size st e (sub (every (map (fits S) c.args.args.now)) l (snd _ _ l.fits)) i p q
+
+pub create-returns-then-is_left-clause-came : goal.create-returns-then-is_left-clause-came
+create-returns-then-is_left-clause-came g m c = λ S start k names size st e l a.
+    let both = c.arguments-came.ensures.came (Creating c.args.name) c.args.at S start k names size st e (sub (every (map (fits S) c.args.args.now)) l (snd _ _ l.fits)) a in
+    both.0 (sym c.is_left.ensures ∙ c.if-is_left.true)
+
+pub create-returns-in_default-clause-kept : goal.create-returns-in_default-clause-kept
+create-returns-in_default-clause-kept g m c = λ S names size st e l i p q.
+    c.arguments-came.ensures.kept S names size st e (sub (every (map (fits S) c.args.args.now)) l (snd _ _ l.fits)) i p q
+
+pub create-returns-clause-kept : goal.create-returns-clause-kept
+create-returns-clause-kept g m c = λ S names size st e l i p q.
+    c.initialize.ensures.kept i (omega (arith, q)) ∙ c.arguments-came.ensures.kept S names size st e (sub (every (map (fits S) c.args.args.now)) l (snd _ _ l.fits)) i p q
+
+pub begin_own-returns-in-Some-clause-kept : goal.begin_own-returns-in-Some-clause-kept
+begin_own-returns-in-Some-clause-kept g m c = λ S names size st e l i p q.
+    let is = unnamed_is S c.args.name (λ s. every (map (fits s) c.args.args.now)) names size l.fits in
+    c.own.ensures.kept S names size st e (sub (every (map (fits S) c.args.args.now)) l is.2) i p q
+
+pub begin_own-returns-in-Some-clause-came : goal.begin_own-returns-in-Some-clause-came
+begin_own-returns-in-Some-clause-came g m c = λ S start k names size st e l a.
+    let is = unnamed_is S c.args.name (λ s. every (map (fits s) c.args.args.now)) names size l.fits in
+    c.own.ensures.came S start k names size st e (sub (every (map (fits S) c.args.args.now)) l is.2) a
+
+pub begin_own-returns-then-is_left-clause-kept : goal.begin_own-returns-then-is_left-clause-kept
+begin_own-returns-then-is_left-clause-kept g m c = λ S names size st e l i p q.
+    let is = unnamed_is S c.args.name (λ s. every (map (fits s) c.args.args.now)) names size l.fits in
+    c.arguments-came.ensures.kept S names size st e (sub (every (map (fits S) c.args.args.now)) l is.2) i p q
+
+pub begin_own-returns-then-is_left-clause-came : goal.begin_own-returns-then-is_left-clause-came
+begin_own-returns-then-is_left-clause-came g m c = λ S start k names size st e l a.
+    let is = unnamed_is S c.args.name (λ s. every (map (fits s) c.args.args.now)) names size l.fits in
+    let both = c.arguments-came.ensures.came (ByName c.args.name) c.args.at S start k names size st e (sub (every (map (fits S) c.args.args.now)) l is.2) a in
+    both.0 (sym c.is_left.ensures ∙ c.if-is_left.true)
+
+pub begin_own-returns-clause-kept : goal.begin_own-returns-clause-kept
+begin_own-returns-clause-kept g m c = λ S names size st e l i p q.
+    let is = unnamed_is S c.args.name (λ s. every (map (fits s) c.args.args.now)) names size l.fits in
+    c.arguments-came.ensures.kept S names size st e (sub (every (map (fits S) c.args.args.now)) l is.2) i p q
+
+pub begin_own-returns-clause-came : goal.begin_own-returns-clause-came
+begin_own-returns-clause-came g m c = λ S start k names size st e l a.
+    let is = unnamed_is S c.args.name (λ s. every (map (fits s) c.args.args.now)) names size l.fits in
+    let y = c.arguments-came in
+    let both = y.ensures.came (ByName c.args.name) c.args.at S start k names size st e (sub (every (map (fits S) c.args.args.now)) l is.2) a in
+    let came = sym c.is_left.ensures ∙ c.if-is_left.false in
+    let o = c.raise.ensures in
+    rw (o.gives, o.left, o.store) (same (on _ (both.1 came) refl) (found_nowhere S c.args.name (map plain (take (length c.args.args.now) (drop c.args.self.now.base y.new.room))) c.args.at k _ _ _ (c.own_target.ensures.none c.in_default.is S st) is.0 is.1))
+
+pub begin_other-returns-in-Own-clause-kept : goal.begin_other-returns-in-Own-clause-kept
+begin_other-returns-in-Own-clause-kept g m c = λ S names size st e l i p q.
+    let x = c.in-Own in
+    let s = sym (ap (λ d. fits S d names size) x.is ∙ fits-own S names size x.name x.args x.at) ∙ l.fits in
+    c.begin_own.ensures.kept S names size st e (sub _ l (rw c.as_slice-in-Own.ensures s)) i p q
+
+pub begin_other-returns-in-Own-clause-came : goal.begin_other-returns-in-Own-clause-came
+begin_other-returns-in-Own-clause-came g m c = λ S start k names size st e l a.
+    let x = c.in-Own in
+    let s = sym (ap (λ d. fits S d names size) x.is ∙ fits-own S names size x.name x.args x.at) ∙ l.fits in
+    c.begin_own.ensures.came S start k names size st e (sub _ l (rw c.as_slice-in-Own.ensures s)) (rw c.as_slice-in-Own.ensures (begins _ _ k _ _ _ (shows-own c.args.code.now x.name x.args x.at x.is) a))
+
+pub update_field-returns-else-is_left-2 : goal.update_field-returns-else-is_left-2
+update_field-returns-else-is_left-2 g m c =
+    let r = c.field-current in
+    let y = c.combine-made in
+    let z = c.write_field.ensures in
+    let place = OfField c.args.name in
+    record {
+      base = z.base ∙ (y.ensures.base ∙ r.ensures.base);
+      context = z.context ∙ (y.ensures.context ∙ r.ensures.context);
+      room = y.ensures.room;
+      less = omega (arith, z.left, y.ensures.less, r.ensures.left);
+      unended = rw z.log y.ensures.unended;
+      kept = λ S names size st e l i p q.
+          let f = rw r.ensures.context at y.ensures.kept in
+          f S names size st e (moved _ _ r.ensures.base refl l) i p (omega (arith, q, r.ensures.base));
+      came = λ S start k names size st e l a.
+          let come = r.ensures.came S start (Then (ReadOf place c.args.op (erase c.args.value.now) c.args.at) ∷ k) (scope_of (me_of c.args.self.now.context.me) names c.args.room.now) c.args.depth a in
+          let none = sym c.is_left.ensures ∙ c.if-is_left.false in
+          let g1 = given r.result r.new.self.value r.new.self.leave none come in
+          let f = rw (r.ensures.context, r.ensures.left, r.ensures.log) at y.ensures.came in
+          let e2 = f S start (Then (WriteTo place c.args.at) ∷ k) names size st e (moved _ _ r.ensures.base refl l) (operates S _ start _ (value_of r.result r.new.self.value) place c.args.op (erase c.args.value.now) c.args.at c.in_default.not-OrElse c.in_default.not-AndThen g1) in
+          let g2 = given y.result y.new.self.value y.new.self.leave (sym c.is_left-in_default.ensures ∙ c.if-is_left-2.false) e2 in
+          let h1 = rw (y.ensures.context, r.ensures.context) at z.came in
+          rw (z.left, z.log) (h1 S start k _ c.args.depth (on _ g2 refl));
+    }
+
+pub create-returns-in_default-clause-came : goal.create-returns-in_default-clause-came
+create-returns-in_default-clause-came g m c = λ S start k names size st e l a.
+    let y = c.arguments-came in
+    let both = y.ensures.came (Creating c.args.name) c.args.at S start k names size st e (sub (every (map (fits S) c.args.args.now)) l (snd _ _ l.fits)) a in
+    let values = map plain (take (length c.args.args.now) (drop c.args.self.now.base y.new.room)) in
+    let o = c.over.ensures in
+    rw (o.gives, o.left, o.store, c.in_default.ensures.err, c.make.ensures.log) (_, same (on _ (both.1 (sym c.is_left.ensures ∙ c.if-is_left.false)) refl) (created_from S c.args.class c.args.first c.args.name values c.args.at k _ _ _ (fst _ _ l.fits)), refl)
+
+pub create-returns-clause-came : goal.create-returns-clause-came
+create-returns-clause-came g m c = λ S start k names size st e l a.
+    let y = c.arguments-came in
+    let both = y.ensures.came (Creating c.args.name) c.args.at S start k names size st e (sub (every (map (fits S) c.args.args.now)) l (snd _ _ l.fits)) a in
+    let none = sym c.is_left.ensures ∙ c.if-is_left.false in
+    let count = length c.args.args.now in
+    let base = c.args.self.now.base in
+    let long : base + count ≤ length y.new.room = omega (arith, y.ensures.base none, y.ensures.fits l.room) in
+    let values = map plain (take count (drop base y.new.room)) in
+    let o = c.in-Ok.ensures in
+    let made = created S _ start _ _ _ c.in-Ok.object c.args.class c.args.first c.args.name values c.args.at k _ _ _ (fst _ _ l.fits) o.id o.sort o.private (on _ (both.1 none) refl) in
+    let f = rw (y.ensures.context, c.make.ensures.log) at c.initialize.ensures.came in
+    f c.args.name S start k names st e (fst _ _ l.fits) (omega (arith, l.within, l.below)) long made
+
+pub initialize-returns-then-count-gt0-clause-came : goal.initialize-returns-then-count-gt0-clause-came
+initialize-returns-then-count-gt0-clause-came g m c = λ name S start k names st e is le long a.
+    let values = map plain (take c.args.count (drop c.args.self.now.base c.args.room.now)) in
+    let made = rw c.in_default.is at is in
+    let some : length values ≡ 0 → ⊥ = λ z. omega (arith, z, c.if-count-gt0.true, len_map plain (take c.args.count (drop c.args.self.now.base c.args.room.now)), len_args c.args.room.now c.args.self.now.base c.args.count long) in
+    let o = c.raise.ensures in
+    rw (o.gives, o.left, o.store) (same a (takes_none c.args.self.now.context.script.now S st c.args.object c.args.class name values c.args.at k _ _ _ c.requires.class made some))
+
+pub initialize-returns-in_default-clause-came : goal.initialize-returns-in_default-clause-came
+initialize-returns-in_default-clause-came g m c = λ name S start k names st e is le long a.
+    let values = map plain (take c.args.count (drop c.args.self.now.base c.args.room.now)) in
+    let made = rw c.in_default.is at is in
+    let none : length values ≡ 0 = omega (arith, c.if-count-gt0.false, len_map plain (take c.args.count (drop c.args.self.now.base c.args.room.now)), len_args c.args.room.now c.args.self.now.base c.args.count long) in
+    let o = c.give.ensures in
+    rw (o.gives, o.left, o.store) (same a (is_ready c.args.self.now.context.script.now S st c.args.object c.args.class name values c.args.at k _ _ _ c.requires.class made none))
+
+pub initialize-returns-in_default-method_at-clause-came : goal.initialize-returns-in_default-method_at-clause-came
+initialize-returns-in_default-method_at-clause-came g m c = λ name S start k names st e is le long a.
+    let values = map plain (take c.args.count (drop c.args.self.now.base c.args.room.now)) in
+    let o = c.over.ensures in
+    rw (o.left, o.store) (cut S _ start _ _ _ k _ _ _ _ o.gives a (initialize_left S (me_of (Some c.args.object)) values c.args.at k _ _ _))
+
+pub initialize-returns-then-is_left-clause-kept : goal.initialize-returns-then-is_left-clause-kept
+initialize-returns-then-is_left-clause-kept g m c = c.enter-came.ensures.kept
+
+pub initialize-returns-then-is_left-clause-came : goal.initialize-returns-then-is_left-clause-came
+initialize-returns-then-is_left-clause-came g m c = λ name S start k names st e is le long a.
+    let script = c.args.self.now.context.script.now in
+    let values = map plain (take c.args.count (drop c.args.self.now.base c.args.room.now)) in
+    let made = rw c.in-Some.is at is in
+    let found : method_at script c.args.class c.in-Some.number ≡ Some c.in-Some-method_at.method.now = sym c.method_at.ensures ∙ ap option_copied c.in-Some-method_at.is in
+    let entered = same a (initializes script S st c.args.object c.args.class c.in-Some.number name c.in-Some-method_at.method.now values c.args.at k _ _ _ c.requires.class made found) in
+    let y = c.enter-came in
+    let come = y.ensures.came S start (Then (Instead (me_of (Some c.args.object))) ∷ k) names st e (first_right script S st c.args.class c.in-Some.number c.in-Some-method_at.method.now found) le long entered in
+    passes S _ start _ y.result y.new.self.value y.new.self.leave _ (Instead (me_of (Some c.args.object))) k _ _ _ (sym c.is_left.ensures ∙ c.if-is_left.true) come
+
+pub initialize-returns-clause-kept : goal.initialize-returns-clause-kept
+initialize-returns-clause-kept g m c = c.enter-came.ensures.kept
+
+pub initialize-returns-clause-came : goal.initialize-returns-clause-came
+initialize-returns-clause-came g m c = λ name S start k names st e is le long a.
+    let script = c.args.self.now.context.script.now in
+    let values = map plain (take c.args.count (drop c.args.self.now.base c.args.room.now)) in
+    let made = rw c.in-Some.is at is in
+    let found : method_at script c.args.class c.in-Some.number ≡ Some c.in-Some-method_at.method.now = sym c.method_at.ensures ∙ ap option_copied c.in-Some-method_at.is in
+    let entered = same a (initializes script S st c.args.object c.args.class c.in-Some.number name c.in-Some-method_at.method.now values c.args.at k _ _ _ c.requires.class made found) in
+    let y = c.enter-came in
+    let come = y.ensures.came S start (Then (Instead (me_of (Some c.args.object))) ∷ k) names st e (first_right script S st c.args.class c.in-Some.number c.in-Some-method_at.method.now found) le long entered in
+    let g1 = given y.result y.new.self.value y.new.self.leave (sym c.is_left.ensures ∙ c.if-is_left.false) come in
+    let o = c.give-2.ensures in
+    rw (o.gives, o.left, o.store) (on _ g1 refl)
+
+pub write_member-returns-in_default-share-clause-came : goal.write_member-returns-in_default-share-clause-came
+write_member-returns-in_default-share-clause-came g m c = λ name S start k names st e writes free le bound_ a.
+    let script = c.args.self.now.context.script.now in
+    let v = value_of c.args.came c.args.self.now.value in
+    let receiver = plain c.args.receiver.now in
+    let meth = c.in-Some.target.method.now in
+    let to = me_of (Some c.in-Some.target.object) in
+    let is = c.in-Some.ensures.some in
+    let entered = same a (by_receiver S receiver to (text_of S name ++ codes "=") (erase_method meth) (v ∷ []) c.args.at (Then (Instead v) ∷ k) _ _ _ (writer_some script S st receiver c.args.writer name c.in-Some.target.object meth writes is) (writer_me script receiver c.args.writer c.in-Some.target.object meth is)) in
+    let o = c.over.ensures in
+    let t = c.take-value.ensures in
+    rw (o.left, o.store, t.left, t.store) (cut S _ start _ _ _ k _ _ _ _ o.gives entered (enter_left S (erase_method meth) to (v ∷ []) c.args.at (Then (Instead v) ∷ k) _ _ _))
+
+pub send_block-returns-in-Some-clause-kept : goal.send_block-returns-in-Some-clause-kept
+send_block-returns-in-Some-clause-kept g m c = λ S names size st e l i p q.
+    let w = c.walk-came in
+    let right = snd _ _ l.fits in
+    let first = sub (fits S c.args.receiver.now) l (fst _ _ right) in
+    let t = c.take-receiver.ensures in
+    let y = c.arguments-came in
+    let under = moved _ _ w.ensures.base w.ensures.room (sub (every (map (fits S) c.args.args.now)) l (fst _ _ (snd _ _ right))) in
+    let f = rw (t.context, t.base, w.ensures.context) at y.ensures.kept in
+    f S names size st e under i p (omega (arith, q, w.ensures.base)) ∙ w.ensures.kept S names size st e first i p q
+
+pub send_block-returns-in-Some-clause-came : goal.send_block-returns-in-Some-clause-came
+send_block-returns-in-Some-clause-came g m c = λ S start k names size st e l a.
+    let w = c.walk-came in
+    let right = snd _ _ l.fits in
+    let first = sub (fits S c.args.receiver.now) l (fst _ _ right) in
+    let block = Some (erase_block c.args.block.now) in
+    let step = ReceiverOf (text_of S c.args.name) (map erase c.args.args.now) block c.args.at in
+    let come = w.ensures.came S start (Then step ∷ k) names size st e first a in
+    let t = c.take-receiver.ensures in
+    let y = c.arguments-came in
+    let under = moved _ _ w.ensures.base w.ensures.room (sub (every (map (fits S) c.args.args.now)) l (fst _ _ (snd _ _ right))) in
+    let none = sym c.is_left.ensures ∙ c.if-is_left.false in
+    let v = value_of w.result w.new.self.value in
+    let f = rw (t.context, t.base, t.left, t.store, w.ensures.context) at y.ensures.came in
+    let ends = f (OnReceiver v (text_of S c.args.name) block) c.args.at S start k names size st e under (on _ (given w.result w.new.self.value w.new.self.leave none come) refl) in
+    let at_end = ends.1 (sym c.is_left-2.ensures ∙ c.if-is_left-2.false) in
+    let values = map plain (take (length c.args.args.now) (drop w.new.self.base y.new.room)) in
+    let target = rw (y.ensures.context, t.context, w.ensures.context, t.value) at c.in-Some.ensures.some in
+    let o = c.raise.ensures in
+    rw (o.gives, o.left, o.store) (same (on _ at_end refl) (blocked S v (text_of S c.args.name) _ values (erase_block c.args.block.now) c.args.at k _ _ _ (target.finds S st)))
+
+pub told-returns-in_default-clause-came : goal.told-returns-in_default-clause-came
+told-returns-in_default-clause-came g m c = λ S start k names st e n b a.
+    told_itself S _ start _ _ c.args.at k _ _ _ c.args.self.now.context.program.now c.args.came c.args.self.now.value c.args.self.now.leave e c.requires.came (registers_unasked S c.args.came c.args.self.now.value c.requires.came c.in_default.not-Other) a
+
+pub told-returns-in_default-asked_of-clause-came : goal.told-returns-in_default-asked_of-clause-came
+told-returns-in_default-asked_of-clause-came g m c = λ S start k names st e n b a.
+    let none = c.asked_of.ensures.none c.in_default-asked_of.is S st e in
+    told_itself S _ start _ _ c.args.at k _ _ _ c.args.self.now.context.program.now c.args.came c.args.self.now.value c.args.self.now.leave e c.requires.came (rw c.in-Other.is none) a
+
+pub told-returns-then-is_left-clause-came : goal.told-returns-then-is_left-clause-came
+told-returns-then-is_left-clause-came g m c = λ S start k names st e n b a.
+    let v = me_of (Some c.in-Some.target.object) in
+    let w = c.enter-answer in
+    let asked = c.in-Some.ensures.some in
+    let entered = told_enters S _ start _ _ c.args.at k (scope_of (me_of c.args.self.now.context.me) names c.args.room.now) _ _ c.args.came c.args.self.now.value _ _ c.in-Some.target.object c.in-Some.target.method.now c.in-Other.is asked st e a in
+    let come = w.ensures.came S start (Then (TextOf v) ∷ k) names st e (asked.right S st) n (omega (arith, b)) entered in
+    told_leaving S _ start _ _ k _ _ _ v c.args.self.now.context.program.now w.result w.new.self.value w.new.self.leave (sym c.is_left.ensures ∙ c.if-is_left.true) come
+
+pub told-returns-then-is_text_now-clause-came : goal.told-returns-then-is_text_now-clause-came
+told-returns-then-is_text_now-clause-came g m c = λ S start k names st e n b a.
+    let v = me_of (Some c.in-Some.target.object) in
+    let w = c.enter-answer in
+    let asked = c.in-Some.ensures.some in
+    let entered = told_enters S _ start _ _ c.args.at k (scope_of (me_of c.args.self.now.context.me) names c.args.room.now) _ _ c.args.came c.args.self.now.value _ _ c.in-Some.target.object c.in-Some.target.method.now c.in-Other.is asked st e a in
+    let come = w.ensures.came S start (Then (TextOf v) ∷ k) names st e (asked.right S st) n (omega (arith, b)) entered in
+    let came = sym c.is_left.ensures ∙ c.if-is_left.false in
+    told_answer S _ start _ _ k _ _ _ v c.args.self.now.context.program.now w.result w.new.self.value w.new.self.leave e came (sym (c.is_text_now.ensures came) ∙ c.if-is_text_now.true) come
+
+pub told-returns-clause-came : goal.told-returns-clause-came
+told-returns-clause-came g m c = λ S start k names st e n b a.
+    let v = me_of (Some c.in-Some.target.object) in
+    let w = c.enter-answer in
+    let asked = c.in-Some.ensures.some in
+    let entered = told_enters S _ start _ _ c.args.at k (scope_of (me_of c.args.self.now.context.me) names c.args.room.now) _ _ c.args.came c.args.self.now.value _ _ c.in-Some.target.object c.in-Some.target.method.now c.in-Other.is asked st e a in
+    let come = w.ensures.came S start (Then (TextOf v) ∷ k) names st e (asked.right S st) n (omega (arith, b)) entered in
+    let came = sym c.is_left.ensures ∙ c.if-is_left.false in
+    let o = c.give.ensures in
+    rw (o.left, o.store) (told_by_class S _ start _ _ k _ _ _ v c.args.self.now.context.program.now w.result w.new.self.value w.new.self.leave _ e came (sym (c.is_text_now.ensures came) ∙ c.if-is_text_now.false) o.gives come)
+
+pub told_at-returns-in_default-clause-came : goal.told_at-returns-in_default-clause-came
+told_at-returns-in_default-clause-came g m c = λ v there S start k names st e n b a.
+    let o = c.over.ensures in
+    rw (o.gives, o.left, o.store) (_, a, text_left S (plain v) c.args.at k _ _ _)
+
+pub told_at-returns-then-is_left-clause-came : goal.told_at-returns-then-is_left-clause-came
+told_at-returns-then-is_left-clause-came g m c = λ v there S start k names st e n b a.
+    let r = c.read_shared-came in
+    let left = copy_left r.result r.new.self.value r.new.self.leave _ (sym c.is_left.ensures ∙ c.if-is_left.true) r.ensures.gives in
+    rw (left, r.ensures.left, r.ensures.store) (_, a, text_left S (plain v) c.args.at k _ _ _)
+
+pub told_at-returns-clause-came : goal.told_at-returns-clause-came
+told_at-returns-clause-came g m c = λ v there S start k names st e n b a.
+    let r = c.read_shared-came in
+    let copy = copy_came r.result r.new.self.value r.new.self.leave _ (sym c.is_left.ensures ∙ c.if-is_left.false) r.ensures.gives in
+    let one = read_item c.args.room.now c.args.slot v c.in-Some.value.now there c.in-Some.ensures.lookup.1 in
+    let f = rw (r.ensures.context, r.ensures.base, r.ensures.left, r.ensures.store, copy, one) at c.told.ensures.came in
+    f S start k names st e n b a
+
+pub print_texts-returns-then-room-first-clause-came : goal.print_texts-returns-then-room-first-clause-came
+print_texts-returns-then-room-first-clause-came g m c = λ S start k names st e n b a.
+    let o = c.over.ensures in
+    rw (o.gives, o.left, o.store) (_, a, write_left S (style_of c.args.style) _ c.args.at k _ _ _)
+
+pub print_texts-returns-clause-came : goal.print_texts-returns-clause-came
+print_texts-returns-clause-came g m c = c.print_from-came.ensures.came
+
+pub print_from-returns-then-is_left-clause-came : goal.print_from-returns-then-is_left-clause-came
+print_from-returns-then-is_left-clause-came g m c = λ S start k names st e n b a.
+    let loop = c.values in
+    let inv = loop.invariant in
+    let slot = c.args.first + loop.index in
+    let within : slot < length loop.room = omega (arith, c.values-test.true, c.requires.within, inv.room) in
+    let found = there loop.room slot within in
+    let before = sym (inv.kept slot (omega (arith, c.values-test.true, c.requires.behind))) ∙ found.1 in
+    let next = next_value c.args.room.now c.args.first c.args.count loop.index found.0 c.values-test.true before in
+    let rest = drop (loop.index + 1) (map plain (take c.args.count (drop c.args.first c.args.room.now))) in
+    let step = WriteBehind (style_of c.args.style) loop.bytes.items rest c.args.at in
+    let asks = asks_next S _ start _ _ (style_of c.args.style) loop.bytes.items _ c.args.at k _ _ _ (plain found.0) rest next (inv.came S start k names st e n a) in
+    let t = c.told_at-came in
+    let f = rw (inv.context, inv.base) at (t.ensures.came found.0 found.1) in
+    let come = f S start (Then step ∷ k) names st e (omega (arith, n, c.requires.behind)) (omega (arith, c.requires.behind, c.requires.within, inv.room)) asks in
+    let left = sym c.is_left.ensures ∙ c.if-is_left.true in
+    passes S _ start _ t.result t.new.self.value t.new.self.leave _ step k _ _ _ left (told_passes S _ start _ _ k _ _ _ (Then step) c.args.self.now.context.program.now t.result t.new.self.value t.new.self.leave left come)
+
+pub print_from-returns-in-Err-TooLong-clause-came : goal.print_from-returns-in-Err-TooLong-clause-came
+print_from-returns-in-Err-TooLong-clause-came g m c = λ S start k names st e n b a.
+    let loop = c.values in
+    let inv = loop.invariant in
+    let slot = c.args.first + loop.index in
+    let within : slot < length loop.room = omega (arith, c.values-test.true, c.requires.within, inv.room) in
+    let found = there loop.room slot within in
+    let before = sym (inv.kept slot (omega (arith, c.values-test.true, c.requires.behind))) ∙ found.1 in
+    let next = next_value c.args.room.now c.args.first c.args.count loop.index found.0 c.values-test.true before in
+    let rest = drop (loop.index + 1) (map plain (take c.args.count (drop c.args.first c.args.room.now))) in
+    let step = WriteBehind (style_of c.args.style) loop.bytes.items rest c.args.at in
+    let asks = asks_next S _ start _ _ (style_of c.args.style) loop.bytes.items _ c.args.at k _ _ _ (plain found.0) rest next (inv.came S start k names st e n a) in
+    let t = c.told_at-came in
+    let f = rw (inv.context, inv.base) at (t.ensures.came found.0 found.1) in
+    let come = f S start (Then step ∷ k) names st e (omega (arith, n, c.requires.behind)) (omega (arith, c.requires.behind, c.requires.within, inv.room)) asks in
+    let came = sym c.is_left.ensures ∙ c.if-is_left.false in
+    let writes = told_writes S _ start _ _ (style_of c.args.style) loop.bytes.items rest c.args.at k _ _ _ c.args.self.now.context.program.now t.result t.new.self.value t.new.self.leave came come in
+    let v = c.take-value.ensures in
+    let said = rw (v.context, t.ensures.context, inv.context, v.value) at (rw c.in-Err-TooLong.field-0-is at c.in-Err-TooLong.ensures.too_long) in
+    let o = c.raise.ensures in
+    rw (o.gives, o.left, o.store, v.left, v.store) (same writes (behind_long S (style_of c.args.style) loop.bytes.items _ rest c.args.at k _ _ _ (said refl)))
+
+pub print_from-returns-in-Err-Memory-clause-came : goal.print_from-returns-in-Err-Memory-clause-came
+print_from-returns-in-Err-Memory-clause-came g m c = λ S start k names st e n b a.
+    let loop = c.values in
+    let inv = loop.invariant in
+    let slot = c.args.first + loop.index in
+    let within : slot < length loop.room = omega (arith, c.values-test.true, c.requires.within, inv.room) in
+    let found = there loop.room slot within in
+    let before = sym (inv.kept slot (omega (arith, c.values-test.true, c.requires.behind))) ∙ found.1 in
+    let next = next_value c.args.room.now c.args.first c.args.count loop.index found.0 c.values-test.true before in
+    let rest = drop (loop.index + 1) (map plain (take c.args.count (drop c.args.first c.args.room.now))) in
+    let step = WriteBehind (style_of c.args.style) loop.bytes.items rest c.args.at in
+    let asks = asks_next S _ start _ _ (style_of c.args.style) loop.bytes.items _ c.args.at k _ _ _ (plain found.0) rest next (inv.came S start k names st e n a) in
+    let t = c.told_at-came in
+    let f = rw (inv.context, inv.base) at (t.ensures.came found.0 found.1) in
+    let come = f S start (Then step ∷ k) names st e (omega (arith, n, c.requires.behind)) (omega (arith, c.requires.behind, c.requires.within, inv.room)) asks in
+    let gives = told_gives S _ start _ _ (Then step ∷ k) _ _ _ c.args.self.now.context.program.now t.result t.new.self.value t.new.self.leave (sym c.is_left.ensures ∙ c.if-is_left.false) come in
+    let v = c.take-value.ensures in
+    let o = c.over.ensures in
+    rw (o.gives, o.left, o.store, v.left, v.store) (_, gives, refl)
+
+pub print_from-returns-then-is_left-2-clause-came : goal.print_from-returns-then-is_left-2-clause-came
+print_from-returns-then-is_left-2-clause-came g m c = λ S start k names st e n b a.
+    let inv = c.values.invariant in
+    let none = no_value c.args.room.now c.args.first c.args.count c.values.index c.requires.within c.values-test.false in
+    let shows = shows_all S _ start _ _ (style_of c.args.style) c.values.bytes.items _ c.args.at k _ _ _ none (inv.came S start k names st e n a) in
+    let z = c.show_bytes-shown in
+    let f = rw inv.context at z.ensures.came in
+    let come = f S start _ (Instead Nil) c.args.at k _ _ shows in
+    rw (z.ensures.left, z.ensures.private) (passes S _ start _ z.result z.new.self.value z.new.self.leave _ (Instead Nil) k _ _ _ (sym c.is_left-2.ensures ∙ c.if-is_left-2.true) come)
+
+pub print_from-returns-clause-came : goal.print_from-returns-clause-came
+print_from-returns-clause-came g m c = λ S start k names st e n b a.
+    let inv = c.values.invariant in
+    let none = no_value c.args.room.now c.args.first c.args.count c.values.index c.requires.within c.values-test.false in
+    let shows = shows_all S _ start _ _ (style_of c.args.style) c.values.bytes.items _ c.args.at k _ _ _ none (inv.came S start k names st e n a) in
+    let z = c.show_bytes-shown in
+    let f = rw inv.context at z.ensures.came in
+    let come = f S start _ (Instead Nil) c.args.at k _ _ shows in
+    rw (z.ensures.left, z.ensures.private) (on _ (given z.result z.new.self.value z.new.self.leave (sym c.is_left-2.ensures ∙ c.if-is_left-2.false) come) refl)
+
+pub print-returns-then-is_left-clause-came : goal.print-returns-then-is_left-clause-came
+print-returns-then-is_left-clause-came g m c = λ S start k names size st e l a.
+    let r = c.arguments-came in
+    let right = printing_is S c.args.form c.args.name (length c.args.args.now) (λ s. every (map (fits s) c.args.args.now)) names size l.fits in
+    let under = sub (every (map (fits S) c.args.args.now)) l right.3 in
+    let p = r.ensures.came (ByName c.args.name) c.args.at S start k names size st e under a in
+    p.0 (sym c.is_left.ensures ∙ c.if-is_left.true)
+
+pub print-returns-in-Some-clause-came : goal.print-returns-in-Some-clause-came
+print-returns-in-Some-clause-came g m c = λ S start k names size st e l a.
+    let r = c.arguments-came in
+    let right = printing_is S c.args.form c.args.name (length c.args.args.now) (λ s. every (map (fits s) c.args.args.now)) names size l.fits in
+    let under = sub (every (map (fits S) c.args.args.now)) l right.3 in
+    let p = r.ensures.came (ByName c.args.name) c.args.at S start k names size st e under a in
+    let came = sym c.is_left.ensures ∙ c.if-is_left.false in
+    let base = c.args.self.now.base in
+    let count = length c.args.args.now in
+    let long : base + count ≤ length r.new.room = omega (arith, r.ensures.base came, r.ensures.fits l.room) in
+    let values = map plain (take count (drop base r.new.room)) in
+    let many : length values ≡ count = len_map plain (take count (drop base r.new.room)) ∙ len_args r.new.room base count long in
+    let sc = scope_of (me_of c.args.self.now.context.me) names r.new.room in
+    let prints = same (on _ (p.1 came) refl) (by_form S c.args.form c.args.name values c.args.at k sc _ _ (c.requires.alone S st) right.0 right.1) in
+    let by = rw (c.passed.ensures long) at c.in-Some.ensures.some in
+    let f = rw r.ensures.context at c.print_texts.ensures.came in
+    f S start k names st e (omega (arith, l.within, l.below)) long (same prints (by S c.args.at k sc _ _))
+
+pub print-returns-then-is_left-2-clause-came : goal.print-returns-then-is_left-2-clause-came
+print-returns-then-is_left-2-clause-came g m c = λ S start k names size st e l a.
+    let r = c.arguments-came in
+    let right = printing_is S c.args.form c.args.name (length c.args.args.now) (λ s. every (map (fits s) c.args.args.now)) names size l.fits in
+    let under = sub (every (map (fits S) c.args.args.now)) l right.3 in
+    let p = r.ensures.came (ByName c.args.name) c.args.at S start k names size st e under a in
+    let came = sym c.is_left.ensures ∙ c.if-is_left.false in
+    let base = c.args.self.now.base in
+    let count = length c.args.args.now in
+    let long : base + count ≤ length r.new.room = omega (arith, r.ensures.base came, r.ensures.fits l.room) in
+    let values = map plain (take count (drop base r.new.room)) in
+    let many : length values ≡ count = len_map plain (take count (drop base r.new.room)) ∙ len_args r.new.room base count long in
+    let sc = scope_of (me_of c.args.self.now.context.me) names r.new.room in
+    let prints = same (on _ (p.1 came) refl) (by_form S c.args.form c.args.name values c.args.at k sc _ _ (c.requires.alone S st) right.0 right.1) in
+    let step = Instead (shown_value c.args.form values) in
+    let none = rw (c.passed.ensures long) at (c.in_default.ensures.none refl) in
+    let q = quietly S _ start _ _ _ _ (by_text S c.args.form values c.args.at k sc _ _ (rw many right.2) none) prints in
+    let z = c.show-shown in
+    let f = rw (r.ensures.context, sym e, c.passed-2.ensures long) at (z.ensures.came S start (g.O.ThreadStore.private r.new.self.store) step k sc c.args.depth) in
+    let show = f q in
+    rw (z.ensures.left, z.ensures.private) (passes S _ start _ z.result z.new.self.value z.new.self.leave _ step k _ _ _ (sym c.is_left-2.ensures ∙ c.if-is_left-2.true) show)
+
+pub print-returns-clause-came : goal.print-returns-clause-came
+print-returns-clause-came g m c = λ S start k names size st e l a.
+    let r = c.arguments-came in
+    let right = printing_is S c.args.form c.args.name (length c.args.args.now) (λ s. every (map (fits s) c.args.args.now)) names size l.fits in
+    let under = sub (every (map (fits S) c.args.args.now)) l right.3 in
+    let p = r.ensures.came (ByName c.args.name) c.args.at S start k names size st e under a in
+    let came = sym c.is_left.ensures ∙ c.if-is_left.false in
+    let base = c.args.self.now.base in
+    let count = length c.args.args.now in
+    let long : base + count ≤ length r.new.room = omega (arith, r.ensures.base came, r.ensures.fits l.room) in
+    let values = map plain (take count (drop base r.new.room)) in
+    let many : length values ≡ count = len_map plain (take count (drop base r.new.room)) ∙ len_args r.new.room base count long in
+    let sc = scope_of (me_of c.args.self.now.context.me) names r.new.room in
+    let prints = same (on _ (p.1 came) refl) (by_form S c.args.form c.args.name values c.args.at k sc _ _ (c.requires.alone S st) right.0 right.1) in
+    let step = Instead (shown_value c.args.form values) in
+    let none = rw (c.passed.ensures long) at (c.in_default.ensures.none refl) in
+    let q = quietly S _ start _ _ _ _ (by_text S c.args.form values c.args.at k sc _ _ (rw many right.2) none) prints in
+    let z = c.show-shown in
+    let f = rw (r.ensures.context, sym e, c.passed-2.ensures long) at (z.ensures.came S start (g.O.ThreadStore.private r.new.self.store) step k sc c.args.depth) in
+    let show = f q in
+    let g1 = given z.result z.new.self.value z.new.self.leave (sym c.is_left-2.ensures ∙ c.if-is_left-2.false) show in
+    let o = c.shown_value.ensures in
+    let m1 = rw (c.passed-3.ensures long) at o.gives in
+    rw (o.left, z.ensures.left, o.store, z.ensures.private) (shown S _ start _ _ _ k _ _ _ c.args.form values _ (m1 (rw (len_args r.new.room base count long) right.2)) g1)
+
+pub print_from-values-preserved : goal.print_from-values-preserved
+print_from-values-preserved g m c =
+    let inv0 = c.values.invariant in
+    let y = c.told_at-came.ensures in
+    let v = c.take-value.ensures in
+    record {
+      base = v.base ∙ (y.base ∙ inv0.base);
+      context = v.context ∙ (y.context ∙ inv0.context);
+      room = y.room ∙ inv0.room;
+      less = omega (arith, v.left, y.less, inv0.less);
+      unended = rw v.store y.unended;
+      fits = c.in-Ok.ensures.fits;
+      kept = λ i q. y.kept i (omega (arith, q, inv0.base)) ∙ inv0.kept i q;
+      came = λ S start k names st e n a.
+          let loop = c.values in
+          let inv = loop.invariant in
+          let slot = c.args.first + loop.index in
+          let within : slot < length loop.room = omega (arith, c.values-test.true, c.requires.within, inv.room) in
+          let found = there loop.room slot within in
+          let before = sym (inv.kept slot (omega (arith, c.values-test.true, c.requires.behind))) ∙ found.1 in
+          let next = next_value c.args.room.now c.args.first c.args.count loop.index found.0 c.values-test.true before in
+          let rest = drop (loop.index + 1) (map plain (take c.args.count (drop c.args.first c.args.room.now))) in
+          let step = WriteBehind (style_of c.args.style) loop.bytes.items rest c.args.at in
+          let asks = asks_next S _ start _ _ (style_of c.args.style) loop.bytes.items _ c.args.at k _ _ _ (plain found.0) rest next (inv.came S start k names st e n a) in
+          let t = c.told_at-came in
+          let f = rw (inv.context, inv.base) at (t.ensures.came found.0 found.1) in
+          let come = f S start (Then step ∷ k) names st e (omega (arith, n, c.requires.behind)) (omega (arith, c.requires.behind, c.requires.within, inv.room)) asks in
+          let came = sym c.is_left.ensures ∙ c.if-is_left.false in
+          let writes = told_writes S _ start _ _ (style_of c.args.style) loop.bytes.items rest c.args.at k _ _ _ c.args.self.now.context.program.now t.result t.new.self.value t.new.self.leave came come in
+          let said = rw (v.context, t.ensures.context, inv.context, v.value) at c.in-Ok.ensures.text in
+          let short = rw said at c.in-Ok.ensures.fits in
+          rw (v.left, v.store, said) (same writes (behind_fits S (style_of c.args.style) loop.bytes.items _ rest c.args.at k _ _ _ short));
+    }
+
+pub print_from-values-init : goal.print_from-values-init
+print_from-values-init g m c = record {
+  base = refl;
+  context = refl;
+  room = refl;
+  less = omega arith;
+  unended = c.requires.unended;
+  fits = rw c.new-bytes.ensures.items (omega arith);
+  kept = λ i q. refl;
+  came = λ S start k names st e n a. rw c.new-bytes.ensures.items a;
+}
+
+pub text-returns-in-Err-clause-came : goal.text-returns-in-Err-clause-came
+text-returns-in-Err-clause-came g m c = λ S start k names size st e l a.
+    let o = c.over.ensures in
+    rw (o.gives, o.left, o.store) (_, c.pieces.invariant.came S start k names size st e l a, refl)
+
+pub text-returns-then-is_left-clause-came : goal.text-returns-then-is_left-clause-came
+text-returns-then-is_left-clause-came g m c = λ S start k names size st e l a.
+    let loop = c.pieces in
+    let inv = loop.invariant in
+    let item = next_item _ _ c.piece-item.result c.pieces-test.true c.piece-item.is in
+    let before = joining _ (sym (ap (map erase_piece) item)) (inv.came S start k names size st e l a) in
+    let right = piece_code S _ _ c.piece-item.result c.in-Code.code names size c.pieces-test.true c.piece-item.is c.in-Code.is l.fits in
+    let under = moved _ _ inv.base inv.room (sub (fits S c.in-Code.code) l right) in
+    let rest = map erase_piece (drop (loop.piece-index + 1) c.args.pieces.now) in
+    let step = PieceOf loop.bytes.items rest c.args.at in
+    let w = c.walk-came in
+    let f = rw inv.context at w.ensures.came in
+    let come = f S start (Then step ∷ k) names size st e under (joins_code _ (shows_code c.piece-item.result c.in-Code.code c.in-Code.is) before) in
+    passes S _ start _ w.result w.new.self.value w.new.self.leave _ step k _ _ _ (sym c.is_left.ensures ∙ c.if-is_left.true) come
+
+pub text-returns-then-is_left-2-clause-came : goal.text-returns-then-is_left-2-clause-came
+text-returns-then-is_left-2-clause-came g m c = λ S start k names size st e l a.
+    let loop = c.pieces in
+    let inv = loop.invariant in
+    let item = next_item _ _ c.piece-item.result c.pieces-test.true c.piece-item.is in
+    let before = joining _ (sym (ap (map erase_piece) item)) (inv.came S start k names size st e l a) in
+    let right = piece_code S _ _ c.piece-item.result c.in-Code.code names size c.pieces-test.true c.piece-item.is c.in-Code.is l.fits in
+    let under = moved _ _ inv.base inv.room (sub (fits S c.in-Code.code) l right) in
+    let rest = map erase_piece (drop (loop.piece-index + 1) c.args.pieces.now) in
+    let step = PieceOf loop.bytes.items rest c.args.at in
+    let w = c.walk-came in
+    let f = rw inv.context at w.ensures.came in
+    let come = f S start (Then step ∷ k) names size st e under (joins_code _ (shows_code c.piece-item.result c.in-Code.code c.in-Code.is) before) in
+    let given_now = given w.result w.new.self.value w.new.self.leave (sym c.is_left.ensures ∙ c.if-is_left.false) come in
+    let u = c.told-told in
+    let f2 = rw (w.ensures.context, inv.context) at u.ensures.came in
+    let edge : c.args.self.now.base ≡ w.new.self.base = sym (w.ensures.base ∙ inv.base) in
+    let tells = f2 S start (Then (JoinTo loop.bytes.items rest c.args.at) ∷ k) names st e (omega (arith, l.within, l.below, edge)) (omega (arith, l.room, edge, w.ensures.room, inv.room)) (asks_piece given_now) in
+    let left = sym c.is_left-in-Code.ensures ∙ c.if-is_left-2.true in
+    let join_step = JoinTo loop.bytes.items rest c.args.at in
+    passes S _ start _ u.result u.new.self.value u.new.self.leave _ join_step k _ _ _ left (told_passes S _ start _ _ k _ _ _ (Then join_step) c.args.self.now.context.program.now u.result u.new.self.value u.new.self.leave left tells)
+
+pub text-returns-in-Err-add_value-clause-came : goal.text-returns-in-Err-add_value-clause-came
+text-returns-in-Err-add_value-clause-came g m c = λ S start k names size st e l a.
+    let loop = c.pieces in
+    let inv = loop.invariant in
+    let item = next_item _ _ c.piece-item.result c.pieces-test.true c.piece-item.is in
+    let before = joining _ (sym (ap (map erase_piece) item)) (inv.came S start k names size st e l a) in
+    let right = piece_code S _ _ c.piece-item.result c.in-Code.code names size c.pieces-test.true c.piece-item.is c.in-Code.is l.fits in
+    let under = moved _ _ inv.base inv.room (sub (fits S c.in-Code.code) l right) in
+    let rest = map erase_piece (drop (loop.piece-index + 1) c.args.pieces.now) in
+    let step = PieceOf loop.bytes.items rest c.args.at in
+    let w = c.walk-came in
+    let f = rw inv.context at w.ensures.came in
+    let come = f S start (Then step ∷ k) names size st e under (joins_code _ (shows_code c.piece-item.result c.in-Code.code c.in-Code.is) before) in
+    let given_now = given w.result w.new.self.value w.new.self.leave (sym c.is_left.ensures ∙ c.if-is_left.false) come in
+    let u = c.told-told in
+    let f2 = rw (w.ensures.context, inv.context) at u.ensures.came in
+    let edge : c.args.self.now.base ≡ w.new.self.base = sym (w.ensures.base ∙ inv.base) in
+    let tells = f2 S start (Then (JoinTo loop.bytes.items rest c.args.at) ∷ k) names st e (omega (arith, l.within, l.below, edge)) (omega (arith, l.room, edge, w.ensures.room, inv.room)) (asks_piece given_now) in
+    let gives_text = told_gives S _ start _ _ (Then (JoinTo loop.bytes.items rest c.args.at) ∷ k) _ _ _ c.args.self.now.context.program.now u.result u.new.self.value u.new.self.leave (sym c.is_left-in-Code.ensures ∙ c.if-is_left-2.false) tells in
+    let t = c.take-value.ensures in
+    let o = c.over-in-Err-add_value.ensures in
+    rw (o.gives, o.left, o.store, t.left, t.store) (_, gives_text, refl)
+
+pub text-returns-then-len-gt-MAX_BYTES-clause-came : goal.text-returns-then-len-gt-MAX_BYTES-clause-came
+text-returns-then-len-gt-MAX_BYTES-clause-came g m c = λ S start k names size st e l a.
+    let loop = c.pieces in
+    let inv = loop.invariant in
+    let item = next_item _ _ c.piece-item.result c.pieces-test.true c.piece-item.is in
+    let before = joining _ (sym (ap (map erase_piece) item)) (inv.came S start k names size st e l a) in
+    let long : 16777216 < length c.match-piece.bytes.items = omega (arith, c.if-len-gt-MAX_BYTES.true, c.len.ensures, c.match-piece.bytes.ok) in
+    let o = c.raise.ensures in
+    rw (o.gives, o.left, o.store) (elim c.match-piece.branch [
+      | text-in-Text+in_default x ↦
+          let shows = shows_text c.piece-item.result x.in-Text.text x.as_slice.result.now x.in-Text.is x.as_slice.ensures in
+          rw x.self-is (text_long loop.bytes.items x.as_slice.result.now _ _ c.args.at k _ _ _ c.match-piece.bytes.items shows (rw x.bytes-is x.in_default.ensures) long before)
+      | text-in-Code+else-is_left+else-is_left-2+in_default-add_value x ↦
+          let right = piece_code S _ _ c.piece-item.result x.in-Code.code names size c.pieces-test.true c.piece-item.is x.in-Code.is l.fits in
+          let under = moved _ _ inv.base inv.room (sub (fits S x.in-Code.code) l right) in
+          let rest = map erase_piece (drop (loop.piece-index + 1) c.args.pieces.now) in
+          let step = PieceOf loop.bytes.items rest c.args.at in
+          let w = x.walk-came in
+          let f = rw inv.context at w.ensures.came in
+          let come = f S start (Then step ∷ k) names size st e under (joins_code _ (shows_code c.piece-item.result x.in-Code.code x.in-Code.is) before) in
+          let given_now = given w.result w.new.self.value w.new.self.leave (sym x.is_left.ensures ∙ x.if-is_left.false) come in
+          let u = x.told-told in
+          let f2 = rw (w.ensures.context, inv.context) at u.ensures.came in
+          let edge : c.args.self.now.base ≡ w.new.self.base = sym (w.ensures.base ∙ inv.base) in
+          let tells = f2 S start (Then (JoinTo loop.bytes.items rest c.args.at) ∷ k) names st e (omega (arith, l.within, l.below, edge)) (omega (arith, l.room, edge, w.ensures.room, inv.room)) (asks_piece given_now) in
+          let joins = told_joins S _ start _ _ loop.bytes.items rest c.args.at k _ _ _ c.args.self.now.context.program.now u.result u.new.self.value u.new.self.leave (sym x.is_left-in-Code.ensures ∙ x.if-is_left-2.false) tells in
+          let t = x.take-value.ensures in
+          let said = rw (t.context, u.ensures.context, w.ensures.context, inv.context, t.value) at x.in_default-add_value.ensures in
+          rw (x.self-is, t.left, t.store) (too_long loop.bytes.items _ rest c.args.at k _ _ _ c.match-piece.bytes.items (rw x.bytes-is said) long joins)
+    ])
+
+pub text-returns-in-Ok-clause-came : goal.text-returns-in-Ok-clause-came
+text-returns-in-Ok-clause-came g m c = λ S start k names size st e l a.
+    let o = c.give.ensures in
+    let inv = c.pieces.invariant in
+    rw (o.gives, o.left, o.store, c.in-Ok.ensures) (on _ (joining [] (sym (ap (map erase_piece) (drop_all _ _ c.pieces-test.false))) (inv.came S start k names size st e l a)) refl)
+
+pub text-returns-in-Err-from_vec-clause-came : goal.text-returns-in-Err-from_vec-clause-came
+text-returns-in-Err-from_vec-clause-came g m c = λ S start k names size st e l a.
+    let o = c.over-in-Err-from_vec.ensures in
+    rw (o.gives, o.left, o.store) (_, c.pieces.invariant.came S start k names size st e l a, refl)
+
+pub text-pieces-preserved : goal.text-pieces-preserved
+text-pieces-preserved g m c =
+    let loop = c.pieces in
+    let inv = loop.invariant in
+    let short : length c.match-piece.bytes.items ≤ 16777216 = omega (arith, c.if-len-gt-MAX_BYTES.false, c.len.ensures, c.match-piece.bytes.ok) in
+    elim c.match-piece.branch [
+      | text-in-Text+in_default x ↦ rw (x.self-is, x.room-is) (record {
+        base = inv.base;
+        context = inv.context;
+        room = inv.room;
+        less = inv.less;
+        unended = inv.unended;
+        kept = inv.kept;
+        came = λ S start k names size st e l a.
+            let item = next_item _ _ c.piece-item.result c.pieces-test.true c.piece-item.is in
+            let before = joining _ (sym (ap (map erase_piece) item)) (inv.came S start k names size st e l a) in
+            let shows = shows_text c.piece-item.result x.in-Text.text x.as_slice.result.now x.in-Text.is x.as_slice.ensures in
+            text_joins loop.bytes.items x.as_slice.result.now _ _ c.args.at k _ _ _ c.match-piece.bytes.items shows (rw x.bytes-is x.in_default.ensures) short before;
+      })
+      | text-in-Code+else-is_left+else-is_left-2+in_default-add_value x ↦
+          let y = x.walk-came.ensures in
+          let v = x.told-told.ensures in
+          let t0 = x.take-value.ensures in
+          rw (x.self-is, x.room-is) (record {
+            base = t0.base ∙ (v.base ∙ (y.base ∙ inv.base));
+            context = t0.context ∙ (v.context ∙ (y.context ∙ inv.context));
+            room = v.room ∙ (y.room ∙ inv.room);
+            less = omega (arith, t0.left, v.less, y.less, inv.less);
+            unended = rw t0.store v.unended;
+            kept = λ S names size st e l i p q.
+                let right = piece_code S _ _ c.piece-item.result x.in-Code.code names size c.pieces-test.true c.piece-item.is x.in-Code.is l.fits in
+                let under = moved _ _ inv.base inv.room (sub (fits S x.in-Code.code) l right) in
+                let f = rw inv.context at x.walk-came.ensures.kept in
+                let walked = f S names size st e under i p (omega (arith, q, inv.base)) ∙ inv.kept S names size st e l i p q in
+                x.told-told.ensures.kept i (omega (arith, q, inv.base, x.walk-came.ensures.base)) ∙ walked;
+            came = λ S start k names size st e l a.
+                let item = next_item _ _ c.piece-item.result c.pieces-test.true c.piece-item.is in
+                let before = joining _ (sym (ap (map erase_piece) item)) (inv.came S start k names size st e l a) in
+                let right = piece_code S _ _ c.piece-item.result x.in-Code.code names size c.pieces-test.true c.piece-item.is x.in-Code.is l.fits in
+                let under = moved _ _ inv.base inv.room (sub (fits S x.in-Code.code) l right) in
+                let rest = map erase_piece (drop (loop.piece-index + 1) c.args.pieces.now) in
+                let step = PieceOf loop.bytes.items rest c.args.at in
+                let w = x.walk-came in
+                let f = rw inv.context at w.ensures.came in
+                let come = f S start (Then step ∷ k) names size st e under (joins_code _ (shows_code c.piece-item.result x.in-Code.code x.in-Code.is) before) in
+                let given_now = given w.result w.new.self.value w.new.self.leave (sym x.is_left.ensures ∙ x.if-is_left.false) come in
+                let u = x.told-told in
+                let f2 = rw (w.ensures.context, inv.context) at u.ensures.came in
+                let edge : c.args.self.now.base ≡ w.new.self.base = sym (w.ensures.base ∙ inv.base) in
+                let tells = f2 S start (Then (JoinTo loop.bytes.items rest c.args.at) ∷ k) names st e (omega (arith, l.within, l.below, edge)) (omega (arith, l.room, edge, w.ensures.room, inv.room)) (asks_piece given_now) in
+                let joins = told_joins S _ start _ _ loop.bytes.items rest c.args.at k _ _ _ c.args.self.now.context.program.now u.result u.new.self.value u.new.self.leave (sym x.is_left-in-Code.ensures ∙ x.if-is_left-2.false) tells in
+                let t = x.take-value.ensures in
+                let said = rw (t.context, u.ensures.context, w.ensures.context, inv.context, t.value) at x.in_default-add_value.ensures in
+                rw (t.left, t.store) (not_long loop.bytes.items _ rest c.args.at k _ _ _ c.match-piece.bytes.items (rw x.bytes-is said) short joins);
+          })
+    ]
+
+pub print-returns-then-is_left-clause-kept : goal.print-returns-then-is_left-clause-kept
+print-returns-then-is_left-clause-kept g m c = λ S names size st e l i p q.
+    let right = printing_is S c.args.form c.args.name (length c.args.args.now) (λ s. every (map (fits s) c.args.args.now)) names size l.fits in
+    c.arguments-came.ensures.kept S names size st e (sub (every (map (fits S) c.args.args.now)) l right.3) i p q
+
+pub print-returns-in-Some-clause-kept : goal.print-returns-in-Some-clause-kept
+print-returns-in-Some-clause-kept g m c = λ S names size st e l i p q.
+    let right = printing_is S c.args.form c.args.name (length c.args.args.now) (λ s. every (map (fits s) c.args.args.now)) names size l.fits in
+    c.print_texts.ensures.kept i (omega (arith, q)) ∙ c.arguments-came.ensures.kept S names size st e (sub (every (map (fits S) c.args.args.now)) l right.3) i p q
+
+pub print-returns-then-is_left-2-clause-kept : goal.print-returns-then-is_left-2-clause-kept
+print-returns-then-is_left-2-clause-kept g m c = λ S names size st e l i p q.
+    let right = printing_is S c.args.form c.args.name (length c.args.args.now) (λ s. every (map (fits s) c.args.args.now)) names size l.fits in
+    c.arguments-came.ensures.kept S names size st e (sub (every (map (fits S) c.args.args.now)) l right.3) i p q
+
+pub print-returns-clause-kept : goal.print-returns-clause-kept
+print-returns-clause-kept g m c = λ S names size st e l i p q.
+    let right = printing_is S c.args.form c.args.name (length c.args.args.now) (λ s. every (map (fits s) c.args.args.now)) names size l.fits in
+    c.arguments-came.ensures.kept S names size st e (sub (every (map (fits S) c.args.args.now)) l right.3) i p q
+
+pub text-returns-then-is_left-clause-kept : goal.text-returns-then-is_left-clause-kept
+text-returns-then-is_left-clause-kept g m c = λ S names size st e l i p q.
+    let inv = c.pieces.invariant in
+    let right = piece_code S _ _ c.piece-item.result c.in-Code.code names size c.pieces-test.true c.piece-item.is c.in-Code.is l.fits in
+    let under = moved _ _ inv.base inv.room (sub (fits S c.in-Code.code) l right) in
+    let f = rw inv.context at c.walk-came.ensures.kept in
+    let walked = f S names size st e under i p (omega (arith, q, inv.base)) ∙ inv.kept S names size st e l i p q in
+    walked
+
+pub text-returns-then-is_left-2-clause-kept : goal.text-returns-then-is_left-2-clause-kept
+text-returns-then-is_left-2-clause-kept g m c = λ S names size st e l i p q.
+    let inv = c.pieces.invariant in
+    let right = piece_code S _ _ c.piece-item.result c.in-Code.code names size c.pieces-test.true c.piece-item.is c.in-Code.is l.fits in
+    let under = moved _ _ inv.base inv.room (sub (fits S c.in-Code.code) l right) in
+    let f = rw inv.context at c.walk-came.ensures.kept in
+    let walked = f S names size st e under i p (omega (arith, q, inv.base)) ∙ inv.kept S names size st e l i p q in
+    c.told-told.ensures.kept i (omega (arith, q, inv.base, c.walk-came.ensures.base)) ∙ walked
+
+pub text-returns-in-Err-add_value-clause-kept : goal.text-returns-in-Err-add_value-clause-kept
+text-returns-in-Err-add_value-clause-kept g m c = λ S names size st e l i p q.
+    let inv = c.pieces.invariant in
+    let right = piece_code S _ _ c.piece-item.result c.in-Code.code names size c.pieces-test.true c.piece-item.is c.in-Code.is l.fits in
+    let under = moved _ _ inv.base inv.room (sub (fits S c.in-Code.code) l right) in
+    let f = rw inv.context at c.walk-came.ensures.kept in
+    let walked = f S names size st e under i p (omega (arith, q, inv.base)) ∙ inv.kept S names size st e l i p q in
+    c.told-told.ensures.kept i (omega (arith, q, inv.base, c.walk-came.ensures.base)) ∙ walked
+
+pub text-returns-then-len-gt-MAX_BYTES-clause-kept : goal.text-returns-then-len-gt-MAX_BYTES-clause-kept
+text-returns-then-len-gt-MAX_BYTES-clause-kept g m c = λ S names size st e l i p q.
+    let inv = c.pieces.invariant in
+    elim c.match-piece.branch [
+      | text-in-Text+in_default x ↦ rw x.room-is (inv.kept S names size st e l i p q)
+      | text-in-Code+else-is_left+else-is_left-2+in_default-add_value x ↦
+          let right = piece_code S _ _ c.piece-item.result x.in-Code.code names size c.pieces-test.true c.piece-item.is x.in-Code.is l.fits in
+          let under = moved _ _ inv.base inv.room (sub (fits S x.in-Code.code) l right) in
+          let f = rw inv.context at x.walk-came.ensures.kept in
+          let walked = f S names size st e under i p (omega (arith, q, inv.base)) ∙ inv.kept S names size st e l i p q in
+          rw x.room-is (x.told-told.ensures.kept i (omega (arith, q, inv.base, x.walk-came.ensures.base)) ∙ walked)
+    ]

@@ -1,143 +1,194 @@
-use Rattle.std.proofs.Common.{take, ◌≡◌, ◌≤◌, ◌+◌, ◌-◌, ◌*◌, [], drop, map, length, false}
-use Rattle.std.specs.Prelude.{pos, ◌+ℤ◌, ◌≤ℤ◌}
+use Rattle.std.proofs.Common.{take, ◌≡◌, ℕ, ◌≤◌, ◌<◌, ◌+◌, ◌-◌, ◌*◌, [], drop, map, length, false}
+use Rattle.std.specs.Prelude.{pos, ◌+ℤ◌, ◌≤ℤ◌, slice_get}
 use Rattle.rb_tree.specs.declared.span.Span.{Span}
 use Rattle.rb_model.specs.Values.{Nil, Int, plain}
 use Rattle.rb_model.specs.Log.{has_end}
 use Rattle.rb_machine.specs.Control.{On, Following, Looping, Turning, Counting, Passing, Joining, Aim}
 use Rattle.rb_code.specs.Erase.{erase, erase_block, erase_piece}
 use Rattle.rb_code.specs.Resolved.{fits, piece_fits, block_fits, every}
+use Rattle.rb_machine.specs.Texts.{max_bytes}
+use Rattle.rb_render.specs.Forms.{style_of}
 use Rattle.rb_interp.specs.Outcome.{is_left, value_of}
-use Rattle.rb_interp.specs.Carries.{Keeps, Reaches, both}
+use Rattle.rb_interp.specs.Texts.{WritesOn}
+use Rattle.rb_interp.specs.Carries.{Keeps, Reaches, both, me_of}
 use Rattle.rb_interp.proofs.walker.Walker.+walk.Given as goal
 
 abbrev pub decreases-walk : goal.decreases-walk
-decreases-walk g l = 16 * (1001 - l.depth) + 1
+decreases-walk g l = 24 * (1001 - l.depth) + 1
 
 abbrev pub decreases-walk_here : goal.decreases-walk_here
-decreases-walk_here g l = 16 * (1001 - l.depth)
+decreases-walk_here g l = 24 * (1001 - l.depth)
 
 abbrev pub decreases-evaluate_call : goal.decreases-evaluate_call
-decreases-evaluate_call g l = 16 * (1001 - l.depth) + 2
+decreases-evaluate_call g l = 24 * (1001 - l.depth) + 2
 
 abbrev pub decreases-begin : goal.decreases-begin
-decreases-begin g l = 16 * (1001 - l.depth) + 14
+decreases-begin g l = 24 * (1001 - l.depth) + 23
 
 abbrev pub decreases-set_local : goal.decreases-set_local
-decreases-set_local g l = 16 * (1001 - l.depth) + 4
+decreases-set_local g l = 24 * (1001 - l.depth) + 4
 
 abbrev pub decreases-update_local : goal.decreases-update_local
-decreases-update_local g l = 16 * (1001 - l.depth) + 6
+decreases-update_local g l = 24 * (1001 - l.depth) + 6
 
 abbrev pub decreases-operate : goal.decreases-operate
-decreases-operate g l = 16 * (1001 - l.depth) + 6
+decreases-operate g l = 24 * (1001 - l.depth) + 8
 
 abbrev pub decreases-send : goal.decreases-send
-decreases-send g l = 16 * (1001 - l.depth) + 6
+decreases-send g l = 24 * (1001 - l.depth) + 7
 
 abbrev pub decreases-store_by : goal.decreases-store_by
-decreases-store_by g l = 16 * (1001 - l.depth) + 6
+decreases-store_by g l = 24 * (1001 - l.depth) + 7
 
 abbrev pub decreases-send_block : goal.decreases-send_block
-decreases-send_block g l = 16 * (1001 - l.depth) + 7
+decreases-send_block g l = 24 * (1001 - l.depth) + 7
 
 abbrev pub decreases-turns : goal.decreases-turns
-decreases-turns g l = 16 * (1001 - l.depth) + 6
+decreases-turns g l = 24 * (1001 - l.depth) + 6
 
 abbrev pub decreases-function : goal.decreases-function
-decreases-function g l = 16 * (1001 - l.depth) + 6
+decreases-function g l = 24 * (1001 - l.depth) + 6
 
 abbrev pub decreases-print : goal.decreases-print
-decreases-print g l = 16 * (1001 - l.depth) + 6
+decreases-print g l = 24 * (1001 - l.depth) + 10
+
+abbrev pub decreases-told : goal.decreases-told
+decreases-told g l = 24 * (1001 - l.depth) + 6
+
+abbrev pub decreases-told_at : goal.decreases-told_at
+decreases-told_at g l = 24 * (1001 - l.depth) + 7
+
+abbrev pub decreases-print_from : goal.decreases-print_from
+decreases-print_from g l = 24 * (1001 - l.depth) + 8
+
+abbrev pub decreases-print_texts : goal.decreases-print_texts
+decreases-print_texts g l = 24 * (1001 - l.depth) + 9
 
 abbrev pub decreases-read_element : goal.decreases-read_element
-decreases-read_element g l = 16 * (1001 - l.depth) + 4
+decreases-read_element g l = 24 * (1001 - l.depth) + 4
 
 abbrev pub decreases-combine : goal.decreases-combine
-decreases-combine g l = 16 * (1001 - l.depth) + 5
+decreases-combine g l = 24 * (1001 - l.depth) + 5
 
 abbrev pub decreases-update_attribute : goal.decreases-update_attribute
-decreases-update_attribute g l = 16 * (1001 - l.depth) + 7
-
-abbrev pub decreases-refuse_attribute : goal.decreases-refuse_attribute
-decreases-refuse_attribute g l = 16 * (1001 - l.depth) + 6
-
-abbrev pub decreases-refuse_value : goal.decreases-refuse_value
-decreases-refuse_value g l = 16 * (1001 - l.depth) + 4
+decreases-update_attribute g l = 24 * (1001 - l.depth) + 10
 
 abbrev pub decreases-arguments : goal.decreases-arguments
-decreases-arguments g l = 16 * (1001 - l.depth) + 5
+decreases-arguments g l = 24 * (1001 - l.depth) + 5
 
 abbrev pub decreases-literal : goal.decreases-literal
-decreases-literal g l = 16 * (1001 - l.depth) + 5
+decreases-literal g l = 24 * (1001 - l.depth) + 8
 
 abbrev pub decreases-text : goal.decreases-text
-decreases-text g l = 16 * (1001 - l.depth) + 4
+decreases-text g l = 24 * (1001 - l.depth) + 7
 
 abbrev pub decreases-both : goal.decreases-both
-decreases-both g l = 16 * (1001 - l.depth) + 4
+decreases-both g l = 24 * (1001 - l.depth) + 4
 
 abbrev pub decreases-either : goal.decreases-either
-decreases-either g l = 16 * (1001 - l.depth) + 4
+decreases-either g l = 24 * (1001 - l.depth) + 4
 
 abbrev pub decreases-negate : goal.decreases-negate
-decreases-negate g l = 16 * (1001 - l.depth) + 4
+decreases-negate g l = 24 * (1001 - l.depth) + 4
 
 abbrev pub decreases-choose : goal.decreases-choose
-decreases-choose g l = 16 * (1001 - l.depth) + 5
+decreases-choose g l = 24 * (1001 - l.depth) + 5
 
 abbrev pub decreases-body : goal.decreases-body
-decreases-body g l = 16 * (1001 - l.depth) + 4
+decreases-body g l = 24 * (1001 - l.depth) + 4
 
 abbrev pub decreases-repeat : goal.decreases-repeat
-decreases-repeat g l = 16 * (1001 - l.depth) + 5
+decreases-repeat g l = 24 * (1001 - l.depth) + 5
 
 abbrev pub decreases-leave_method : goal.decreases-leave_method
-decreases-leave_method g l = 16 * (1001 - l.depth) + 5
+decreases-leave_method g l = 24 * (1001 - l.depth) + 5
 
 abbrev pub decreases-leave_with : goal.decreases-leave_with
-decreases-leave_with g l = 16 * (1001 - l.depth) + 4
+decreases-leave_with g l = 24 * (1001 - l.depth) + 4
 
 abbrev pub decreases-begin_set : goal.decreases-begin_set
-decreases-begin_set g l = 16 * (1001 - l.depth) + 6
+decreases-begin_set g l = 24 * (1001 - l.depth) + 6
 
 abbrev pub decreases-begin_update : goal.decreases-begin_update
-decreases-begin_update g l = 16 * (1001 - l.depth) + 13
+decreases-begin_update g l = 24 * (1001 - l.depth) + 13
 
 abbrev pub decreases-begin_slow_update : goal.decreases-begin_slow_update
-decreases-begin_slow_update g l = 16 * (1001 - l.depth) + 12
+decreases-begin_slow_update g l = 24 * (1001 - l.depth) + 12
 
 abbrev pub decreases-begin_operate : goal.decreases-begin_operate
-decreases-begin_operate g l = 16 * (1001 - l.depth) + 13
+decreases-begin_operate g l = 24 * (1001 - l.depth) + 13
 
 abbrev pub decreases-begin_slow_operate : goal.decreases-begin_slow_operate
-decreases-begin_slow_operate g l = 16 * (1001 - l.depth) + 12
+decreases-begin_slow_operate g l = 24 * (1001 - l.depth) + 12
 
 abbrev pub decreases-begin_send : goal.decreases-begin_send
-decreases-begin_send g l = 16 * (1001 - l.depth) + 7
+decreases-begin_send g l = 24 * (1001 - l.depth) + 8
 
 abbrev pub decreases-begin_function : goal.decreases-begin_function
-decreases-begin_function g l = 16 * (1001 - l.depth) + 7
+decreases-begin_function g l = 24 * (1001 - l.depth) + 8
 
 abbrev pub decreases-begin_choice : goal.decreases-begin_choice
-decreases-begin_choice g l = 16 * (1001 - l.depth) + 8
+decreases-begin_choice g l = 24 * (1001 - l.depth) + 8
 
 abbrev pub decreases-begin_other : goal.decreases-begin_other
-decreases-begin_other g l = 16 * (1001 - l.depth) + 8
+decreases-begin_other g l = 24 * (1001 - l.depth) + 12
 
 abbrev pub decreases-operate_integer : goal.decreases-operate_integer
-decreases-operate_integer g l = 16 * (1001 - l.depth) + 5
+decreases-operate_integer g l = 24 * (1001 - l.depth) + 5
 
 abbrev pub decreases-operate_value : goal.decreases-operate_value
-decreases-operate_value g l = 16 * (1001 - l.depth) + 4
+decreases-operate_value g l = 24 * (1001 - l.depth) + 7
 
 abbrev pub decreases-combine_integer : goal.decreases-combine_integer
-decreases-combine_integer g l = 16 * (1001 - l.depth) + 4
+decreases-combine_integer g l = 24 * (1001 - l.depth) + 4
 
 abbrev pub decreases-combine_value : goal.decreases-combine_value
-decreases-combine_value g l = 16 * (1001 - l.depth) + 4
+decreases-combine_value g l = 24 * (1001 - l.depth) + 4
 
 abbrev pub decreases-evaluate : goal.decreases-evaluate
-decreases-evaluate g l = 16 * (1001 - l.depth) + 4
+decreases-evaluate g l = 24 * (1001 - l.depth) + 4
+
+abbrev pub decreases-enter : goal.decreases-enter
+decreases-enter g l = 24 * (1001 - l.depth) + 5
+
+abbrev pub decreases-enter_with : goal.decreases-enter_with
+decreases-enter_with g l = 24 * (1001 - l.depth) + 6
+
+abbrev pub decreases-invoke : goal.decreases-invoke
+decreases-invoke g l = 24 * (1001 - l.depth) + 6
+
+abbrev pub decreases-own : goal.decreases-own
+decreases-own g l = 24 * (1001 - l.depth) + 6
+
+abbrev pub decreases-store_with : goal.decreases-store_with
+decreases-store_with g l = 24 * (1001 - l.depth) + 6
+
+abbrev pub decreases-begin_print : goal.decreases-begin_print
+decreases-begin_print g l = 24 * (1001 - l.depth) + 11
+
+abbrev pub decreases-set_field : goal.decreases-set_field
+decreases-set_field g l = 24 * (1001 - l.depth) + 4
+
+abbrev pub decreases-update_field : goal.decreases-update_field
+decreases-update_field g l = 24 * (1001 - l.depth) + 6
+
+abbrev pub decreases-initialize : goal.decreases-initialize
+decreases-initialize g l = 24 * (1001 - l.depth) + 6
+
+abbrev pub decreases-create : goal.decreases-create
+decreases-create g l = 24 * (1001 - l.depth) + 7
+
+abbrev pub decreases-write_member : goal.decreases-write_member
+decreases-write_member g l = 24 * (1001 - l.depth) + 7
+
+abbrev pub decreases-set_member : goal.decreases-set_member
+decreases-set_member g l = 24 * (1001 - l.depth) + 8
+
+abbrev pub decreases-update_member : goal.decreases-update_member
+decreases-update_member g l = 24 * (1001 - l.depth) + 9
+
+abbrev pub decreases-begin_own : goal.decreases-begin_own
+decreases-begin_own g l = 24 * (1001 - l.depth) + 7
 
 abbrev pub invariant-body-nodes : goal.invariant-body-nodes
 invariant-body-nodes g l =
@@ -146,10 +197,10 @@ invariant-body-nodes g l =
       context : l.self.context ≡ l.fn.self.context;
       room : length l.room ≡ length l.fn.room;
       less : l.self.left ≤ l.fn.self.left;
-      unended : has_end (g.O.OneStore.log l.self.store).entries ≡ false;
+      unended : has_end (g.O.ThreadStore.log l.self.store).entries ≡ false;
       going : is_left l.came ≡ false;
-      kept : Keeps l.fn.self.context.script.now l.fn.self.context.names.now (λ S. every (map (fits S) l.nodes)) l.fn.self.base l.fn.room l.room;
-      came : Reaches l.fn.self.context.script.now l.fn.self.context.names.now l.fn.self.context.steps (λ S. every (map (fits S) l.nodes)) (λ S k sc d n. On (Following Nil (map erase l.nodes)) k sc d n) (λ S k sc d n. On (Following (value_of l.came l.self.value) (map erase (drop l.node-index l.nodes))) k sc d n) l.fn.self.base l.depth l.fn.self.left l.self.left l.fn.room l.room (g.O.OneStore.log l.fn.self.store) (g.O.OneStore.log l.self.store);
+      kept : Keeps l.fn.self.context.script.now l.fn.self.context.program.now (λ S. every (map (fits S) l.nodes)) l.fn.self.base l.fn.room l.room;
+      came : Reaches l.fn.self.context.script.now l.fn.self.context.program.now l.fn.self.context.steps (me_of l.fn.self.context.me) (λ S. every (map (fits S) l.nodes)) (λ S k sc d n. On (Following Nil (map erase l.nodes)) k sc d n) (λ S k sc d n. On (Following (value_of l.came l.self.value) (map erase (drop l.node-index l.nodes))) k sc d n) l.fn.self.base l.depth l.fn.self.left l.self.left l.fn.room l.room (g.O.ThreadStore.log l.fn.self.store) (g.O.ThreadStore.log l.self.store) (g.O.ThreadStore.private l.fn.self.store) (g.O.ThreadStore.private l.self.store);
     }
 
 abbrev pub invariant-repeat-turns : goal.invariant-repeat-turns
@@ -159,9 +210,9 @@ invariant-repeat-turns g l =
       context : l.self.context ≡ l.fn.self.context;
       room : length l.room ≡ length l.fn.room;
       less : l.self.left ≤ l.fn.self.left;
-      unended : has_end (g.O.OneStore.log l.self.store).entries ≡ false;
-      kept : Keeps l.fn.self.context.script.now l.fn.self.context.names.now (both (λ S. fits S l.condition) (λ S. every (map (fits S) l.body))) l.fn.self.base l.fn.room l.room;
-      came : Reaches l.fn.self.context.script.now l.fn.self.context.names.now l.fn.self.context.steps (both (λ S. fits S l.condition) (λ S. every (map (fits S) l.body))) (λ S k sc d n. On (Looping (erase l.condition) (map erase l.body)) k sc d n) (λ S k sc d n. On (Looping (erase l.condition) (map erase l.body)) k sc d n) l.fn.self.base l.depth l.fn.self.left l.self.left l.fn.room l.room (g.O.OneStore.log l.fn.self.store) (g.O.OneStore.log l.self.store);
+      unended : has_end (g.O.ThreadStore.log l.self.store).entries ≡ false;
+      kept : Keeps l.fn.self.context.script.now l.fn.self.context.program.now (both (λ S. fits S l.condition) (λ S. every (map (fits S) l.body))) l.fn.self.base l.fn.room l.room;
+      came : Reaches l.fn.self.context.script.now l.fn.self.context.program.now l.fn.self.context.steps (me_of l.fn.self.context.me) (both (λ S. fits S l.condition) (λ S. every (map (fits S) l.body))) (λ S k sc d n. On (Looping (erase l.condition) (map erase l.body)) k sc d n) (λ S k sc d n. On (Looping (erase l.condition) (map erase l.body)) k sc d n) l.fn.self.base l.depth l.fn.self.left l.self.left l.fn.room l.room (g.O.ThreadStore.log l.fn.self.store) (g.O.ThreadStore.log l.self.store) (g.O.ThreadStore.private l.fn.self.store) (g.O.ThreadStore.private l.self.store);
     }
 
 abbrev pub decreases-repeat-turns : goal.decreases-repeat-turns
@@ -174,11 +225,11 @@ invariant-turns-turns g l =
       context : l.self.context ≡ l.fn.self.context;
       room : length l.room ≡ length l.fn.room;
       less : l.self.left ≤ l.fn.self.left;
-      unended : has_end (g.O.OneStore.log l.self.store).entries ≡ false;
+      unended : has_end (g.O.ThreadStore.log l.self.store).entries ≡ false;
       ordered : l.next ≤ℤ l.last;
       within : l.from + l.count ≤ length l.room;
-      kept : Keeps l.fn.self.context.script.now l.fn.self.context.names.now (λ S. block_fits S l.block) l.fn.self.base l.fn.room l.room;
-      came : Reaches l.fn.self.context.script.now l.fn.self.context.names.now l.fn.self.context.steps (λ S. block_fits S l.block) (λ S k sc d n. On (Turning (Counting l.fn.first (l.last +ℤ pos 1) (Int l.answer)) (erase_block l.block)) k sc d n) (λ S k sc d n. On (Turning (Counting l.next (l.last +ℤ pos 1) (Int l.answer)) (erase_block l.block)) k sc d n) l.fn.self.base l.depth l.fn.self.left l.self.left l.fn.room l.room (g.O.OneStore.log l.fn.self.store) (g.O.OneStore.log l.self.store);
+      kept : Keeps l.fn.self.context.script.now l.fn.self.context.program.now (λ S. block_fits S l.block) l.fn.self.base l.fn.room l.room;
+      came : Reaches l.fn.self.context.script.now l.fn.self.context.program.now l.fn.self.context.steps (me_of l.fn.self.context.me) (λ S. block_fits S l.block) (λ S k sc d n. On (Turning (Counting l.fn.first (l.last +ℤ pos 1) (Int l.answer)) (erase_block l.block)) k sc d n) (λ S k sc d n. On (Turning (Counting l.next (l.last +ℤ pos 1) (Int l.answer)) (erase_block l.block)) k sc d n) l.fn.self.base l.depth l.fn.self.left l.self.left l.fn.room l.room (g.O.ThreadStore.log l.fn.self.store) (g.O.ThreadStore.log l.self.store) (g.O.ThreadStore.private l.fn.self.store) (g.O.ThreadStore.private l.self.store);
     }
 
 abbrev pub decreases-turns-turns : goal.decreases-turns-turns
@@ -191,9 +242,22 @@ invariant-text-pieces g l =
       context : l.self.context ≡ l.fn.self.context;
       room : length l.room ≡ length l.fn.room;
       less : l.self.left ≤ l.fn.self.left;
-      unended : has_end (g.O.OneStore.log l.self.store).entries ≡ false;
-      kept : Keeps l.fn.self.context.script.now l.fn.self.context.names.now (λ S. every (map (piece_fits S) l.pieces)) l.fn.self.base l.fn.room l.room;
-      came : Reaches l.fn.self.context.script.now l.fn.self.context.names.now l.fn.self.context.steps (λ S. every (map (piece_fits S) l.pieces)) (λ S k sc d n. On (Joining [] (map erase_piece l.pieces) l.at) k sc d n) (λ S k sc d n. On (Joining l.bytes.items (map erase_piece (drop l.piece-index l.pieces)) l.at) k sc d n) l.fn.self.base l.depth l.fn.self.left l.self.left l.fn.room l.room (g.O.OneStore.log l.fn.self.store) (g.O.OneStore.log l.self.store);
+      unended : has_end (g.O.ThreadStore.log l.self.store).entries ≡ false;
+      kept : Keeps l.fn.self.context.script.now l.fn.self.context.program.now (λ S. every (map (piece_fits S) l.pieces)) l.fn.self.base l.fn.room l.room;
+      came : Reaches l.fn.self.context.script.now l.fn.self.context.program.now l.fn.self.context.steps (me_of l.fn.self.context.me) (λ S. every (map (piece_fits S) l.pieces)) (λ S k sc d n. On (Joining [] (map erase_piece l.pieces) l.at) k sc d n) (λ S k sc d n. On (Joining l.bytes.items (map erase_piece (drop l.piece-index l.pieces)) l.at) k sc d n) l.fn.self.base l.depth l.fn.self.left l.self.left l.fn.room l.room (g.O.ThreadStore.log l.fn.self.store) (g.O.ThreadStore.log l.self.store) (g.O.ThreadStore.private l.fn.self.store) (g.O.ThreadStore.private l.self.store);
+    }
+
+abbrev pub invariant-print_from-values : goal.invariant-print_from-values
+invariant-print_from-values g l =
+    record {
+      base : l.self.base ≡ l.fn.self.base;
+      context : l.self.context ≡ l.fn.self.context;
+      room : length l.room ≡ length l.fn.room;
+      less : l.self.left ≤ l.fn.self.left;
+      unended : has_end (g.O.ThreadStore.log l.self.store).entries ≡ false;
+      fits : length l.bytes.items ≤ max_bytes;
+      kept : (i : ℕ) → i < l.fn.self.base → slice_get l.room i ≡ slice_get l.fn.room i;
+      came : WritesOn l.fn.self.context.script.now l.fn.self.context.program.now l.fn.self.context.steps (me_of l.fn.self.context.me) (style_of l.style) l.bytes.items (map plain (take l.count (drop l.first l.fn.room))) (drop l.index (map plain (take l.count (drop l.first l.fn.room)))) l.first l.at l.depth l.fn.self.left l.self.left l.fn.room l.room (g.O.ThreadStore.log l.fn.self.store) (g.O.ThreadStore.log l.self.store) (g.O.ThreadStore.private l.fn.self.store) (g.O.ThreadStore.private l.self.store);
     }
 
 abbrev pub invariant-arguments-each : goal.invariant-arguments-each
@@ -204,8 +268,8 @@ invariant-arguments-each g l =
       context : l.self.context ≡ l.fn.self.context;
       room : length l.room ≡ length l.fn.room;
       less : l.self.left ≤ l.fn.self.left;
-      unended : has_end (g.O.OneStore.log l.self.store).entries ≡ false;
-      kept : Keeps l.fn.self.context.script.now l.fn.self.context.names.now (λ S. every (map (fits S) l.args)) l.fn.self.base l.fn.room l.room;
-      came : (aim : Aim) (at : Span) → Reaches l.fn.self.context.script.now l.fn.self.context.names.now l.fn.self.context.steps (λ S. every (map (fits S) l.args)) (λ S k sc d n. On (Passing aim [] (map erase l.args) at) k sc d n)
-          (λ S k sc d n. On (Passing aim (map plain (take l.arg-index (drop l.fn.self.base l.room))) (map erase (drop l.arg-index l.args)) at) k sc d n) l.fn.self.base l.depth l.fn.self.left l.self.left l.fn.room l.room (g.O.OneStore.log l.fn.self.store) (g.O.OneStore.log l.self.store);
+      unended : has_end (g.O.ThreadStore.log l.self.store).entries ≡ false;
+      kept : Keeps l.fn.self.context.script.now l.fn.self.context.program.now (λ S. every (map (fits S) l.args)) l.fn.self.base l.fn.room l.room;
+      came : (aim : Aim) (at : Span) → Reaches l.fn.self.context.script.now l.fn.self.context.program.now l.fn.self.context.steps (me_of l.fn.self.context.me) (λ S. every (map (fits S) l.args)) (λ S k sc d n. On (Passing aim [] (map erase l.args) at) k sc d n)
+          (λ S k sc d n. On (Passing aim (map plain (take l.arg-index (drop l.fn.self.base l.room))) (map erase (drop l.arg-index l.args)) at) k sc d n) l.fn.self.base l.depth l.fn.self.left l.self.left l.fn.room l.room (g.O.ThreadStore.log l.fn.self.store) (g.O.ThreadStore.log l.self.store) (g.O.ThreadStore.private l.fn.self.store) (g.O.ThreadStore.private l.self.store);
     }

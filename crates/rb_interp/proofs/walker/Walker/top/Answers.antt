@@ -10,7 +10,7 @@ use Rattle.rb_interp.proofs.Endings.{main_opens, main_fits}
 use Rattle.rb_interp.proofs.walker.Walker.top.Goals as goal
 
 pub returns-clause-came : goal.returns-clause-came
-returns-clause-came g c = λ S start h k st e a.
+returns-clause-came g c = λ S start k st e a.
     let script = c.args.self.now.context.script.now in
     let left = c.args.self.now.left in
     let size = script.main_size in
@@ -20,5 +20,5 @@ returns-clause-came g c = λ S start h k st e a.
     let b = same a (ap (λ ns. On (Following Nil ns) k (record { me = Nil; locals = fresh S.main_names [] }) 0 left) (sym st.main)
     ∙ ap (λ ls. On (Following Nil (map erase script.main)) k (record { me = Nil; locals = ls }) 0 left) (sym opens)) in
     let under = lies (every (map (fits S) script.main)) S.main_names size c.args.self.now.base (length room) right.1 right.0 (omega (arith, c.requires.base)) (omega (arith, c.requires.base, c.if-size-room.false, c.clear.ensures.room)) in
-    let f = rw c.as_slice.ensures at c.body.ensures.came in
-    f S start h k Nil S.main_names size st e under b
+    let f = rw (c.as_slice.ensures, c.requires.me) at c.body.ensures.came in
+    f S start k S.main_names size st e under b

@@ -1,0 +1,52 @@
+// The method of a class that a call finds.
+
+ghost use Rattle.std.specs.Prelude.{◌≡◌, IfSome, None};
+ghost use Rattle.rb_model.specs.Values.{plain};
+ghost use Rattle.rb_interp.specs.Methods.{IsTarget, HasNone, IsWriter, HasNoWriter};
+
+use rb_code::{CodeMethod, CodeScript};
+use rb_model::{Ref, Sort, Value};
+use rb_tree::NameId;
+
+/// A method of the class of an object.
+#[derive(Clone, Copy)]
+pub(crate) struct Target<'p> {
+    pub object: Ref,
+    pub method: &'p CodeMethod,
+}
+
+/// The method of its class that a name finds for a value.
+#[inline(always)]
+pub(crate) fn target_of<'p>(
+    script: &'p CodeScript,
+    receiver: &Value,
+    name: NameId,
+) -> Option<Target<'p>>
+    ensures some { IfSome result (λ t. IsTarget script.now (plain receiver.now) name t.object t.method.now) }
+    ensures none { result ≡ None → HasNone script.now (plain receiver.now) name }
+{
+    let Value::Ref(object) = receiver else {
+        return None;
+    };
+    let Sort::Object(class) = object.sort else {
+        return None;
+    };
+    let method = script.method_of(name, class)?;
+    Some(Target {
+        object: *object,
+        method,
+    })
+}
+
+/// The method of its class that the name of a writer finds for a value, where there is such a name.
+#[inline(always)]
+pub(crate) fn writer_of<'p>(
+    script: &'p CodeScript,
+    receiver: &Value,
+    writer: Option<NameId>,
+) -> Option<Target<'p>>
+    ensures some { IfSome result (λ t. IsWriter script.now (plain receiver.now) writer t.object t.method.now) }
+    ensures none { result ≡ None → HasNoWriter script.now (plain receiver.now) writer }
+{
+    target_of(script, receiver, writer?)
+}

@@ -1,0 +1,202 @@
+// Methods of the script: which one a call finds, and how it is entered.
+
+ghost use Rattle.std.specs.Prelude.{◌≡◌, ◌≤◌, ◌<◌, ℕ, false, List, [], length, map, slice_get, IfSome, None};
+ghost use Rattle.rb_model.specs.Values.{plain};
+ghost use Rattle.rb_model.specs.Log.{has_end};
+ghost use Rattle.rb_machine.specs.Control.{On, Passing, ByName};
+ghost use Rattle.rb_code.specs.Erase.{erase};
+ghost use Rattle.rb_code.specs.Resolved.{fits, every, method_fits};
+ghost use Rattle.rb_interp.specs.Outcome.{value_of, outcome};
+ghost use Rattle.rb_interp.specs.Carries.{Carries, Keeps, unnamed, me_of};
+ghost use Rattle.rb_interp.specs.Methods.{IsTarget, HasNone, Enters, EntersWith, Invokes};
+
+use super::Walker;
+use crate::came::{Came, Cut, is_left};
+use crate::slots::{clear, passed};
+use crate::target::{Target, target_of};
+use rb_builtin::Builtin;
+use rb_code::{Code, CodeMethod};
+use rb_model::{Fault, Ref, ThreadStore, Value};
+use rb_tree::{NameId, Span};
+
+impl<'p, O: ThreadStore + Drop> Walker<'p, O> {
+    /// The method of the class of `self` that a name finds.
+    #[inline(always)]
+    pub(super) fn own_target(&self, name: NameId) -> Option<Target<'p>>
+        ensures some { IfSome result (λ t. IsTarget self.now.context.script.now (me_of self.now.context.me) name t.object t.method.now) }
+        ensures none { result ≡ None → HasNone self.now.context.script.now (me_of self.now.context.me) name }
+    {
+        match self.context.me {
+            None => None,
+            Some(object) => target_of(self.context.script, &Value::Ref(object), name),
+        }
+    }
+
+    /// Enters a method with arguments, of which there are so many behind the frame.
+    #[cycle(walk)]
+    #[inline(always)]
+    pub(super) fn enter(
+        &mut self,
+        method: &'p CodeMethod,
+        me: Option<Ref>,
+        count: usize,
+        at: Span,
+        depth: u32,
+        room: &mut [Value],
+    ) -> Came
+        requires unended { has_end (O.log self.old.store).entries ≡ false }
+        requires steps { self.old.left ≤ self.old.context.steps }
+        ensures base { self.new.base ≡ self.old.base }
+        ensures context { self.new.context ≡ self.old.context }
+        ensures room { length room.new ≡ length room.old }
+        ensures less { self.new.left ≤ self.old.left }
+        ensures unended { has_end (O.log self.new.store).entries ≡ false }
+        ensures kept { (i : ℕ) → i < self.old.base → slice_get room.new i ≡ slice_get room.old i }
+        ensures came { Enters self.old.context.script.now self.old.context.program.now self.old.context.steps (me_of self.old.context.me) (me_of me) method.now count at self.old.base depth self.old.left self.new.left room.old room.new (O.log self.old.store) (O.log self.new.store) (O.private self.old.store) (O.private self.new.store) (outcome result self.new.value self.new.leave) }
+    {
+        if count != method.params.len() {
+            return self.raise(Fault::ArgumentCount, at);
+        }
+        let before = self.base;
+        let size = method.size as usize;
+        if room.len() < before || room.len() - before < size {
+            return self.over(Cut::Memory);
+        }
+        let frame = room.split_at_mut(before).1;
+        clear(frame, count, size);
+        let caller = self.context;
+        self.context.me = me;
+        self.base = size;
+        let came = self.body(method.body.as_slice(), depth, frame);
+        self.base = before;
+        self.context = caller;
+        self.out_of_call(came)
+    }
+
+    /// Enters a method that was found with one argument.
+    #[cycle(walk)]
+    pub(super) fn enter_with(
+        &mut self,
+        target: Target<'p>,
+        arg: Value,
+        at: Span,
+        depth: u32,
+        room: &mut [Value],
+    ) -> Came
+        requires unended { has_end (O.log self.old.store).entries ≡ false }
+        requires steps { self.old.left ≤ self.old.context.steps }
+        ensures base { self.new.base ≡ self.old.base }
+        ensures context { self.new.context ≡ self.old.context }
+        ensures room { length room.new ≡ length room.old }
+        ensures less { self.new.left ≤ self.old.left }
+        ensures unended { has_end (O.log self.new.store).entries ≡ false }
+        ensures kept { (i : ℕ) → i < self.old.base → slice_get room.new i ≡ slice_get room.old i }
+        ensures came { EntersWith self.old.context.script.now self.old.context.program.now self.old.context.steps (me_of self.old.context.me) (me_of (Some target.entry.object)) target.entry.method.now (plain arg) at self.old.base depth self.old.left self.new.left room.old room.new (O.log self.old.store) (O.log self.new.store) (O.private self.old.store) (O.private self.new.store) (outcome result self.new.value self.new.leave) }
+    {
+        if self.base >= room.len() {
+            return self.over(Cut::Memory);
+        }
+        room[self.base] = arg;
+        self.enter(target.method, Some(target.object), 1, at, depth, room)
+    }
+
+    /// A call of a method of a value, with arguments of which there are so many behind the frame: one of its class, or one that is built in.
+    #[cycle(walk)]
+    #[inline(never)]
+    pub(super) fn invoke(
+        &mut self,
+        receiver: &Value,
+        method: Option<Builtin>,
+        name: NameId,
+        count: usize,
+        at: Span,
+        depth: u32,
+        room: &mut [Value],
+    ) -> Came
+        requires unended { has_end (O.log self.old.store).entries ≡ false }
+        requires steps { self.old.left ≤ self.old.context.steps }
+        ensures base { self.new.base ≡ self.old.base }
+        ensures context { self.new.context ≡ self.old.context }
+        ensures room { length room.new ≡ length room.old }
+        ensures less { self.new.left ≤ self.old.left }
+        ensures unended { has_end (O.log self.new.store).entries ≡ false }
+        ensures kept { (i : ℕ) → i < self.old.base → slice_get room.new i ≡ slice_get room.old i }
+        ensures came { Invokes self.old.context.script.now self.old.context.program.now self.old.context.steps (me_of self.old.context.me) (plain receiver.now) method name count at self.old.base depth self.old.left self.new.left room.old room.new (O.log self.old.store) (O.log self.new.store) (O.private self.old.store) (O.private self.new.store) (outcome result self.new.value self.new.leave) }
+    {
+        match target_of(self.context.script, receiver, name) {
+            Some(target) => self.enter(target.method, Some(target.object), count, at, depth, room),
+            None => self.call_method(receiver, method, passed(room, self.base, count), at),
+        }
+    }
+
+    /// A call by its name alone of a method of the class of `self`.
+    #[cycle(walk)]
+    #[inline(never)]
+    pub(super) fn own(
+        &mut self,
+        target: Target<'p>,
+        name: NameId,
+        args: &'p [Code],
+        at: Span,
+        depth: u32,
+        room: &mut [Value],
+    ) -> Came
+        requires unended { has_end (O.log self.old.store).entries ≡ false }
+        requires steps { self.old.left ≤ self.old.context.steps }
+        requires target { IsTarget self.old.context.script.now (me_of self.old.context.me) name target.object target.method.now }
+        ensures base { self.new.base ≡ self.old.base }
+        ensures context { self.new.context ≡ self.old.context }
+        ensures room { length room.new ≡ length room.old }
+        ensures less { self.new.left ≤ self.old.left }
+        ensures unended { has_end (O.log self.new.store).entries ≡ false }
+        ensures kept { Keeps self.old.context.script.now self.old.context.program.now (λ S. every (map (fits S) args.now)) self.old.base room.old room.new }
+        ensures came { Carries self.old.context.script.now self.old.context.program.now self.old.context.steps (me_of self.old.context.me) (λ S. every (map (fits S) args.now)) (λ S k sc d n. On (Passing (ByName name) [] (map erase args.now) at) k sc d n) self.old.base depth self.old.left self.new.left room.old room.new (O.log self.old.store) (O.log self.new.store) (O.private self.old.store) (O.private self.new.store) (outcome result self.new.value self.new.leave) }
+    {
+        let before = self.base;
+        let came = self.arguments(args, depth, room);
+        self.base = before;
+        if is_left(came) {
+            return came;
+        }
+        self.enter(
+            target.method,
+            Some(target.object),
+            args.len(),
+            at,
+            depth,
+            room,
+        )
+    }
+
+    /// A call by its name alone of a method that only classes have.
+    #[cycle(walk)]
+    pub(super) fn begin_own(
+        &mut self,
+        name: NameId,
+        args: &'p [Code],
+        at: Span,
+        depth: u32,
+        room: &mut [Value],
+    ) -> Came
+        requires unended { has_end (O.log self.old.store).entries ≡ false }
+        requires steps { self.old.left ≤ self.old.context.steps }
+        ensures base { self.new.base ≡ self.old.base }
+        ensures context { self.new.context ≡ self.old.context }
+        ensures room { length room.new ≡ length room.old }
+        ensures less { self.new.left ≤ self.old.left }
+        ensures unended { has_end (O.log self.new.store).entries ≡ false }
+        ensures kept { Keeps self.old.context.script.now self.old.context.program.now (unnamed name (λ S. every (map (fits S) args.now))) self.old.base room.old room.new }
+        ensures came { Carries self.old.context.script.now self.old.context.program.now self.old.context.steps (me_of self.old.context.me) (unnamed name (λ S. every (map (fits S) args.now))) (λ S k sc d n. On (Passing (ByName name) [] (map erase args.now) at) k sc d n) self.old.base depth self.old.left self.new.left room.old room.new (O.log self.old.store) (O.log self.new.store) (O.private self.old.store) (O.private self.new.store) (outcome result self.new.value self.new.leave) }
+    {
+        if let Some(target) = self.own_target(name) {
+            return self.own(target, name, args, at, depth, room);
+        }
+        let before = self.base;
+        let came = self.arguments(args, depth, room);
+        self.base = before;
+        if is_left(came) {
+            return came;
+        }
+        self.raise(Fault::NoMethod, at)
+    }
+}

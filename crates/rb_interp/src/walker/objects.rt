@@ -1,0 +1,242 @@
+// Objects: `self`, instance variables and new objects.
+
+ghost use Rattle.std.specs.Prelude.{◌≡◌, ◌≤◌, ◌<◌, ℕ, false, List, [], ◌∷◌, length, map, slice_get, Some, None};
+ghost use Rattle.rb_model.specs.Values.{plain};
+ghost use Rattle.rb_model.specs.Log.{has_end};
+ghost use Rattle.rb_model.specs.Doing.{doing};
+ghost use Rattle.rb_model.specs.Acts.{GetField};
+ghost use Rattle.rb_machine.specs.Control.{On, Then, Step, Eval, Passing, Creating, OfField};
+ghost use Rattle.rb_machine.specs.Call.{read_place};
+ghost use Rattle.rb_code.specs.Erase.{erase};
+ghost use Rattle.rb_code.specs.Resolved.{fits, every};
+ghost use Rattle.rb_interp.specs.Outcome.{Gave, is_left, value_of, outcome};
+ghost use Rattle.rb_interp.specs.Carries.{Carries, Keeps, made_by, me_of};
+ghost use Rattle.rb_interp.specs.Objects.{Asks, Fields, Creates, WritesField};
+
+use super::Walker;
+use crate::came::{Came, Cut, is_left};
+use rb_code::Code;
+use rb_model::{Act, Fault, Make, Ref, Reply, Sort, ThreadStore, Value};
+use rb_tree::{AssignOp, NameId, Span};
+
+impl<'p, O: ThreadStore + Drop> Walker<'p, O> {
+    /// Gives `self`.
+    pub(super) fn give_self(&mut self) -> Came
+        ensures gives { outcome result self.new.value self.new.leave ≡ Gave (me_of self.old.context.me) }
+        ensures base { self.new.base ≡ self.old.base }
+        ensures left { self.new.left ≡ self.old.left }
+        ensures context { self.new.context ≡ self.old.context }
+        ensures store { self.new.store ≡ self.old.store }
+    {
+        match self.context.me {
+            None => Came::Nil,
+            Some(object) => self.give(Value::Ref(object)),
+        }
+    }
+
+    /// Asks something of a thing. A thing that is not the thread's own would be shared, and nothing is yet.
+    pub(super) fn ask(&mut self, thing: Ref, act: Act) -> Came
+        requires unended { has_end (O.log self.old.store).entries ≡ false }
+        ensures base { self.new.base ≡ self.old.base }
+        ensures left { self.new.left ≡ self.old.left }
+        ensures context { self.new.context ≡ self.old.context }
+        ensures log { O.log self.new.store ≡ O.log self.old.store }
+        ensures came { (at : Span) → Asks self.old.context.steps (me_of (Some thing)) (doing act) at self.old.left (O.log self.old.store) (O.private self.old.store) (O.private self.new.store) (outcome result self.new.value self.new.leave) }
+    {
+        if !self.store.holds(thing.id) {
+            return self.over(Cut::Memory);
+        }
+        match self.store.apply(thing.id, act) {
+            Ok(Reply::Value(value)) => self.give(value),
+            Ok(Reply::Done) => Came::Nil,
+            Err(_) => self.over(Cut::Memory),
+        }
+    }
+
+    /// An instance variable of `self`.
+    pub(super) fn field(&mut self, name: NameId, at: Span) -> Came
+        requires unended { has_end (O.log self.old.store).entries ≡ false }
+        ensures base { self.new.base ≡ self.old.base }
+        ensures left { self.new.left ≡ self.old.left }
+        ensures context { self.new.context ≡ self.old.context }
+        ensures log { O.log self.new.store ≡ O.log self.old.store }
+        ensures came { Asks self.old.context.steps (me_of self.old.context.me) (GetField name) at self.old.left (O.log self.old.store) (O.private self.old.store) (O.private self.new.store) (outcome result self.new.value self.new.leave) }
+    {
+        match self.context.me {
+            None => self.raise(Fault::NoMethod, at),
+            Some(object) => self.ask(object, Act::GetField(name)),
+        }
+    }
+
+    /// Writes the value that came to an instance variable of `self`, and gives it on.
+    pub(super) fn write_field(&mut self, name: NameId, came: Came, at: Span) -> Came
+        requires unended { has_end (O.log self.old.store).entries ≡ false }
+        requires came { is_left came ≡ false }
+        ensures base { self.new.base ≡ self.old.base }
+        ensures left { self.new.left ≡ self.old.left }
+        ensures context { self.new.context ≡ self.old.context }
+        ensures log { O.log self.new.store ≡ O.log self.old.store }
+        ensures came { WritesField self.old.context.steps (me_of self.old.context.me) name (value_of came self.old.value) at self.old.left (O.log self.old.store) (O.private self.old.store) (O.private self.new.store) (outcome result self.new.value self.new.leave) }
+    {
+        let Some(object) = self.context.me else {
+            return self.raise(Fault::NoMethod, at);
+        };
+        let value = self.take(came);
+        let Ok(copy) = value.share() else {
+            return self.over(Cut::Memory);
+        };
+        let done = self.ask(object, Act::SetField(name, copy));
+        if is_left(done) {
+            return done;
+        }
+        self.give(value)
+    }
+
+    /// An assignment to an instance variable.
+    #[cycle(walk)]
+    pub(super) fn set_field(
+        &mut self,
+        name: NameId,
+        value: &'p Code,
+        at: Span,
+        depth: u32,
+        room: &mut [Value],
+    ) -> Came
+        requires unended { has_end (O.log self.old.store).entries ≡ false }
+        requires steps { self.old.left ≤ self.old.context.steps }
+        ensures base { self.new.base ≡ self.old.base }
+        ensures context { self.new.context ≡ self.old.context }
+        ensures room { length room.new ≡ length room.old }
+        ensures less { self.new.left ≤ self.old.left }
+        ensures unended { has_end (O.log self.new.store).entries ≡ false }
+        ensures kept { Keeps self.old.context.script.now self.old.context.program.now (λ S. fits S value.now) self.old.base room.old room.new }
+        ensures came { (step : Step) → Fields name at step → Carries self.old.context.script.now self.old.context.program.now self.old.context.steps (me_of self.old.context.me) (λ S. fits S value.now) (λ S k sc d n. On (Eval (erase value.now)) (Then step ∷ k) sc d n) self.old.base depth self.old.left self.new.left room.old room.new (O.log self.old.store) (O.log self.new.store) (O.private self.old.store) (O.private self.new.store) (outcome result self.new.value self.new.leave) }
+    {
+        let came = self.walk(value, depth, room);
+        if is_left(came) {
+            return came;
+        }
+        self.write_field(name, came, at)
+    }
+
+    /// An assignment with an operator to an instance variable.
+    #[cycle(walk)]
+    pub(super) fn update_field(
+        &mut self,
+        name: NameId,
+        op: AssignOp,
+        value: &'p Code,
+        at: Span,
+        depth: u32,
+        room: &mut [Value],
+    ) -> Came
+        requires unended { has_end (O.log self.old.store).entries ≡ false }
+        requires steps { self.old.left ≤ self.old.context.steps }
+        ensures base { self.new.base ≡ self.old.base }
+        ensures context { self.new.context ≡ self.old.context }
+        ensures room { length room.new ≡ length room.old }
+        ensures less { self.new.left ≤ self.old.left }
+        ensures unended { has_end (O.log self.new.store).entries ≡ false }
+        ensures kept { Keeps self.old.context.script.now self.old.context.program.now (λ S. fits S value.now) self.old.base room.old room.new }
+        ensures came { Carries self.old.context.script.now self.old.context.program.now self.old.context.steps (me_of self.old.context.me) (λ S. fits S value.now) (λ S k sc d n. read_place S (OfField name) op (erase value.now) at k sc d n) self.old.base depth self.old.left self.new.left room.old room.new (O.log self.old.store) (O.log self.new.store) (O.private self.old.store) (O.private self.new.store) (outcome result self.new.value self.new.leave) }
+    {
+        let current = self.field(name, at);
+        if is_left(current) {
+            return current;
+        }
+        match op {
+            AssignOp::OrElse => {
+                if self.is_true_now(current) {
+                    return current;
+                }
+                self.set_field(name, value, at, depth, room)
+            }
+            AssignOp::AndThen => {
+                if !self.is_true_now(current) {
+                    return current;
+                }
+                self.set_field(name, value, at, depth, room)
+            }
+            _ => {
+                let made = self.combine(current, op, value, at, depth, room);
+                if is_left(made) {
+                    return made;
+                }
+                self.write_field(name, made, at)
+            }
+        }
+    }
+
+    /// A new object of a class.
+    #[cycle(walk)]
+    pub(super) fn create(
+        &mut self,
+        class: u32,
+        first: Option<u32>,
+        name: NameId,
+        args: &'p [Code],
+        at: Span,
+        depth: u32,
+        room: &mut [Value],
+    ) -> Came
+        requires unended { has_end (O.log self.old.store).entries ≡ false }
+        requires steps { self.old.left ≤ self.old.context.steps }
+        ensures base { self.new.base ≡ self.old.base }
+        ensures context { self.new.context ≡ self.old.context }
+        ensures room { length room.new ≡ length room.old }
+        ensures less { self.new.left ≤ self.old.left }
+        ensures unended { has_end (O.log self.new.store).entries ≡ false }
+        ensures kept { Keeps self.old.context.script.now self.old.context.program.now (made_by class first name (λ S. every (map (fits S) args.now))) self.old.base room.old room.new }
+        ensures came { Carries self.old.context.script.now self.old.context.program.now self.old.context.steps (me_of self.old.context.me) (made_by class first name (λ S. every (map (fits S) args.now))) (λ S k sc d n. On (Passing (Creating name) [] (map erase args.now) at) k sc d n) self.old.base depth self.old.left self.new.left room.old room.new (O.log self.old.store) (O.log self.new.store) (O.private self.old.store) (O.private self.new.store) (outcome result self.new.value self.new.leave) }
+    {
+        let before = self.base;
+        let came = self.arguments(args, depth, room);
+        self.base = before;
+        if is_left(came) {
+            return came;
+        }
+        let Ok(object) = self.store.make(Make::Object(class)) else {
+            return self.over(Cut::Memory);
+        };
+        self.initialize(object, class, first, args.len(), at, depth, room)
+    }
+
+    /// The call of `initialize` of a new object, where its class has one.
+    #[cycle(walk)]
+    pub(super) fn initialize(
+        &mut self,
+        object: Ref,
+        class: u32,
+        first: Option<u32>,
+        count: usize,
+        at: Span,
+        depth: u32,
+        room: &mut [Value],
+    ) -> Came
+        requires unended { has_end (O.log self.old.store).entries ≡ false }
+        requires steps { self.old.left ≤ self.old.context.steps }
+        requires class { object.sort ≡ Sort.Object class }
+        ensures base { self.new.base ≡ self.old.base }
+        ensures context { self.new.context ≡ self.old.context }
+        ensures room { length room.new ≡ length room.old }
+        ensures less { self.new.left ≤ self.old.left }
+        ensures unended { has_end (O.log self.new.store).entries ≡ false }
+        ensures kept { (i : ℕ) → i < self.old.base → slice_get room.new i ≡ slice_get room.old i }
+        ensures came { Creates self.old.context.script.now self.old.context.program.now self.old.context.steps (me_of self.old.context.me) (me_of (Some object)) class first count at self.old.base depth self.old.left self.new.left room.old room.new (O.log self.old.store) (O.log self.new.store) (O.private self.old.store) (O.private self.new.store) (outcome result self.new.value self.new.leave) }
+    {
+        let Some(number) = first else {
+            if count > 0 {
+                return self.raise(Fault::ArgumentCount, at);
+            }
+            return self.give(Value::Ref(object));
+        };
+        let Some(method) = self.context.script.method_at(class, number) else {
+            return self.over(Cut::Memory);
+        };
+        let came = self.enter(method, Some(object), count, at, depth, room);
+        if is_left(came) {
+            return came;
+        }
+        self.give(Value::Ref(object))
+    }
+}
