@@ -11,7 +11,7 @@ import sys
 import tempfile
 
 HERE = os.path.dirname(os.path.abspath(__file__))
-SCRIPTS = os.path.join(HERE, "walk")
+FOLDERS = ("walk", "objects")
 HOSTS = ("ruby", "mruby")
 
 
@@ -35,21 +35,12 @@ def mean(ratios):
     return math.exp(sum(map(math.log, ratios)) / len(ratios))
 
 
-def main():
-    words = sys.argv[1:]
-    runs = 5
-    if words[:1] == ["--runs"]:
-        runs, words = int(words[1]), words[2:]
-    if not words:
-        sys.exit(__doc__)
-    if not shutil.which("time"):
-        print("walk.py: GNU time is not installed, skipped")
-        return
-    others = [name for name in HOSTS if shutil.which(name)]
+def compare(folder, words, runs, others):
+    """Times the scripts of a folder, and prints a line for each and the means."""
     ratios = {name: [] for name in others}
-    print(f"{'script':20}{'ours':>8}" + "".join(f"{name:>8}{'ratio':>7}" for name in others) + "   KiB")
-    for script in sorted(os.listdir(SCRIPTS)):
-        path = os.path.join(SCRIPTS, script)
+    print(f"{folder:20}{'ours':>8}" + "".join(f"{name:>8}{'ratio':>7}" for name in others) + "   KiB")
+    for script in sorted(os.listdir(os.path.join(HERE, folder))):
+        path = os.path.join(HERE, folder, script)
         ours, room, text = least([*words, path], runs)
         line, rooms, same = f"{script:20}{ours:8.2f}", [room], True
         for name in others:
@@ -61,6 +52,21 @@ def main():
         print(line + "   " + " ".join(f"{it:,}" for it in rooms) + ("" if same else "   OTHER OUTPUT"), flush=True)
     for name in others:
         print(f"geometric mean, of the time of {name}: {mean(ratios[name]):.2f}")
+
+
+def main():
+    words = sys.argv[1:]
+    runs = 5
+    if words[:1] == ["--runs"]:
+        runs, words = int(words[1]), words[2:]
+    if not words:
+        sys.exit(__doc__)
+    if not shutil.which("time"):
+        print("walk.py: GNU time is not installed, skipped")
+        return
+    others = [name for name in HOSTS if shutil.which(name)]
+    for folder in FOLDERS:
+        compare(folder, words, runs, others)
 
 
 if __name__ == "__main__":

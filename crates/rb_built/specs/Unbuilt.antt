@@ -1,5 +1,5 @@
 -- What of a program is not run yet, and what of that stands first in its text.
-use Rattle.std.specs.Prelude.{ℕ, Bool, true, false, not, ◌&&◌, nat_lt, is_some, List, [], ◌∷◌, length, map, Option, Some, None, if◌then◌else◌, slice_get, unwrap_or, codes}
+use Rattle.std.specs.Prelude.{ℕ, Bool, true, false, not, ◌&&◌, ◌==◌, nat_lt, is_some, List, [], ◌∷◌, length, map, Option, Some, None, if◌then◌else◌, slice_get, unwrap_or, codes}
 use Rattle.std.specs.List.{list_any}
 use Rattle.std.specs.Str.{bytes_eq}
 use Rattle.rb_tree.specs.declared.span.NameId.{NameId}
@@ -47,10 +47,14 @@ text_of names name = unwrap_or (slice_get names name.0) []
 abbrev pub is_p : List ℕ → Bool
 is_p text = bytes_eq text (codes "p")
 
--- a target, by the place of its assignment: instance variables and global ones are not run yet
+-- whether one of the classes has this name
+abbrev pub has_class : List Class → NameId → Bool
+has_class classes name = list_any (λ (k : Class). k.name.0 == name.0) classes
+
+-- a target, by the place of its assignment: global variables are not run yet
 abbrev pub target_step : Target-F Found Found (Span → Found) Found → Span → Found
 target_step (node.«Target::Local» name) at = None
-target_step (node.«Target::Field» name) at = Some at
+target_step (node.«Target::Field» name) at = None
 target_step (node.«Target::Global» name) at = Some at
 target_step (node.Index receiver index) at = earlier receiver index
 target_step (node.Attribute receiver name) at = receiver
@@ -62,30 +66,29 @@ piece_step (node.Code code) = code
 abbrev pub block_step : Block-F Found Found (Span → Found) Found → Found
 block_step block = first_of block.body
 
--- In a script with these texts of names; `own_p` tells whether it has a method `p` of its own.
-module _ (names : List (List ℕ)) (own_p : Bool) where
-  -- a call by a name alone that has a block; and one of `p` that shows several values, since these would be an array
-  abbrev pub is_unbuilt_call : (receiver : Bool) → NameId → ℕ → (block : Bool) → Bool
-  is_unbuilt_call true name count block = false
-  is_unbuilt_call false name count true = true
-  is_unbuilt_call false name count false = not own_p && (is_p (text_of names name) && nat_lt 1 count)
+-- In a script with these texts of names, where `own_p` tells whether the top level has a method `p`: a call by a name alone that has a block;
+-- and one of `p` that shows several values, since these would be an array.
+abbrev pub is_unbuilt_call : List (List ℕ) → (own_p : Bool) → (receiver : Bool) → NameId → ℕ → (block : Bool) → Bool
+is_unbuilt_call names own_p true name count block = false
+is_unbuilt_call names own_p false name count true = true
+is_unbuilt_call names own_p false name count false = not own_p && (is_p (text_of names name) && nat_lt 1 count)
 
+-- In such a script, with these classes.
+module _ (names : List (List ℕ)) (own_p : Bool) (classes : List Class) where
   -- one layer of a node, with what is found in its parts
   abbrev pub node_step : Node-F Found Found (Span → Found) Found → Found
-  node_step (node.SelfRef at) = Some at
   node_step (node.Str pieces at) = first_of pieces
   node_step (node.Array items at) = Some at
   node_step (node.Hash pairs at) = Some at
-  node_step (node.«Node::Field» name at) = Some at
   node_step (node.«Node::Global» name at) = Some at
   node_step (node.SetLocal name value at) = value
-  node_step (node.SetField name value at) = earlier (Some at) value
+  node_step (node.SetField name value at) = value
   node_step (node.SetGlobal name value at) = earlier (Some at) value
   node_step (node.Store receiver name args at) = earlier receiver (first_of args)
   node_step (node.OpAssign target op value at) = earlier (target at) value
   node_step (node.Call receiver name args block at) =
-      earlier (here (is_unbuilt_call (is_some receiver) name (length args) (is_some block)) at) (earlier (in_any receiver) (earlier (first_of args) (in_any block)))
-  node_step (node.New class args at) = Some at
+      earlier (here (is_unbuilt_call names own_p (is_some receiver) name (length args) (is_some block)) at) (earlier (in_any receiver) (earlier (first_of args) (in_any block)))
+  node_step (node.New class args at) = earlier (here (not (has_class classes class)) at) (first_of args)
   node_step (node.ThreadNew args body at) = Some at
   node_step (node.And first second at) = earlier first second
   node_step (node.Or first second at) = earlier first second
@@ -116,16 +119,17 @@ module _ (names : List (List ℕ)) (own_p : Bool) where
   abbrev pub unbuilt_in_methods : List Method → Found
   unbuilt_in_methods methods = first_of (map (λ (m : Method). unbuilt_in_all m.body) methods)
 
+  -- what of the methods of classes
+  abbrev pub unbuilt_in_classes : List Class → Found
+  unbuilt_in_classes all = first_of (map (λ (k : Class). unbuilt_in_methods k.methods) all)
+
 -- whether one of the methods is named `p`
 abbrev pub has_own_p : List (List ℕ) → List Method → Bool
 has_own_p names methods = list_any (λ (m : Method). is_p (text_of names m.name)) methods
 
--- the first of the classes
-abbrev pub first_class : List Class → Found
-first_class classes = first_of (map (λ (c : Class). Some c.at) classes)
-
--- what stands first of a program that is not run yet: a class, or what is in a method of the top level or in the top level itself
+-- what stands first of a program that is not run yet, in its classes, in the methods of its top level, or in the top level itself
 abbrev pub first_unbuilt : Program → Found
 first_unbuilt program =
     let own_p = has_own_p program.names program.functions in
-    earlier (first_class program.classes) (earlier (unbuilt_in_methods program.names own_p program.functions) (unbuilt_in_all program.names own_p program.main))
+    earlier (unbuilt_in_classes program.names own_p program.classes program.classes)
+    (earlier (unbuilt_in_methods program.names own_p program.classes program.functions) (unbuilt_in_all program.names own_p program.classes program.main))

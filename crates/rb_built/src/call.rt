@@ -1,9 +1,9 @@
-// Which calls are not run yet.
+// Which calls and new objects are not run yet.
 
 ghost use Rattle.std.specs.Prelude.{◌≡◌, length, is_some};
 ghost use Rattle.rb_built.specs.Unbuilt as spec;
 
-use rb_tree::{Block, Boxed, NameId, Names, Node};
+use rb_tree::{Block, Boxed, Class, NameId, Names, Node};
 
 /// The text of a name, empty where there is no such name.
 fn text_of(names: &Names, name: NameId) -> &[u8]
@@ -41,4 +41,16 @@ pub(crate) fn is_unbuilt_call(
         return true;
     }
     !own_p && (is_p(names, name) && args.len() > 1)
+}
+
+/// Whether one of the classes has this name.
+pub(crate) fn has_class(classes: &[Class], name: NameId) -> bool
+    ensures { result ≡ spec.has_class classes.now name }
+{
+    'classes: for class in classes {
+        if class.name.0 == name.0 {
+            return true;
+        }
+    }
+    false
 }

@@ -20,24 +20,27 @@ fn has_own_p(names: &Names, methods: &[Method]) -> bool
     false
 }
 
-/// The first class.
-fn first_class(classes: &[Class]) -> Option<Span>
-    ensures { result ≡ spec.first_class classes.now }
+/// In methods, one behind the other.
+fn in_methods(names: &Names, own_p: bool, classes: &[Class], methods: &[Method]) -> Option<Span>
+    ensures { result ≡ spec.unbuilt_in_methods names.now own_p classes.now methods.now }
 {
     let mut first = None;
-    'classes: for class in classes {
-        first = earlier(first, Some(class.at));
+    'methods: for method in methods {
+        first = earlier(first, in_all(names, own_p, classes, method.body.as_slice()));
     }
     first
 }
 
-/// In methods, one behind the other.
-fn in_methods(names: &Names, own_p: bool, methods: &[Method]) -> Option<Span>
-    ensures { result ≡ spec.unbuilt_in_methods names.now own_p methods.now }
+/// In the methods of classes.
+fn in_classes(names: &Names, own_p: bool, classes: &[Class]) -> Option<Span>
+    ensures { result ≡ spec.unbuilt_in_classes names.now own_p classes.now classes.now }
 {
     let mut first = None;
-    'methods: for method in methods {
-        first = earlier(first, in_all(names, own_p, method.body.as_slice()));
+    'classes: for class in classes {
+        first = earlier(
+            first,
+            in_methods(names, own_p, classes, class.methods.as_slice()),
+        );
     }
     first
 }
@@ -46,9 +49,10 @@ fn in_methods(names: &Names, own_p: bool, methods: &[Method]) -> Option<Span>
 pub fn first_unbuilt(program: &Program) -> Option<Span>
     ensures { result ≡ spec.first_unbuilt program.now }
 {
+    let classes = program.classes.as_slice();
     let own_p = has_own_p(&program.names, program.functions.as_slice());
-    let classes = first_class(program.classes.as_slice());
-    let methods = in_methods(&program.names, own_p, program.functions.as_slice());
-    let main = in_all(&program.names, own_p, program.main.as_slice());
-    earlier(classes, earlier(methods, main))
+    let inside = in_classes(&program.names, own_p, classes);
+    let methods = in_methods(&program.names, own_p, classes, program.functions.as_slice());
+    let main = in_all(&program.names, own_p, classes, program.main.as_slice());
+    earlier(inside, earlier(methods, main))
 }

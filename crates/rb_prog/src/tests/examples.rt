@@ -62,10 +62,24 @@ const FAULTS: Row = (
     "fault NoMethod at 3:5",
 );
 
+/// `examples/objects.rb`.
+const OBJECTS: Row = (
+    "# An object has its own instance variables; one that was never written is nil. Attributes are methods.\nclass Account\n  attr_reader :balance\n  attr_accessor :limit\n\n  def initialize(balance)\n    @balance = balance\n  end\n\n  def deposit(amount)\n    @balance += amount\n    self\n  end\n\n  def withdraw(amount)\n    return false if over?(amount)\n    @balance -= amount\n    true\n  end\n\n  def over?(amount)\n    @balance - amount < -(@limit || 0)\n  end\nend\n\nann = Account.new(50)\nben = Account.new(0)\nputs ann.deposit(10).deposit(20).balance\nputs ann.withdraw(100), ann.balance\np ann.limit\nann.limit ||= 40\nputs ann.withdraw(100), ann.balance, ben.balance\nsame = ann\nsame.limit += 10\nputs ann.limit, ann == same, ann == ben\n\n# A list: each cell knows the rest of it.\nclass Cell\n  attr_reader :value, :rest\n\n  def initialize(value, behind)\n    @value = value\n    @rest = behind\n  end\n\n  def sum\n    @rest ? @value + @rest.sum : @value\n  end\nend\n\nlist = nil\n1.upto(4) { |i| list = Cell.new(i * i, list) }\nputs list.sum, list.rest.rest.value\n",
+    "80\nfalse\n80\nnil\ntrue\n-20\n0\n50\ntrue\nfalse\n30\n4\n",
+    "",
+);
+
+/// `examples/to_s.rb`.
+const TO_S: Row = (
+    "# puts, print and code in a text ask an object for its text by its to_s. p and inspect tell its class alone.\nclass Point\n  attr_accessor :x, :y\n\n  def initialize(x, y)\n    @x = x\n    @y = y\n  end\n\n  def plus(other)\n    Point.new(@x + other.x, @y + other.y)\n  end\n\n  def to_s\n    \"(#{@x}, #{@y})\"\n  end\nend\n\nclass Line\n  def initialize(from, to)\n    @from = from\n    @to = to\n  end\n\n  def to_s\n    \"#{@from} to #{@to}\"\n  end\nend\n\nclass Plain\nend\n\na = Point.new(1, 2)\nb = a.plus(Point.new(10, -2))\nputs a, b\nb.x += 1\nputs \"from #{a} to #{b}: \" + Line.new(a, b).to_s\nprint Line.new(b, a), \"\\n\"\nputs Plain.new, \"#{Plain.new}\"\np a\nputs a.inspect\n",
+    "(1, 2)\n(11, 0)\nfrom (1, 2) to (12, 0): (1, 2) to (12, 0)\n(12, 0) to (1, 2)\n#<Plain>\n#<Plain>\n#<Point>\n#<Point>\n",
+    "",
+);
+
 #[test]
 fn examples_print_what_they_should(rt: HostRuntime) -> Result<(), Fail> {
     let all = [
-        ANSWER, LINES, INTEGERS, BRANCHES, LOOPS, BLOCKS, METHODS, TEXTS, FAULTS,
+        ANSWER, LINES, INTEGERS, BRANCHES, LOOPS, BLOCKS, METHODS, TEXTS, OBJECTS, TO_S, FAULTS,
     ];
     all_hold(&rt, rt.alloc(), &all)
 }

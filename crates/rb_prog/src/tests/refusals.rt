@@ -6,7 +6,7 @@ use std::alloc::{AllocError, Global};
 use std::test::Fail;
 
 /// A source that is refused, and what its line says behind `rbso: refused `.
-const REFUSED: [(&[u8], &str); 47] = [
+const REFUSED: [(&[u8], &str); 53] = [
     (b"puts 1\xFF", "1 NotUtf8 at 1:7"),
     (b"\xFF", "1 NotUtf8 at 1:1"),
     (b"puts 1\nputs 2\xC3", "1 NotUtf8 at 2:7"),
@@ -55,15 +55,39 @@ const REFUSED: [(&[u8], &str); 47] = [
     (b"puts @x", "16 SelfOutside at 1:6"),
     (b"self", "16 SelfOutside at 1:1"),
     (b"puts 1\n@x = 1", "16 SelfOutside at 2:4"),
-    (b"puts 1\nclass A\nend", "17 NotYet at 2:7"),
     (b"puts 1, [2]", "17 NotYet at 1:9"),
     (b"p 1, 2", "17 NotYet at 1:1"),
     (b"def f\n  $g += 1\nend", "17 NotYet at 2:6"),
     (b"puts \"a#{{}}\"", "17 NotYet at 1:10"),
     (b"x = 1\nThread.new { 1 }", "17 NotYet at 2:8"),
-    (b"def f\nend\nclass A\nend", "17 NotYet at 3:7"),
-    (b"puts [1]\nclass A\nend", "17 NotYet at 1:6"),
     (b"puts \"#{[1]}\" + $a", "17 NotYet at 1:9"),
+    (b"puts 1\nx = Array.new", "17 NotYet at 2:11"),
+    (b"Hash.new", "17 NotYet at 1:6"),
+    (
+        b"class A\n  def f\n    Mutex.new\n  end\nend",
+        "17 NotYet at 3:11",
+    ),
+    (b"class A\nend\nA.new([1])", "17 NotYet at 3:7"),
+    (
+        b"def f\nend\nclass A\n  def g\n    [1]\n  end\nend",
+        "17 NotYet at 5:5",
+    ),
+    (
+        b"class A\n  def g\n    @x = $a\n  end\nend\nputs [1]",
+        "17 NotYet at 3:10",
+    ),
+    (
+        b"puts [1]\nclass A\n  def g\n    @x += $a\n  end\nend",
+        "17 NotYet at 1:6",
+    ),
+    (
+        b"class A\n  def p(a, b)\n  end\n  def g\n    p 1, 2\n  end\nend",
+        "17 NotYet at 5:5",
+    ),
+    (
+        b"class A\n  attr_accessor :b\nend\nA.new.b = {}",
+        "17 NotYet at 4:11",
+    ),
     // Of two faults the first in the text counts.
     (b"puts @x\nbreak", "16 SelfOutside at 1:6"),
     (b"break\nputs @x", "15 BreakOutside at 1:1"),

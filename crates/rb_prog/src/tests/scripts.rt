@@ -1,5 +1,9 @@
 // Scripts with what they print and how they end: the values of those that end well are Ruby's own.
 
+mod classes;
+mod object_texts;
+mod objects;
+
 use super::{Outcome, ran, ran_source, script};
 use std::alloc::{AllocError, Global};
 use std::process::{Abort, ExitCode};
@@ -399,12 +403,26 @@ fn scripts_print_what_they_should_and_end_so(rt: HostRuntime) -> Result<(), Fail
 }
 
 #[test]
+fn scripts_with_classes_print_what_they_should_and_end_so(rt: HostRuntime) -> Result<(), Fail> {
+    let tables: [&[Row]; 4] = [
+        &classes::CLASSES,
+        &classes::ATTRIBUTES,
+        &objects::OBJECTS,
+        &object_texts::OBJECT_TEXTS,
+    ];
+    for rows in tables {
+        all_hold(&rt, rt.alloc(), rows)?;
+    }
+    Ok(())
+}
+
+#[test]
 fn a_text_has_at_most_16777216_bytes(rt: HostRuntime) -> Result<(), Fail> {
     all_hold(&rt, rt.alloc(), &LONG_TEXTS)
 }
 
 /// A script, the steps that it makes in all, and what it has printed where it may make one less.
-const COUNTED: [(&str, u32, &str); 8] = [
+const COUNTED: [(&str, u32, &str); 13] = [
     ("puts 1", 2, ""),
     ("puts 1\nputs 2", 4, "1\n"),
     ("a = 6\nputs a * 7", 6, ""),
@@ -413,6 +431,27 @@ const COUNTED: [(&str, u32, &str); 8] = [
     ("def f(x)\n  x\nend\nputs f(2)", 4, ""),
     ("puts \"a#{1}b\"", 3, ""),
     ("nil && puts(1)\n1 || puts(1)", 4, ""),
+    ("class Foo\nend\nputs 1\nFoo.new", 3, "1\n"),
+    (
+        "class Foo\n  def initialize(n)\n    @n = n\n  end\nend\nputs 1\nFoo.new(1)",
+        6,
+        "1\n",
+    ),
+    (
+        "class Foo\n  def to_s\n    \"foo\"\n  end\nend\nputs 1\nputs Foo.new",
+        5,
+        "1\n",
+    ),
+    (
+        "class Foo\n  def to_s\n    \"foo\"\n  end\nend\nx = Foo.new\nputs x\n\"a#{x}\"",
+        8,
+        "foo\n",
+    ),
+    (
+        "class Foo\n  attr_accessor :n\nend\nx = Foo.new\nx.n ||= 5\nputs x.n",
+        12,
+        "",
+    ),
 ];
 
 /// A run of a source with so many steps.

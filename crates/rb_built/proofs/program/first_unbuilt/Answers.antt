@@ -5,12 +5,19 @@ use Rattle.rb_built.proofs.program.first_unbuilt.Goals as goal
 pub returns : goal.returns
 returns c =
     let program = c.args.program.now in
-    let in_methods = spec.unbuilt_in_methods program.names in
-    let in_main = spec.unbuilt_in_all program.names in
-    let has_p = c.has_own_p-own_p.ensures ∙ ap (spec.has_own_p program.names) c.as_slice.ensures in
-    let own_p = spec.has_own_p program.names program.functions in
+    let names = program.names in
+    let found_p = c.has_own_p-own_p.result in
+    let has_p = c.has_own_p-own_p.ensures ∙ ap (spec.has_own_p names) c.as_slice.ensures in
+    let own_p = spec.has_own_p names program.functions in
+    let found = c.as_slice-classes.result.now in
+    let classes = c.as_slice-classes.ensures in
+    let in_classes = c.in_classes-inside.ensures ∙ ap (λ p. spec.unbuilt_in_classes names p found found) has_p ∙ ap (λ ks. spec.unbuilt_in_classes names own_p ks ks) classes in
+    let in_methods = c.in_methods-methods.ensures ∙ ap (spec.unbuilt_in_methods names found_p found) c.as_slice-2.ensures
+    ∙ ap (λ p. spec.unbuilt_in_methods names p found program.functions) has_p ∙ ap (λ ks. spec.unbuilt_in_methods names own_p ks program.functions) classes in
+    let in_main = c.in_all-main.ensures ∙ ap (spec.unbuilt_in_all names found_p found) c.as_slice-3.ensures
+    ∙ ap (λ p. spec.unbuilt_in_all names p found program.main) has_p ∙ ap (λ ks. spec.unbuilt_in_all names own_p ks program.main) classes in
     c.earlier-2.ensures
-    ∙ ap (λ o. spec.earlier o c.earlier.result) (c.first_class-classes.ensures ∙ ap spec.first_class c.as_slice-2.ensures)
-    ∙ ap (spec.earlier (spec.first_class program.classes)) (c.earlier.ensures
-    ∙ ap (λ o. spec.earlier o c.in_all-main.result) (c.in_methods-methods.ensures ∙ ap (in_methods c.has_own_p-own_p.result) c.as_slice-3.ensures ∙ ap (λ p. in_methods p program.functions) has_p)
-    ∙ ap (spec.earlier (in_methods own_p program.functions)) (c.in_all-main.ensures ∙ ap (in_main c.has_own_p-own_p.result) c.as_slice-4.ensures ∙ ap (λ p. in_main p program.main) has_p))
+    ∙ ap (λ o. spec.earlier o c.earlier.result) in_classes
+    ∙ ap (spec.earlier (spec.unbuilt_in_classes names own_p program.classes program.classes)) (c.earlier.ensures
+    ∙ ap (λ o. spec.earlier o c.in_all-main.result) in_methods
+    ∙ ap (spec.earlier (spec.unbuilt_in_methods names own_p program.classes program.functions)) in_main)

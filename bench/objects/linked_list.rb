@@ -1,0 +1,21 @@
+# A linked list, built once and walked many times.
+class Cell
+  attr_reader :value, :rest
+
+  def initialize(value, behind)
+    @value = value
+    @rest = behind
+  end
+end
+
+list = nil
+100_000.times { |i| list = Cell.new(i, list) }
+sum = 0
+60.times do
+  cell = list
+  while cell
+    sum += cell.value
+    cell = cell.rest
+  end
+end
+puts sum
