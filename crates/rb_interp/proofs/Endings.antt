@@ -70,12 +70,12 @@ module _ (S : Script) (N : ℕ) (start : State) (h : Private) where
   tells_nothing (Over ending.Memory) l sc d n a = nothing_waits h
   tells_nothing (Over ending.Sink) l sc d n a = nothing_waits h
 
-  closed_by : (l new : Log) (e how : End) (n : ℕ) → Leaves h (told e) [] h → Closes n l e new how → Comes S 0 N start l h e n → Follows S 0 N start new how
+  closed_by : (l new : Log) (e how : End) (n : ℕ) → Leaves h (told e) [] h → Closes n l e new how → Comes S 0 N start l h e n → Follows S 0 N start new how h
   closed_by l new e how n g (tells x) c = closes l h h x n [] c g
   closed_by l new e how n g (lacks v) c = late l h v n c
 
   -- what the main thread did, behind its last call
-  pub follows : (l new : Log) (o : Outcome) (how : End) (sc : Scope) (d n : ℕ) → Came S N start l h o (Then (Instead Nil) ∷ []) sc d n → Closes (N - n) l (ends_with o) new how → Follows S 0 N start new how
+  pub follows : (l new : Log) (o : Outcome) (how : End) (sc : Scope) (d n : ℕ) → Came S N start l h o (Then (Instead Nil) ∷ []) sc d n → Closes (N - n) l (ends_with o) new how → Follows S 0 N start new how h
   follows l new o how sc d n a c = closed_by l new (ends_with o) how (N - n) (tells_nothing o l sc d n a) c (comes_out l o sc d n a)
 
 -- where the thread ends with the sink's failure, the last that was refused is a print

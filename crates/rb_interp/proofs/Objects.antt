@@ -15,7 +15,7 @@ use Rattle.rb_model.specs.Acts.{Act, Reply, SetField}
 use Rattle.rb_model.specs.Acts as reply
 use Rattle.rb_model.specs.Doing.{said}
 use Rattle.rb_model.specs.Things.{Thing, Object, becomes, gives}
-use Rattle.rb_model.specs.Private.{Private, Gives, Becomes, held, changed, entered, next_id}
+use Rattle.rb_model.specs.Private.{Private, Gives, Becomes, held, acted, entered, next_id}
 use Rattle.rb_model.specs.Log.{Log}
 use Rattle.rb_machine.specs.Scopes.{Script, Scope}
 use Rattle.rb_machine.specs.Control.{State, On, Cont, Then, Give, Step, Instead, Creating}

@@ -14,7 +14,8 @@ use rb_model::{Answer, Call, End, ThreadStore, Value};
 /// Makes the end entry of the main thread.
 pub(crate) fn close<O: ThreadStore + Drop>(mut store: O, step: u64, end: End) -> (O, End)
     requires unended { has_end (O.log store).entries ≡ false }
-    ensures { Closes step (O.log store) (over end) (O.log result.0) (over result.1) }
+    ensures closes { Closes step (O.log store) (over end) (O.log result.0) (over result.1) }
+    ensures private { O.private result.0 ≡ O.private store }
 {
     let call = Call::End(end);
     match store.call(step, &call) {

@@ -537,7 +537,7 @@ pub fn run_main<'p, O: ThreadStore + Drop>(
 ) -> (O, End)
     requires begun { O.log store ≡ log.fresh }
     requires made { O.private store ≡ bare 0 }
-    ensures follows { (S : Script) → StandsFor context.entry.script.now S → S.program ≡ context.entry.program.now → Follows S 0 context.entry.steps (opening S context.entry.steps) (O.log result.0) (over result.1) }
+    ensures follows { (S : Script) → StandsFor context.entry.script.now S → S.program ≡ context.entry.program.now → Follows S 0 context.entry.steps (opening S context.entry.steps) (O.log result.0) (over result.1) (O.private result.0) }
     ensures refused { (S : Script) → StandsFor context.entry.script.now S → S.program ≡ context.entry.program.now → over result.1 ≡ Sink → (before : List log.Refusal) × (r : log.Refusal) × ((O.log result.0).refusals ≡ before ++ r ∷ []) }
     ensures never_full { (S : Script) → StandsFor context.entry.script.now S → S.program ≡ context.entry.program.now → (used asked : ℕ) → over result.1 ≡ Full used asked → ⊥ }
 {

@@ -9,8 +9,8 @@ use Rattle.rb_model.specs.Values.{To, Reference}
 use Rattle.rb_model.specs.Acts.{Act, Reply, Done}
 use Rattle.rb_model.specs.Acts as reply
 use Rattle.rb_model.specs.Ends.{End, Raised}
-use Rattle.rb_model.specs.Things.{Thing, gives, becomes}
-use Rattle.rb_model.specs.Private.{Private, held, entered, changed}
+use Rattle.rb_model.specs.Things.{Thing, gives}
+use Rattle.rb_model.specs.Private.{Private, held, entered, acted}
 use Rattle.rb_machine.specs.Scopes.{Script}
 use Rattle.rb_machine.specs.Control.{State, On, Under, Counting, Eval, Give, Turning}
 use Rattle.rb_machine.specs.Call.{raised}
@@ -126,7 +126,7 @@ module _ (S : Script) (n j : ℕ) where
   makes_shorter b h s thing e (inr deep) = let wrong : Stop (Raised TooDeep deep.0) ≡ Make thing = ap (move S) (sym deep.2) ∙ e in absurd (cc)
 
   acts_shorter : (b : List ℕ) (h : Private) (s : State) (r : Reference) (act : Act) (thing : Thing) → move S s ≡ Ask r act → held h r.id ≡ Some thing → Shorter b h s
-      → Shorter b (changed h r.id (becomes thing act)) (replied s (gives thing act))
+      → Shorter b (acted h r.id act thing) (replied s (gives thing act))
   acts_shorter b h s r act thing e f (inl x) =
       inl (replied x.0 (gives thing act), replied_shorter s x.0 (gives thing act) x.1, acts b h x.0 r act thing x.2 (wanted S j x.0 (Ask r act) tt (ap (move S) (sym x.1) ∙ e)) f)
   acts_shorter b h s r act thing e f (inr deep) = let wrong : Stop (Raised TooDeep deep.0) ≡ Ask r act = ap (move S) (sym deep.2) ∙ e in absurd (cc)

@@ -1,6 +1,8 @@
 -- A main thread that asks nothing of what is shared does what its script does alone: the two stores differ in their first place only.
 use Rattle.std.proofs.Common.{◌≡◌, ℕ, zero, suc, Bool, true, false, List, [], ◌∷◌, ◌++◌, Option, Some, None, refl, sym, ap, ◌∙◌, subst}
-use Rattle.std.specs.Prelude.{◌==◌, not, set, if◌then◌else◌}
+use Rattle.std.specs.Prelude.{◌==◌, not, set, slice_get, if◌then◌else◌}
+use Rattle.std.specs.Option.{option_map}
+use Rattle.shape_core.specs.Shape.{Shape}
 use Rattle.std.proofs.lemmas.List.{append-nil}
 use Rattle.std.proofs.lemmas.Bool.{and_parts, and_from}
 use Rattle.std.proofs.lemmas.Grind.{flat_map-append}
@@ -10,11 +12,12 @@ use Rattle.rb_model.specs.Acts.{Act, Done}
 use Rattle.rb_model.specs.Acts as reply
 use Rattle.rb_model.specs.Ends.{End}
 use Rattle.rb_model.specs.Things.{Thing, Object, becomes, gives}
-use Rattle.rb_model.specs.Private.{Private, held, entered, changed}
+use Rattle.rb_model.specs.Paths.{shape_made, shape_behind}
+use Rattle.rb_model.specs.Private.{Private, held, or_none, entered, acted, with_shape_of}
 use Rattle.rb_model.specs.Log.{Log, Entry, printed, prints}
 use Rattle.rb_machine.specs.Scopes.{Script}
 use Rattle.rb_machine.specs.Control.{State}
-use Rattle.rb_machine.specs.Move.{Make, Ask, move, replied}
+use Rattle.rb_machine.specs.Move.{Go, Make, Ask, Show, Stop, move, replied}
 use Rattle.rb_machine.specs.Follows.{At, Comes, ends, cut, fills, refuses, Follows, closes, late, full, next_thing, last_entry, step_of}
 use Rattle.rb_machine.specs.Follows as thread
 use Rattle.rb_machine.specs.Alone.{Runs, Alone, opening}
@@ -45,67 +48,86 @@ last_step_more (f ∷ g ∷ es) e = last_step_more (g ∷ es) e
 
 -- ---- the two stores
 
--- what the main thread made, and before it nothing, or the global variables
-abbrev bare_before : List (Option Thing) → Private
-bare_before things = record { thread = 0; things = None ∷ things }
+-- what the main thread made, with the shapes, and before it nothing, or the global variables
+abbrev bare_before : List (Option Thing) → List (Option Shape) → List Shape → Private
+bare_before things shaped shapes = record { thread = 0; things = None ∷ things; shaped = None ∷ shaped; shapes = shapes }
 
-abbrev globals_before : List (Option Thing) → Private
-globals_before things = record { thread = 0; things = Some (Object 4294967295 []) ∷ things }
+abbrev globals_before : List (Option Thing) → List (Option Shape) → List Shape → Private
+globals_before things shaped shapes = record { thread = 0; things = Some (Object 4294967295 []) ∷ things; shaped = None ∷ shaped; shapes = shapes }
 
 -- the thing is held in both stores, and both change alike
-abbrev ChangesBoth : List (Option Thing) → Id → Thing → Thing → Type 0
-ChangesBoth xs id thing new =
-    (held (globals_before xs) id ≡ Some thing)
-    × (ys : List (Option Thing)) × (changed (bare_before xs) id new ≡ bare_before ys) × (changed (globals_before xs) id new ≡ globals_before ys)
+abbrev ChangesBoth : List (Option Thing) → List (Option Shape) → List Shape → Id → Act → Thing → Type 0
+ChangesBoth xs fs ss id act thing =
+    (held (globals_before xs fs ss) id ≡ Some thing)
+    × (ys : List (Option Thing)) × (gs : List (Option Shape)) × (ts : List Shape)
+    × (acted (bare_before xs fs ss) id act thing ≡ bare_before ys gs ts) × (acted (globals_before xs fs ss) id act thing ≡ globals_before ys gs ts)
 
 nothing_held : (b : Bool) (thing : Thing) → (if b then None else None) ≡ Some thing → ⊥
 nothing_held true thing h = let wrong : None ≡ Some thing = h in cc
 nothing_held false thing h = let wrong : None ≡ Some thing = h in cc
 
-changes_both : (xs : List (Option Thing)) (t serial : ℕ) (thing new : Thing) → held (bare_before xs) (record { thread = t; serial = serial }) ≡ Some thing
-    → ChangesBoth xs (record { thread = t; serial = serial }) thing new
-changes_both xs t zero thing new h = absurd (nothing_held (t == 0) thing h)
-changes_both xs t (suc n) thing new h = (h, set xs n (Some new), refl, refl)
+changes_both : (xs : List (Option Thing)) (fs : List (Option Shape)) (ss : List Shape) (t serial : ℕ) (act : Act) (thing : Thing)
+    → held (bare_before xs fs ss) (record { thread = t; serial = serial }) ≡ Some thing
+    → ChangesBoth xs fs ss (record { thread = t; serial = serial }) act thing
+changes_both xs fs ss t zero act thing h = absurd (nothing_held (t == 0) thing h)
+changes_both xs fs ss t (suc n) act thing h =
+    let behind = option_map (shape_behind act) (or_none (slice_get fs n)) in
+    (h, set xs n (Some (becomes thing act)), set fs n behind, with_shape_of ss behind, refl, refl)
 
 -- ---- the run beside the thread
 
 -- the script alone has come to the same state, has shown the same bytes and made the same things
 abbrev Beside : Script → ℕ → List ℕ → Private → State → Type 0
-Beside S N b h s = (xs : List (Option Thing)) × (h ≡ bare_before xs) × Runs S N b (globals_before xs) s
+Beside S N b h s =
+    (xs : List (Option Thing)) × (fs : List (Option Shape)) × (ss : List Shape) × (h ≡ bare_before xs fs ss) × Runs S N b (globals_before xs fs ss) s
 
 module _ (S : Script) (N : ℕ) where
   makes_beside : (b : List ℕ) (h : Private) (s : State) (thing : Thing) → Beside S N b h s → move S s ≡ Make thing
       → Beside S N b (entered h thing) (replied s (reply.Value (To (next_thing h thing))))
-  makes_beside b h s thing p e =
-      subst (λ g. Beside S N b (entered g thing) (replied s (reply.Value (To (next_thing g thing))))) (sym p.1)
-      (p.0 ++ Some thing ∷ [], refl, run.makes b (globals_before p.0) s thing p.2 e)
+  makes_beside b h s thing (xs, fs, ss, is, r) e =
+      subst (λ g. Beside S N b (entered g thing) (replied s (reply.Value (To (next_thing g thing))))) (sym is)
+      (xs ++ Some thing ∷ [], fs ++ shape_made thing ∷ [], with_shape_of ss (shape_made thing), refl, run.makes b (globals_before xs fs ss) s thing r e)
 
   acts_beside : (b : List ℕ) (h : Private) (s : State) (r : Reference) (act : Act) (thing : Thing) → Beside S N b h s → move S s ≡ Ask r act → held h r.id ≡ Some thing
-      → Beside S N b (changed h r.id (becomes thing act)) (replied s (gives thing act))
-  acts_beside b h s r act thing p e f =
-      let there : held (bare_before p.0) r.id ≡ Some thing = ap (λ g. held g r.id) (sym p.1) ∙ f in
-      let both = changes_both p.0 r.id.thread r.id.serial thing (becomes thing act) there in (
-        both.1,
-        ap (λ g. changed g r.id (becomes thing act)) p.1 ∙ both.2,
-        subst (λ g. Runs S N b g (replied s (gives thing act))) both.3 (run.acts b (globals_before p.0) s r act thing p.2 e both.0),
+      → Beside S N b (acted h r.id act thing) (replied s (gives thing act))
+  acts_beside b h s r act thing (xs, fs, ss, is, ran) e f =
+      let there : held (bare_before xs fs ss) r.id ≡ Some thing = ap (λ g. held g r.id) (sym is) ∙ f in
+      acts_both b h s r act thing xs fs ss is ran e (changes_both xs fs ss r.id.thread r.id.serial act thing there)
+    where
+      acts_both : (b : List ℕ) (h : Private) (s : State) (r : Reference) (act : Act) (thing : Thing) (xs : List (Option Thing)) (fs : List (Option Shape)) (ss : List Shape)
+          → h ≡ bare_before xs fs ss → Runs S N b (globals_before xs fs ss) s → move S s ≡ Ask r act → ChangesBoth xs fs ss r.id act thing
+          → Beside S N b (acted h r.id act thing) (replied s (gives thing act))
+      acts_both b h s r act thing xs fs ss is ran e (there, ys, gs, ts, bare, globals) = (
+        ys,
+        gs,
+        ts,
+        ap (λ g. acted g r.id act thing) is ∙ bare,
+        subst (λ g. Runs S N b g (replied s (gives thing act))) globals (run.acts b (globals_before xs fs ss) s r act thing ran e there),
       )
 
+  goes_beside : (b : List ℕ) (h : Private) (s s' : State) → Beside S N b h s → move S s ≡ Go s' → Beside S N b h s'
+  goes_beside b h s s' (xs, fs, ss, is, r) e = (xs, fs, ss, is, run.goes b (globals_before xs fs ss) s s' r e)
+
+  shows_beside : (es : List Entry) (e : Entry) (h : Private) (s : State) (bytes : List ℕ) → Beside S N (prints es) h s → move S s ≡ Show bytes → printed e.call ≡ bytes
+      → Beside S N (prints (es ++ e ∷ [])) h (replied s Done)
+  shows_beside es e h s bytes (xs, fs, ss, is, r) m p =
+      (xs, fs, ss, is, subst (λ b. Runs S N b (globals_before xs fs ss) (replied s Done)) (sym (prints_more es e ∙ ap (λ b. prints es ++ b) p)) (run.shows (prints es) (globals_before xs fs ss) s bytes r m))
+
   beside : {l : Log} {h : Private} {s : State} → At S 0 N (opening S N) l h s → keeps_to_itself l.entries ≡ true → Beside S N (prints l.entries) h s
-  beside thread.here k = ([], refl, run.begins)
-  beside (thread.goes l h s s' a e) k = let p = beside a k in (p.0, p.1, run.goes (prints l.entries) (globals_before p.0) s s' p.2 e)
+  beside thread.here k = ([], [], [], refl, run.begins)
+  beside (thread.goes l h s s' a e) k = goes_beside (prints l.entries) h s s' (beside a k) e
   beside (thread.makes l h s thing a e) k = makes_beside (prints l.entries) h s thing (beside a k) e
   beside (thread.acts l h s r act thing a e f) k = acts_beside (prints l.entries) h s r act thing (beside a k) e f
   beside (thread.asks l h h' s r act moved answer a e f g) k = let wrong : false ≡ true = (keeps_more l.entries _ k).1 in absurd (cc)
-  beside (thread.prints l h s bytes a e) k =
-      let p = beside a (keeps_more l.entries _ k).0 in
-      (p.0, p.1, subst (λ b. Runs S N b (globals_before p.0) (replied s Done)) (sym (prints_more l.entries _)) (run.shows (prints l.entries) (globals_before p.0) s bytes p.2 e))
+  beside (thread.prints l h s bytes a e) k = shows_beside l.entries _ h s bytes (beside a (keeps_more l.entries _ k).0) e refl
 
   -- ---- its own end
 
+  own_alone : (l : Log) (h : Private) (s : State) (e : End) → Beside S N (prints l.entries) h s → move S s ≡ Stop e → Alone S N (prints l.entries) e (step_of S 0 N (opening S N) s)
+  own_alone l h s e (xs, fs, ss, is, r) stop = record { store = globals_before xs fs ss; last = s; run = r; ends = stop; counted = refl }
+
   own_end : {l : Log} {h : Private} {how : End} {n : ℕ} → Comes S 0 N (opening S N) l h how n → keeps_to_itself l.entries ≡ true → is_cut how ≡ false → Alone S N (prints l.entries) how n
-  own_end (ends l h s e a stop) k c =
-      let p = beside a k in
-      record { store = globals_before p.0; last = s; run = p.2; ends = stop; counted = refl }
+  own_end (ends l h s e a stop) k c = own_alone l h s e (beside a k) stop
   own_end (cut l h want n a w le) k c = let wrong : true ≡ false = c in absurd (cc)
   own_end (fills l h h' s r act moved used asked a e f g) k c = let wrong : true ≡ false = c in absurd (cc)
   own_end (refuses l h s bytes a e) k c = let wrong : true ≡ false = c in absurd (cc)
@@ -122,8 +144,11 @@ module _ (S : Script) (N : ℕ) where
   abbrev Shown : List ℕ → Type 0
   Shown b = (h : Private) × (s : State) × Runs S N b h s
 
+  shown_beside : (b : List ℕ) (h : Private) (s : State) → Beside S N b h s → Shown b
+  shown_beside b h s (xs, fs, ss, is, r) = (globals_before xs fs ss, s, r)
+
   shown_at : (l : Log) (h : Private) (s : State) → At S 0 N (opening S N) l h s → keeps_to_itself l.entries ≡ true → Shown (prints l.entries)
-  shown_at l h s a k = let p = beside a k in (globals_before p.0, s, p.2)
+  shown_at l h s a k = shown_beside (prints l.entries) h s (beside a k)
 
   shown_in : {l : Log} {h : Private} {how : End} {n : ℕ} → Comes S 0 N (opening S N) l h how n → keeps_to_itself l.entries ≡ true → Shown (prints l.entries)
   shown_in (ends l h s e a stop) k = shown_at l h s a k
@@ -135,16 +160,16 @@ module _ (S : Script) (N : ℕ) where
       → Shown (prints (es ++ last ∷ []))
   shown_closed es last silent k shown = subst Shown (sym (prints_same es last silent)) (shown (keeps_more es last k).0)
 
-  shown_by : {l : Log} {how : End} → Follows S 0 N (opening S N) l how → keeps_to_itself l.entries ≡ true → Shown (prints l.entries)
+  shown_by : {l : Log} {how : End} {h : Private} → Follows S 0 N (opening S N) l how h → keeps_to_itself l.entries ≡ true → Shown (prints l.entries)
   shown_by (closes l h h' e n moved c g) k = shown_closed l.entries _ refl k (shown_in c)
   shown_by (late l h v n c) k = shown_closed l.entries _ refl k (shown_in c)
   shown_by (full l h h' v n used asked moved c g) k = shown_closed l.entries _ refl k (shown_in c)
 
 pub does_as_alone : DoesAsAlone
-does_as_alone S N l how (closes m h h' e n moved c g) k own =
+does_as_alone S N l how o (closes m h h' e n moved c g) k own =
     closed_alone S N m e n (last_entry S 0 N (opening S N) n e moved) refl refl (own_end S N c (keeps_more m.entries _ k).0 own)
-does_as_alone S N l how (late m h v n c) k own = let wrong : true ≡ false = own in absurd (cc)
-does_as_alone S N l how (full m h h' v n used asked moved c g) k own = let wrong : true ≡ false = own in absurd (cc)
+does_as_alone S N l how o (late m h v n c) k own = let wrong : true ≡ false = own in absurd (cc)
+does_as_alone S N l how o (full m h h' v n used asked moved c g) k own = let wrong : true ≡ false = own in absurd (cc)
 
 pub shows_a_front : ShowsAFront
-shows_a_front S N l how bytes own steps f k alone = let p = shown_by S N f k in front S N (prints l.entries) bytes p.0 p.1 own steps p.2 alone
+shows_a_front S N l how o bytes own steps f k alone = let p = shown_by S N f k in front S N (prints l.entries) bytes p.0 p.1 own steps p.2 alone

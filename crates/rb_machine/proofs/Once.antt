@@ -5,8 +5,8 @@ use Rattle.rb_model.specs.Values.{To}
 use Rattle.rb_model.specs.Acts.{Done}
 use Rattle.rb_model.specs.Acts as reply
 use Rattle.rb_model.specs.Ends.{End}
-use Rattle.rb_model.specs.Things.{Thing, becomes, gives}
-use Rattle.rb_model.specs.Private.{Private, held, entered, changed}
+use Rattle.rb_model.specs.Things.{Thing, gives}
+use Rattle.rb_model.specs.Private.{Private, held, entered, acted}
 use Rattle.rb_machine.specs.Scopes.{Script}
 use Rattle.rb_machine.specs.Control.{State}
 use Rattle.rb_machine.specs.Move.{Next, Go, Make, Ask, Show, Stop, move, replied, left_in}
@@ -20,15 +20,15 @@ pub record Point : Type 0 where
   pub store : Private
   pub state : State
 
-abbrev acted : Option Thing → Next → Point → Point
-acted None next x = x
-acted (Some thing) (Ask r act) x = record { bytes = x.bytes; store = changed x.store r.id (becomes thing act); state = replied x.state (gives thing act) }
-acted (Some thing) next x = x
+abbrev answered_by : Option Thing → Next → Point → Point
+answered_by None next x = x
+answered_by (Some thing) (Ask r act) x = record { bytes = x.bytes; store = acted x.store r.id act thing; state = replied x.state (gives thing act) }
+answered_by (Some thing) next x = x
 
 abbrev after : Next → Point → Point
 after (Go t) x = record { bytes = x.bytes; store = x.store; state = t }
 after (Make thing) x = record { bytes = x.bytes; store = entered x.store thing; state = replied x.state (reply.Value (To (next_thing x.store thing))) }
-after (Ask r act) x = acted (held x.store r.id) (Ask r act) x
+after (Ask r act) x = answered_by (held x.store r.id) (Ask r act) x
 after (Show bytes) x = record { bytes = x.bytes ++ bytes; store = x.store; state = replied x.state Done }
 after (Stop how) x = x
 
@@ -52,7 +52,7 @@ module _ (S : Script) (N : ℕ) where
   reached (makes b h s thing r e) = let p = reached r in (suc p.0, ap one p.1 ∙ ap (λ m. after m (record { bytes = b; store = h; state = s })) e)
   reached (acts b h s q act thing r e f) =
       let p = reached r in
-      (suc p.0, ap one p.1 ∙ (ap (λ m. after m (record { bytes = b; store = h; state = s })) e ∙ ap (λ o. acted o (Ask q act) (record { bytes = b; store = h; state = s })) f))
+      (suc p.0, ap one p.1 ∙ (ap (λ m. after m (record { bytes = b; store = h; state = s })) e ∙ ap (λ o. answered_by o (Ask q act) (record { bytes = b; store = h; state = s })) f))
   reached (shows b h s bytes r e) = let p = reached r in (suc p.0, ap one p.1 ∙ ap (λ m. after m (record { bytes = b; store = h; state = s })) e)
 
   -- an end stays
@@ -80,7 +80,7 @@ begins_itself b = ([], sym (append-nil b))
 begins_through : (a b c : List ℕ) → Begins a b → Begins b c → Begins a c
 begins_through a b c p q = (p.0 ++ q.0, q.1 ∙ (ap (λ l. l ++ q.0) p.1 ∙ append_assoc a p.0 q.0))
 
-acted_shows : (thing : Option Thing) (next : Next) (x : Point) → Begins x.bytes (acted thing next x).bytes
+acted_shows : (thing : Option Thing) (next : Next) (x : Point) → Begins x.bytes (answered_by thing next x).bytes
 acted_shows None next x = begins_itself x.bytes
 acted_shows (Some thing) (Ask r act) x = begins_itself x.bytes
 acted_shows (Some thing) (Go t) x = begins_itself x.bytes

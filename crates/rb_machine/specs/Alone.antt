@@ -1,11 +1,11 @@
 -- The run of a script with one thread: one store has all its things, the global variables among them, and answers by the plain step.
-use Rattle.std.specs.Prelude.{◌≡◌, ℕ, ◌-◌, List, [], ◌∷◌, ◌++◌, Some}
+use Rattle.std.specs.Prelude.{◌≡◌, ℕ, ◌-◌, List, [], ◌∷◌, ◌++◌, Some, None}
 use Rattle.rb_model.specs.Values.{Nil, To, Reference}
 use Rattle.rb_model.specs.Acts.{Act, Done}
 use Rattle.rb_model.specs.Acts as reply
 use Rattle.rb_model.specs.Ends.{End}
-use Rattle.rb_model.specs.Things.{Thing, Object, becomes, gives}
-use Rattle.rb_model.specs.Private.{Private, held, entered, changed}
+use Rattle.rb_model.specs.Things.{Thing, Object, gives}
+use Rattle.rb_model.specs.Private.{Private, held, entered, acted}
 use Rattle.rb_machine.specs.Scopes.{Script, fresh}
 use Rattle.rb_machine.specs.Control.{State, On, Then, Following, Instead}
 use Rattle.rb_machine.specs.Move.{Go, Make, Ask, Show, Stop, move, replied, left_in}
@@ -15,9 +15,9 @@ use Rattle.rb_machine.specs.Follows.{next_thing}
 abbrev pub opening : Script → ℕ → State
 opening S N = On (Following Nil S.program.main) (Then (Instead Nil) ∷ []) (record { me = Nil; locals = fresh S.main_names [] }) 0 N
 
--- the store of a script that has begun: the global variables alone
+-- the store of a script that has begun: the global variables alone, which have no shape of their own
 abbrev pub globals_alone : Private
-globals_alone = record { thread = 0; things = Some (Object 4294967295 []) ∷ [] }
+globals_alone = record { thread = 0; things = Some (Object 4294967295 []) ∷ []; shaped = None ∷ []; shapes = [] }
 
 -- from the opening, the machine comes to a state, with this store, and has shown these bytes
 pub data Runs (S : Script) (N : ℕ) : List ℕ → Private → State → Type 0 where
@@ -26,7 +26,7 @@ pub data Runs (S : Script) (N : ℕ) : List ℕ → Private → State → Type 0
   makes : (b : List ℕ) (h : Private) (s : State) (thing : Thing) → Runs S N b h s → move S s ≡ Make thing
       → Runs S N b (entered h thing) (replied s (reply.Value (To (next_thing h thing))))
   acts : (b : List ℕ) (h : Private) (s : State) (r : Reference) (act : Act) (thing : Thing) → Runs S N b h s → move S s ≡ Ask r act → held h r.id ≡ Some thing
-      → Runs S N b (changed h r.id (becomes thing act)) (replied s (gives thing act))
+      → Runs S N b (acted h r.id act thing) (replied s (gives thing act))
   shows : (b : List ℕ) (h : Private) (s : State) (bytes : List ℕ) → Runs S N b h s → move S s ≡ Show bytes → Runs S N (b ++ bytes) h (replied s Done)
 
 -- With at most N steps, the script shows these bytes and ends so, having begun so many steps.

@@ -6,8 +6,8 @@ use Rattle.rb_model.specs.declared.value.Sort.TheVariants as sort
 use Rattle.rb_model.specs.Acts.{Act, Reply, Done, handed}
 use Rattle.rb_model.specs.Acts as reply
 use Rattle.rb_model.specs.Ends.{End as Ending, Value, Full, Sink, Memory, told}
-use Rattle.rb_model.specs.Things.{Thing, becomes, gives, Object, Elements, Pairs, Mutex}
-use Rattle.rb_model.specs.Private.{Private, Item, Leaves, bare, held, next_id, entered, changed}
+use Rattle.rb_model.specs.Things.{Thing, gives, Object, Elements, Pairs, Mutex}
+use Rattle.rb_model.specs.Private.{Private, Item, Leaves, bare, held, next_id, entered, acted}
 use Rattle.rb_model.specs.Log.{Log, Entry, Call, On, Print, End, fresh, logged, refused}
 use Rattle.rb_machine.specs.Scopes.{Script}
 use Rattle.rb_machine.specs.Control.{State}
@@ -44,7 +44,7 @@ module _ (S : Script) (t N : ℕ) (start : State) where
         → At l (entered h thing) (replied s (reply.Value (To (next_thing h thing))))
     -- something is asked of a private thing: the plain step on it gives the reply, and there is no entry
     acts : (l : Log) (h : Private) (s : State) (r : Reference) (act : Act) (thing : Thing) → At l h s → move S s ≡ Ask r act → held h r.id ≡ Some thing
-        → At l (changed h r.id (becomes thing act)) (replied s (gives thing act))
+        → At l (acted h r.id act thing) (replied s (gives thing act))
     -- anything else that is asked of a thing is an entry; what it hands over moves, and the entry's reply goes to the machine
     asks : (l : Log) (h h' : Private) (s : State) (r : Reference) (act : Act) (moved : List Item) (answer : Reply) → At l h s → move S s ≡ Ask r act → held h r.id ≡ None
         → Leaves h (handed act) moved h' → At (logged l (entry s (On r act) moved answer)) h' (replied s answer)
@@ -65,11 +65,11 @@ module _ (S : Script) (t N : ℕ) (start : State) where
   abbrev pub last_entry : ℕ → Ending → List Item → Entry
   last_entry step e moved = record { thread = t; step = step; call = End e; moved = moved; reply = Done }
 
-  -- what a thread does from its start to its End entry; what its end tells moves
-  pub data Follows : Log → Ending → Type 0 where
+  -- what a thread does from its start to its End entry, with the private store that it leaves; what its end tells moves
+  pub data Follows : Log → Ending → Private → Type 0 where
     closes : (l : Log) (h h' : Private) (e : Ending) (n : ℕ) (moved : List Item) → Comes l h e n → Leaves h (told e) moved h'
-        → Follows (logged l (last_entry n e moved)) e
+        → Follows (logged l (last_entry n e moved)) e h'
     -- want of memory, or a full heap, in place of the end with a value
-    late : (l : Log) (h : Private) (v : Val) (n : ℕ) → Comes l h (Value v) n → Follows (logged l (last_entry n Memory [])) Memory
+    late : (l : Log) (h : Private) (v : Val) (n : ℕ) → Comes l h (Value v) n → Follows (logged l (last_entry n Memory [])) Memory h
     full : (l : Log) (h h' : Private) (v : Val) (n used asked : ℕ) (moved : List Item) → Comes l h (Value v) n → Leaves h (v ∷ []) moved h'
-        → Follows (logged (refused l (End (Value v)) moved) (last_entry n (Full used asked) [])) (Full used asked)
+        → Follows (logged (refused l (End (Value v)) moved) (last_entry n (Full used asked) [])) (Full used asked) h

@@ -385,10 +385,10 @@ is_cut own = false
 -- A main thread that asks nothing of what is shared does what its script does alone: the bytes of its prints, its end, and the step of
 -- its last entry are the same.
 abbrev pub DoesAsAlone : Type 0
-DoesAsAlone = (S : Script) (N : ℕ) (l : Log) (how : End) → Follows S 0 N (opening S N) l how → keeps_to_itself l.entries ≡ true → is_cut how ≡ false
+DoesAsAlone = (S : Script) (N : ℕ) (l : Log) (how : End) (h : Private) → Follows S 0 N (opening S N) l how h → keeps_to_itself l.entries ≡ true → is_cut how ≡ false
     → Alone S N (prints l.entries) how (last_step l.entries)
 
 -- Where it is cut short, it has shown a front of what its script shows alone.
 abbrev pub ShowsAFront : Type 0
-ShowsAFront = (S : Script) (N : ℕ) (l : Log) (how : End) (bytes : List ℕ) (own : End) (steps : ℕ) → Follows S 0 N (opening S N) l how → keeps_to_itself l.entries ≡ true
+ShowsAFront = (S : Script) (N : ℕ) (l : Log) (how : End) (h : Private) (bytes : List ℕ) (own : End) (steps : ℕ) → Follows S 0 N (opening S N) l how h → keeps_to_itself l.entries ≡ true
     → Alone S N bytes own steps → (behind : List ℕ) × (bytes ≡ prints l.entries ++ behind)

@@ -5,5 +5,6 @@ pub mod Faults
 pub mod Acts
 pub mod Things
 pub mod Doing
+pub mod Paths
 pub mod Private
 pub mod Log

@@ -4,7 +4,7 @@ ghost use Rattle.std.specs.Prelude.{◌≡◌, ◌≤◌, ◌++◌, [], ◌∷�
 ghost use Rattle.rb_model.specs.Ends.{over};
 ghost use Rattle.rb_model.specs.Ends as ending;
 ghost use Rattle.rb_model.specs.Log.{Refusal};
-ghost use Rattle.rb_model.specs.Private.{bare};
+ghost use Rattle.rb_model.specs.Private.{Private, bare};
 ghost use Rattle.rb_machine.specs.Scopes.{Script};
 ghost use Rattle.rb_machine.specs.Follows.{Follows};
 ghost use Rattle.rb_machine.specs.Alone.{opening};
@@ -27,12 +27,13 @@ use shape_tree::Tree;
 use std::alloc::{AllocError, Global};
 use std::marker::Brand;
 
-/// What a run gives back: the sink, the history, and how it ended.
+/// What a run gives back: the sink, the history, how it ended, and the shapes that the main thread's objects have had.
 #[derive(Drop)]
 pub struct Ran<K> {
     pub out: K,
     pub front: RunFront,
     pub end: End,
+    pub shapes: Tree,
 }
 
 /// A run that did not begin: the sink, and why.
@@ -44,7 +45,7 @@ pub struct Stopped<K> {
 
 /// The main thread's things before it begins: none.
 fn things_of(alloc: Global) -> Result<LocalHeap<Tree>, AllocError>
-    ensures { IfOk result (λ things. things.private ≡ bare 0) }
+    ensures { IfOk result (λ things. things ≡ bare 0) }
 {
     LocalHeap::new(alloc, 0, Tree::new(alloc)?)
 }
@@ -60,7 +61,7 @@ fn run_with<K: Sink + Drop, B: Begun>(
     requires told { K.told out ≡ B.told }
     requires faults { K.faults out ≡ B.faults }
     ensures follows { IfOk result (λ ran. (S : Script) → StandsFor code.now S → S.program ≡ program.now
-        → Follows S 0 steps (opening S steps) ran.front (over ran.end)) }
+        → (store : Private) × (store.shapes ≡ ran.shapes) × Follows S 0 steps (opening S steps) ran.front (over ran.end) store) }
     ensures refused { IfOk result (λ ran. (S : Script) → StandsFor code.now S → S.program ≡ program.now
         → over ran.end ≡ ending.Sink → (before : List Refusal) × (r : Refusal) × (ran.front.refusals ≡ before ++ r ∷ [])) }
     ensures never_full { IfOk result (λ ran. (S : Script) → StandsFor code.now S → S.program ≡ program.now
@@ -89,8 +90,15 @@ fn run_with<K: Sink + Drop, B: Begun>(
         steps,
     };
     let (store, end) = run_main(context, store, row.as_mut_slice());
-    let (out, front) = store.calls.into_parts();
-    Ok(Ran { out, front, end })
+    let MainThread { calls, things } = store;
+    let shapes = things.into_shapes();
+    let (out, front) = calls.into_parts();
+    Ok(Ran {
+        out,
+        front,
+        end,
+        shapes,
+    })
 }
 
 /// Runs a program with so many steps at most. Where it is run, it does what the reference machine says, or a part of that.
@@ -103,7 +111,7 @@ pub fn run_program<K: Sink + Drop>(
     steps: u64,
     out: K,
 ) -> Result<Ran<K>, Stopped<K>>
-    ensures runs { IfOk result (λ ran. IsRunOf program.now steps (K.told out) (K.told ran.out) ran.front (over ran.end)) }
+    ensures runs { IfOk result (λ ran. IsRunOf program.now steps (K.told out) (K.told ran.out) ran.front (over ran.end) ran.shapes) }
     ensures cause { IfOk result (λ ran. over ran.end ≡ ending.Sink → Rose (K.faults out) (K.faults ran.out)) }
     // Nothing is shared, so no heap is full.
     ensures never_full { IfOk result (λ ran. (used asked : ℕ) → over ran.end ≡ ending.Full used asked → ⊥) }

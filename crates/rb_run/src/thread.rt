@@ -20,38 +20,38 @@ pub(crate) struct MainThread<O, S: ShapeStore> {
 impl<O: OneStore, S: ShapeStore> ThreadStore for MainThread<O, S> {
     ghost log = { λ t. O.log t.calls };
 
-    ghost private = { λ t. t.things.private };
+    ghost private = { λ t. t.things };
 
     fn call(&mut self, step: u64, call: &Call) -> Answer
         requires open { has_end (O.log self.old.calls).entries ≡ false }
         ensures answers { Answers result step (asked call.now) (O.log self.old.calls) (O.log self.new.calls) }
         ensures sure { is_sure (asked call.now) ≡ true → result ≡ Answer.Done }
-        ensures private { self.new.things.private ≡ self.old.things.private }
+        ensures private { self.new.things ≡ self.old.things }
     {
         self.calls.call(step, call)
     }
 
     fn make(&mut self, make: Make) -> Result<Ref, AllocError>
-        ensures id { IfOk result (λ thing. thing.id ≡ next_id self.old.things.private) }
+        ensures id { IfOk result (λ thing. thing.id ≡ next_id self.old.things) }
         ensures sort { IfOk result (λ thing. thing.sort ≡ sort_of make) }
-        ensures private { OnOk result (self.new.things.private ≡ entered self.old.things.private (made make)) }
-        ensures err { OnErr result (self.new.things.private ≡ self.old.things.private) }
+        ensures private { OnOk result (self.new.things ≡ entered self.old.things (made make)) }
+        ensures err { OnErr result (self.new.things ≡ self.old.things) }
         ensures log { O.log self.new.calls ≡ O.log self.old.calls }
     {
         self.things.make(make)
     }
 
     fn holds(&self, id: Id) -> bool
-        ensures { result ≡ is_some (held self.now.things.private id) }
+        ensures { result ≡ is_some (held self.now.things id) }
     {
         self.things.holds(id)
     }
 
     fn apply(&mut self, id: Id, act: Act) -> Result<Reply, AllocError>
-        requires { IsSome (held self.old.things.private id) }
-        ensures reply { IfOk result (λ reply. Gives self.old.things.private id (doing act) (said reply)) }
-        ensures private { OnOk result (Becomes self.old.things.private id (doing act) self.new.things.private) }
-        ensures err { OnErr result (self.new.things.private ≡ self.old.things.private) }
+        requires { IsSome (held self.old.things id) }
+        ensures reply { IfOk result (λ reply. Gives self.old.things id (doing act) (said reply)) }
+        ensures private { OnOk result (Becomes self.old.things id (doing act) self.new.things) }
+        ensures err { OnErr result (self.new.things ≡ self.old.things) }
         ensures log { O.log self.new.calls ≡ O.log self.old.calls }
     {
         self.things.apply(id, act)

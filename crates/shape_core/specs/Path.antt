@@ -1,5 +1,5 @@
 -- The path of a shape: its edges, the newest first, and what they say of each name.
-use Rattle.std.specs.Prelude.{◌≡◌, ℕ, suc, ◌==◌, Bool, true, false, List, [], ◌∷◌, Option, Some, None, if◌then◌else◌}
+use Rattle.std.specs.Prelude.{◌≡◌, ℕ, suc, ◌==◌, Bool, true, false, List, [], ◌∷◌, ◌++◌, Option, Some, None, if◌then◌else◌}
 use Rattle.std.specs.Option.{option_map}
 use Rattle.rb_tree.specs.declared.span.NameId.{NameId}
 use Rattle.shape_core.specs.declared.edge.Kind.{Kind}
@@ -39,6 +39,13 @@ is_shared [] = false
 is_shared (Add name kind ∷ path) = is_shared path
 is_shared (Widen name ∷ path) = is_shared path
 is_shared (Share ∷ path) = true
+
+-- the names of a path, in the order in which it adds them
+abbrev pub names_on : Path → List NameId
+names_on [] = []
+names_on (Add name kind ∷ path) = names_on path ++ name ∷ []
+names_on (Widen name ∷ path) = names_on path
+names_on (Share ∷ path) = names_on path
 
 -- the newest edge
 abbrev pub last_edge : Path → Option Edge

@@ -4,7 +4,7 @@ use Rattle.rb_model.specs.Log.{Log, fresh}
 use Rattle.rb_model.specs.Private.{Private, bare}
 use Rattle.rb_machine.specs.Scopes.{Script}
 use Rattle.rb_machine.specs.Control.{Then, Instead}
-use Rattle.rb_machine.specs.Follows.{At, here}
+use Rattle.rb_machine.specs.Follows.{At, Follows, here}
 use Rattle.rb_machine.specs.Alone.{opening}
 use Rattle.rb_interp.proofs.Endings.{follows, refused_last, never_full}
 use Rattle.rb_interp.proofs.walker.run_main.Goals as goal
@@ -22,15 +22,15 @@ returns g c =
           let start = opening S budget in
           let begun = opened S budget _ _ c.requires.begun c.requires.made in
           let came = top.ensures.came S start (Then (Instead Nil) ∷ []) st e begun in
-          let closes = rw (c.end_of.ensures top.new.self.value) at c.close.ensures in
-          follows S budget start _ _ _ _ _ _ 0 _ came closes;
+          let closes = rw (c.end_of.ensures top.new.self.value) at c.close.ensures.closes in
+          subst (λ h. Follows S 0 budget start _ _ h) (sym c.close.ensures.private) (follows S budget start _ _ _ _ _ _ 0 _ came closes);
       refused = λ S st e q.
           let top = c.top-came in
           let budget = c.args.context.steps in
           let start = opening S budget in
           let begun = opened S budget _ _ c.requires.begun c.requires.made in
           let came = top.ensures.came S start (Then (Instead Nil) ∷ []) st e begun in
-          let closes = rw (c.end_of.ensures top.new.self.value) at c.close.ensures in
+          let closes = rw (c.end_of.ensures top.new.self.value) at c.close.ensures.closes in
           refused_last S budget start _ _ _ _ _ (Then (Instead Nil) ∷ []) _ 0 _ _ came closes q;
       never_full = λ S st e used asked q.
           let top = c.top-came in
@@ -38,6 +38,6 @@ returns g c =
           let start = opening S budget in
           let begun = opened S budget _ _ c.requires.begun c.requires.made in
           let came = top.ensures.came S start (Then (Instead Nil) ∷ []) st e begun in
-          let closes = rw (c.end_of.ensures top.new.self.value) at c.close.ensures in
+          let closes = rw (c.end_of.ensures top.new.self.value) at c.close.ensures.closes in
           never_full S budget start _ _ _ _ _ (Then (Instead Nil) ∷ []) _ 0 _ _ used asked came closes q;
     }
