@@ -8,7 +8,7 @@ use Rattle.shape_core.specs.declared.edge.Edge.TheVariants.{Add, Widen, Share}
 use Rattle.shape_core.specs.declared.facts.Place.{Place}
 use Rattle.shape_core.specs.declared.facts.ShapeId.{ShapeId}
 use Rattle.shape_core.specs.Path.{Path, places_of, next_place, find_on, IsPath}
-use Rattle.shape_core.specs.Shape.{Shape, IsStore, shape_at}
+use Rattle.shape_core.specs.Shape.{Shape, Gains, IsStore, same_shape, shape_at, with_shape}
 
 -- whether an edge gives a place
 abbrev pub gives_place : Edge → Bool
@@ -69,3 +69,11 @@ Stays = (later path : Path) (name : NameId) (place : Place) (kind : Kind)
 abbrev pub IdsAreShapes : Type 0
 IdsAreShapes = (shapes : List Shape) (id other : ShapeId) → IsStore shapes → id.0 < length shapes → other.0 < length shapes
     → (shape_at shapes id ≡ shape_at shapes other) ↔ (id ≡ other)
+
+-- Two shapes are the same exactly where they are one.
+abbrev pub SameAreOne : Type 0
+SameAreOne = (shape other : Shape) → (same_shape shape other ≡ true) ↔ (shape ≡ other)
+
+-- A list that gains a shape is the list with it.
+abbrev pub GainsIsWith : Type 0
+GainsIsWith = (old new : List Shape) (shape : Shape) → Gains old shape new → new ≡ with_shape old shape

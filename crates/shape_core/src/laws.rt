@@ -39,3 +39,13 @@ pub fn stays()
 pub fn ids_are_shapes()
     ensures { law.IdsAreShapes }
 {}
+
+/// Two shapes are the same, edge by edge, exactly where they are one.
+pub fn same_are_one()
+    ensures { law.SameAreOne }
+{}
+
+/// A list that gains a shape is the list with it: as it was where it had the shape, and else with it behind.
+pub fn gains_is_with()
+    ensures { law.GainsIsWith }
+{}
