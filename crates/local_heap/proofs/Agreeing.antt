@@ -6,17 +6,18 @@ use Rattle.std.specs.Option.{option_map}
 use Rattle.rb_tree.specs.declared.span.NameId.{NameId}
 use Rattle.rb_model.specs.declared.value.Id.{Id}
 use Rattle.rb_model.specs.Things.{Thing, Field}
+use Rattle.rb_model.specs.Private.{Private, shape_held}
 use Rattle.shape_core.specs.declared.edge.Kind.{Kind}
 use Rattle.shape_core.specs.declared.edge.Kind.TheVariants.{IntLoc, AnyLoc}
-use Rattle.shape_core.specs.Path.{Path, find_on, kind_on}
+use Rattle.shape_core.specs.Path.{Path, find_on, kind_on, names_on}
 use Rattle.shape_core.specs.Shape.{Shape}
 use Rattle.shape_core.proofs.Paths.{Found}
 use Rattle.local_heap.specs.declared.heap.Cell.{Cell}
 use Rattle.local_heap.specs.declared.heap.Cell.TheVariants as cell
-use Rattle.local_heap.specs.Heap.{Heap, AgreesWith, AgreesAt, is_wide, shape_of}
+use Rattle.local_heap.specs.Agreement.{Agrees, AgreesWith, AgreesAt, is_wide}
 use Rattle.local_heap.specs.Kept.{Kept}
-use Rattle.local_heap.specs.Fields.{field_of, field_found, is_any, names_on}
-use Rattle.local_heap.specs.Cells.{heap_of, still, thing_in, shape_in}
+use Rattle.local_heap.specs.Fields.{field_of, field_found, is_any}
+use Rattle.local_heap.specs.Cells.{private_of, still, thing_in, shape_in}
 use Rattle.local_heap.proofs.Laid.{named}
 use Rattle.local_heap.proofs.Cellwise.{held_cell, shaped_at}
 
@@ -46,19 +47,19 @@ module _ (kept : Kept) (path : Path) (words : List ℕ) where
 
 -- the thing of a cell agrees with the shape of the cell
 cell_agrees : (thread : ℕ) (shapes : List Shape) (kept : Kept) (cells : List Cell) (id : Id) (c : Cell) (thing : Thing)
-    → slice_get cells id.serial ≡ Some c → still shapes kept c ≡ Some thing → AgreesWith (shape_of (heap_of thread shapes kept cells) id) thing
+    → slice_get cells id.serial ≡ Some c → still shapes kept c ≡ Some thing → AgreesWith (shape_held (private_of thread shapes kept cells) id) thing
 cell_agrees thread shapes kept cells id cell.Empty thing at is = absurd (cc)
 cell_agrees thread shapes kept cells id (cell.Object o) thing at is =
     let same : thing_in shapes kept o ≡ thing = cc in
-    let shape : shape_of (heap_of thread shapes kept cells) id ≡ shape_in shapes o = shaped_at shapes cells id.serial o at in
-    subst (AgreesWith (shape_of (heap_of thread shapes kept cells) id)) same
-    (subst (λ (s : Shape). AgreesWith s (thing_in shapes kept o)) (sym shape) (record {
+    let agrees : Agrees (shape_in shapes o) (shape_in shapes o).class (map (field_of kept (shape_in shapes o).path o.words.items) (names_on (shape_in shapes o).path)) = record {
       classes = refl;
       names = names_agree kept (shape_in shapes o).path o.words.items (names_on (shape_in shapes o).path);
       kinds = kinds_agree kept (shape_in shapes o).path o.words.items (names_on (shape_in shapes o).path);
-    }))
+    } in
+    subst (AgreesWith (shape_held (private_of thread shapes kept cells) id)) same
+    (subst (λ (s : Option Shape). AgreesWith s (thing_in shapes kept o)) (sym (shaped_at shapes cells id.serial o at)) agrees)
 
-pub heap_agrees : (thread : ℕ) (shapes : List Shape) (kept : Kept) (cells : List Cell) (h : Heap) (id : Id) → heap_of thread shapes kept cells ≡ h → AgreesAt h id
-heap_agrees thread shapes kept cells h id is =
-    subst (λ (g : Heap). AgreesAt g id) is
+pub private_agrees : (thread : ℕ) (shapes : List Shape) (kept : Kept) (cells : List Cell) (h : Private) (id : Id) → private_of thread shapes kept cells ≡ h → AgreesAt h id
+private_agrees thread shapes kept cells h id is =
+    subst (λ (g : Private). AgreesAt g id) is
     (λ thing e. let found = held_cell thread shapes kept cells id thing e in cell_agrees thread shapes kept cells id found.0 thing found.1 found.2)

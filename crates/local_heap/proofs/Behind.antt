@@ -10,7 +10,7 @@ use Rattle.shape_core.specs.declared.edge.Edge.TheVariants.{Add, Widen}
 use Rattle.shape_core.specs.declared.facts.Place.{Place}
 use Rattle.shape_core.specs.Path.{Path, find_on}
 use Rattle.shape_core.proofs.Paths.{Found}
-use Rattle.local_heap.specs.Paths.{path_with, path_behind}
+use Rattle.rb_model.specs.Paths.{path_with, path_behind}
 
 module _ (path : Path) (name : NameId) where
   pub behind_new_integer : (n : ℤ) → find_on path name ≡ None → path_behind path name (Int n) ≡ Add name IntLoc ∷ path

@@ -5,6 +5,7 @@ use Rattle.std.proofs.lemmas.Bool.{eq-eqb}
 use Rattle.rb_model.specs.declared.value.Id.{Id}
 use Rattle.rb_model.specs.Things.{Thing}
 use Rattle.rb_model.specs.Private.{Private, held, or_none, entered, changed, next_id}
+use Rattle.shape_core.specs.Shape.{Shape}
 
 newest : (xs : List (Option Thing)) (x : Thing) → or_none (slice_get (xs ++ Some x ∷ []) (length xs)) ≡ Some x
 newest [] x = refl
@@ -22,8 +23,8 @@ written (z ∷ xs) zero x y e = refl
 written (z ∷ xs) (suc i) x y e = written xs i x y e
 
 -- a thing that is held is what it was changed to
-pub held_changed : (h : Private) (id : Id) (x y : Thing) → held h id ≡ Some y → held (changed h id x) id ≡ Some x
-held_changed h id x y e = by (id.thread == h.thread) e
+pub held_changed : (h : Private) (id : Id) (x y : Thing) (shape : Option Shape) → held h id ≡ Some y → held (changed h id x shape) id ≡ Some x
+held_changed h id x y shape e = by (id.thread == h.thread) e
   where
     by : (b : Bool) → cond b (or_none (slice_get h.things id.serial)) None ≡ Some y
         → cond b (or_none (slice_get (set h.things id.serial (Some x)) id.serial)) None ≡ Some x
@@ -34,5 +35,5 @@ held_changed h id x y e = by (id.thread == h.thread) e
 pub held_made : (h h' : Private) (id : Id) (x : Thing) → h' ≡ entered h x → id ≡ next_id h → held h' id ≡ Some x
 held_made h h' id x made next = ap (λ (p : Private). held p id) made ∙ ap (held (entered h x)) next ∙ held_entered h x
 
-pub held_done : (h h' : Private) (id : Id) (x y : Thing) → h' ≡ changed h id x → held h id ≡ Some y → held h' id ≡ Some x
-held_done h h' id x y done there = ap (λ (p : Private). held p id) done ∙ held_changed h id x y there
+pub held_done : (h h' : Private) (id : Id) (x y : Thing) (shape : Option Shape) → h' ≡ changed h id x shape → held h id ≡ Some y → held h' id ≡ Some x
+held_done h h' id x y shape done there = ap (λ (p : Private). held p id) done ∙ held_changed h id x y shape there

@@ -1,25 +1,26 @@
 -- The cells of a heap, as its shape store and its table grow, and where one of them changes.
 use Rattle.std.proofs.Common.{◌≡◌, ℕ, zero, suc, ◌<◌, ◌==◌, Bool, true, false, cond, List, [], ◌∷◌, ◌++◌, map, length, get_or, set, Option, Some, None, inl, inr, refl, ap, sym, ◌∙◌, subst, arith, length-append}
 use Rattle.std.specs.Prelude.{slice_get, IsSome, ◌⊎◌, Result, Ok, Err, OnOk, OnErr}
+use Rattle.std.specs.Option.{option_map}
 use Rattle.std.proofs.lemmas.List.{map_push, map-set, set-get_or}
 use Rattle.std.proofs.lemmas.Option.{slice_get_read, slice_get_within}
 use Rattle.rb_model.specs.declared.value.Id.{Id}
 use Rattle.rb_model.specs.Acts.{Act}
-use Rattle.rb_model.specs.Things.{Thing, Field, becomes}
+use Rattle.rb_model.specs.Things.{Thing, becomes}
 use Rattle.rb_model.specs.Things as thing
-use Rattle.rb_model.specs.Private.{Private, held, or_none, changed, entered}
+use Rattle.rb_model.specs.Paths.{shape_behind}
+use Rattle.rb_model.specs.Private.{Private, held, shape_held, or_none, changed, acted as acted_by, entered}
 use Rattle.shape_core.specs.declared.facts.ShapeId.{ShapeId}
-use Rattle.shape_core.specs.Path.{Path}
+use Rattle.shape_core.specs.Path.{Path, names_on}
 use Rattle.shape_core.specs.Shape.{Shape, Gains, Has, shape_at, path_at, root_of}
 use Rattle.shape_core.proofs.Stores.{shape_at-older}
+use Rattle.shape_core.proofs.Sames.{gains_is_with}
 use Rattle.local_heap.specs.declared.object.Object.{Object}
 use Rattle.local_heap.specs.declared.heap.Cell.{Cell}
 use Rattle.local_heap.specs.declared.heap.Cell.TheVariants as cell
-use Rattle.local_heap.specs.Paths.{shape_behind}
-use Rattle.local_heap.specs.Heap.{Heap, or_root, shape_of}
 use Rattle.local_heap.specs.Kept.{Kept, Extends}
-use Rattle.local_heap.specs.Fields.{IsLaid, fields_of, field_of, names_on}
-use Rattle.local_heap.specs.Cells.{IsObject, Acted, Unwritten, IsCell, AreCells, still, shaped_in, shape_in, thing_in, heap_of}
+use Rattle.local_heap.specs.Fields.{IsLaid, fields_of, field_of}
+use Rattle.local_heap.specs.Cells.{IsObject, Acted, Unwritten, IsCell, AreCells, still, shaped_in, shape_in, thing_in, private_of}
 use Rattle.local_heap.proofs.Laid.{field_stays, word_keeps, extends_itself}
 
 -- the shapes of a store keep their numbers
@@ -135,14 +136,14 @@ held_on : (b : Bool) (o : Option Thing) (x : Thing) → cond b o None ≡ Some x
 held_on true o x e = e
 held_on false o x e = absurd (cc)
 
-in_cells : (f : Cell → Option Thing) (cells : List Cell) (i : ℕ) (x : Thing) → or_none (slice_get (map f cells) i) ≡ Some x → (c : Cell) × (slice_get cells i ≡ Some c) × (f c ≡ Some x)
+in_cells : {X : Type 0} (f : Cell → Option X) (cells : List Cell) (i : ℕ) (x : X) → or_none (slice_get (map f cells) i) ≡ Some x → (c : Cell) × (slice_get cells i ≡ Some c) × (f c ≡ Some x)
 in_cells f [] i x e = absurd (cc)
 in_cells f (c ∷ cells) zero x e = (c, refl, e)
 in_cells f (c ∷ cells) (suc i) x e = in_cells f cells i x e
 
 -- the cell of a thing that is held
 pub held_cell : (thread : ℕ) (shapes : List Shape) (kept : Kept) (cells : List Cell) (id : Id) (x : Thing)
-    → held (heap_of thread shapes kept cells).private id ≡ Some x → (c : Cell) × (slice_get cells id.serial ≡ Some c) × (still shapes kept c ≡ Some x)
+    → held (private_of thread shapes kept cells) id ≡ Some x → (c : Cell) × (slice_get cells id.serial ≡ Some c) × (still shapes kept c ≡ Some x)
 held_cell thread shapes kept cells id x e = in_cells (still shapes kept) cells id.serial x (held_on (id.thread == thread) _ x e)
 
 read_at : (cells : List Cell) (i : ℕ) (c d : Cell) → slice_get cells i ≡ Some d → c ≡ get_or cells i c → c ≡ d
@@ -153,43 +154,43 @@ read_at cells i c d found read =
 
 -- the shape of the object at a serial number
 pub shaped_at : (shapes : List Shape) (cells : List Cell) (i : ℕ) (o : Object) → slice_get cells i ≡ Some (cell.Object o)
-    → or_root (slice_get (map (shaped_in shapes) cells) i) ≡ shape_in shapes o
+    → or_none (slice_get (map (shaped_in shapes) cells) i) ≡ Some (shape_in shapes o)
 shaped_at shapes [] i o e = absurd (cc)
-shaped_at shapes (c ∷ cells) zero o e = let same : c ≡ cell.Object o = cc in ap (λ (x : Cell). or_root (Some (shaped_in shapes x))) same
+shaped_at shapes (c ∷ cells) zero o e = let same : c ≡ cell.Object o = cc in ap (λ (x : Cell). shaped_in shapes x) same
 shaped_at shapes (c ∷ cells) (suc i) o e = shaped_at shapes cells i o e
 
-module _ (thread : ℕ) (shapes : List Shape) (kept : Kept) (cells : List Cell) (h : Heap) (is : heap_of thread shapes kept cells ≡ h)
-    (id : Id) (held_here : IsSome (held h.private id)) (c : Cell) (o : Object) (read : c ≡ get_or cells id.serial c) (at : c ≡ cell.Object o) where
+module _ (thread : ℕ) (shapes : List Shape) (kept : Kept) (cells : List Cell) (h : Private) (is : private_of thread shapes kept cells ≡ h)
+    (id : Id) (held_here : IsSome (held h id)) (c : Cell) (o : Object) (read : c ≡ get_or cells id.serial c) (at : c ≡ cell.Object o) where
   some_thing : (found : Option Thing) → IsSome found → (x : Thing) × (found ≡ Some x)
   some_thing None e = absurd (cc)
   some_thing (Some x) e = (x, refl)
 
-  seen_held : held (heap_of thread shapes kept cells).private id ≡ held h.private id
-  seen_held = ap (λ (g : Heap). held g.private id) is
+  seen_held : held (private_of thread shapes kept cells) id ≡ held h id
+  seen_held = ap (λ (g : Private). held g id) is
 
   there : slice_get cells id.serial ≡ Some (cell.Object o)
   there =
-      let x = some_thing (held h.private id) held_here in
+      let x = some_thing (held h id) held_here in
       let found = held_cell thread shapes kept cells id x.0 (seen_held ∙ x.1) in
       let same : c ≡ found.0 = read_at cells id.serial c found.0 found.1 read in
       found.1 ∙ ap Some (sym same ∙ at)
 
   -- a thing that is held is its object
-  pub thing_is : (x : Thing) → held h.private id ≡ Some x → thing_in shapes kept o ≡ x
+  pub thing_is : (x : Thing) → held h id ≡ Some x → thing_in shapes kept o ≡ x
   thing_is x e =
       let found = held_cell thread shapes kept cells id x (seen_held ∙ e) in
       let same : c ≡ found.0 = read_at cells id.serial c found.0 found.1 read in
       let still_is : still shapes kept (cell.Object o) ≡ Some x = ap (still shapes kept) (sym at ∙ same) ∙ found.2 in
       cc
 
-  pub held_is : held h.private id ≡ Some (thing_in shapes kept o)
+  pub held_is : held h id ≡ Some (thing_in shapes kept o)
   held_is =
-      let x = some_thing (held h.private id) held_here in
+      let x = some_thing (held h id) held_here in
       x.1 ∙ ap Some (sym (thing_is x.0 x.1))
 
   -- and so is its shape
-  pub shape_is : shape_of h id ≡ shape_in shapes o
-  shape_is = ap (λ (g : Heap). shape_of g id) (sym is) ∙ shaped_at shapes cells id.serial o there
+  pub shape_is : shape_held h id ≡ Some (shape_in shapes o)
+  shape_is = ap (λ (g : Private). shape_held g id) (sym is) ∙ shaped_at shapes cells id.serial o there
 
   pub object_is : AreCells shapes kept cells → IsObject shapes kept o
   object_is are = cell_is shapes kept cells id.serial (cell.Object o) are there
@@ -197,8 +198,8 @@ module _ (thread : ℕ) (shapes : List Shape) (kept : Kept) (cells : List Cell) 
   -- ---- an act
 
   module _ (are : AreCells shapes kept cells) (shapes' : List Shape) (kept' : Kept) (o' : Object) (more : Extends kept kept') where
-    abbrev pub after : Heap
-    after = heap_of thread shapes' kept' (set cells id.serial (cell.Object o'))
+    abbrev pub after : Private
+    after = private_of thread shapes' kept' (set cells id.serial (cell.Object o'))
 
     module _ (act : Act) (acted : Acted shapes kept o act shapes' kept' o') where
       grown_by : Grows shapes shapes'
@@ -207,27 +208,31 @@ module _ (thread : ℕ) (shapes : List Shape) (kept : Kept) (cells : List Cell) 
       pub acted_cells : AreCells shapes' kept' (set cells id.serial (cell.Object o'))
       acted_cells = cells_set shapes' kept' cells id.serial (cell.Object o') (cells_keep shapes shapes' kept kept' grown_by more cells are) acted.object
 
-      pub acted_private : (x : Thing) → held h.private id ≡ Some x → after.private ≡ changed h.private id (becomes x act)
-      acted_private x e =
-          let put : List (Option Thing) → Thing → List (Option Thing) = λ ts t. set ts id.serial (Some t) in
-          let things : map (still shapes' kept') (set cells id.serial (cell.Object o')) ≡ put (map (still shapes kept) cells) (becomes x act)
-          = map-set (still shapes' kept') cells id.serial (cell.Object o')
-          ∙ ap (λ ts. put ts (thing_in shapes' kept' o')) (things_keep shapes shapes' kept kept' grown_by more cells are)
-          ∙ ap (put (map (still shapes kept) cells)) (acted.thing ∙ ap (λ (t : Thing). becomes t act) (thing_is x e)) in
-          let by : List (Option Thing) → Private = λ ts. record { thread = thread; things = ts } in
-          ap by things ∙ ap (λ (g : Heap). changed g.private id (becomes x act)) is
+      shape_then : option_map (shape_behind act) (shape_held h id) ≡ Some (shape_in shapes' o')
+      shape_then = ap (option_map (shape_behind act)) shape_is ∙ ap Some (sym acted.shape)
 
-      pub acted_shaped : after.shaped ≡ set h.shaped id.serial (Some (shape_behind (shape_of h id) act))
+      acted_things : (x : Thing) → held h id ≡ Some x → map (still shapes' kept') (set cells id.serial (cell.Object o')) ≡ set (map (still shapes kept) cells) id.serial (Some (becomes x act))
+      acted_things x e =
+          let put : List (Option Thing) → Thing → List (Option Thing) = λ ts t. set ts id.serial (Some t) in
+          map-set (still shapes' kept') cells id.serial (cell.Object o')
+          ∙ ap (λ ts. put ts (thing_in shapes' kept' o')) (things_keep shapes shapes' kept kept' grown_by more cells are)
+          ∙ ap (put (map (still shapes kept) cells)) (acted.thing ∙ ap (λ (t : Thing). becomes t act) (thing_is x e))
+
+      acted_shaped : map (shaped_in shapes') (set cells id.serial (cell.Object o')) ≡ set (map (shaped_in shapes) cells) id.serial (Some (shape_in shapes' o'))
       acted_shaped =
           map-set (shaped_in shapes') cells id.serial (cell.Object o')
           ∙ ap (λ ss. set ss id.serial (Some (shape_in shapes' o'))) (shaped_keep shapes shapes' kept kept' grown_by more cells are)
-          ∙ ap (λ (s : Shape). set (map (shaped_in shapes) cells) id.serial (Some s)) (acted.shape ∙ ap (λ (s : Shape). shape_behind s act) (sym shape_is))
-          ∙ ap (λ (g : Heap). set g.shaped id.serial (Some (shape_behind (shape_of h id) act))) is
 
-      pub acted_gains : Gains h.shapes (shape_behind (shape_of h id) act) shapes'
-      acted_gains =
-          subst (λ (g : Heap). Gains g.shapes (shape_behind (shape_of h id) act) shapes') is
-          (subst (λ (s : Shape). Gains shapes s shapes') (acted.shape ∙ ap (λ (s : Shape). shape_behind s act) (sym shape_is)) acted.gains)
+      pub acted_private : (x : Thing) → held h id ≡ Some x → after ≡ acted_by h id act x
+      acted_private x e =
+          let by : List (Option Thing) → List (Option Shape) → List Shape → Private = λ ts ss all. record { thread = thread; things = ts; shaped = ss; shapes = all } in
+          let changed_by : Private → Private = λ g. changed g id (becomes x act) (Some (shape_in shapes' o')) in
+          ap (λ ts. by ts after.shaped shapes') (acted_things x e)
+          ∙ ap (λ ss. by (set (map (still shapes kept) cells) id.serial (Some (becomes x act))) ss shapes') acted_shaped
+          ∙ ap (λ all. by (changed_by (private_of thread shapes kept cells)).things (changed_by (private_of thread shapes kept cells)).shaped all)
+          (gains_is_with shapes shapes' (shape_in shapes' o') acted.gains)
+          ∙ ap changed_by is
+          ∙ ap (changed h id (becomes x act)) (sym shape_then)
 
     -- ---- an act that failed
 
@@ -263,10 +268,9 @@ module _ (thread : ℕ) (shapes : List Shape) (kept : Kept) (cells : List Cell) 
           ∙ sym (map-set (shaped_in shapes) cells id.serial (cell.Object o))
           ∙ ap (map (shaped_in shapes)) put_back
 
-      pub failed_heap : after ≡ h
-      failed_heap =
-          let by : List (Option Thing) → List (Option Shape) → List Shape → Heap
-          = λ ts ss all. record { private = record { thread = thread; things = ts }; shaped = ss; shapes = all } in
+      pub failed_private : after ≡ h
+      failed_private =
+          let by : List (Option Thing) → List (Option Shape) → List Shape → Private = λ ts ss all. record { thread = thread; things = ts; shaped = ss; shapes = all } in
           ap (λ ts. by ts after.shaped shapes') failed_things
           ∙ ap (λ ss. by (map (still shapes kept) cells) ss shapes') failed_shaped
           ∙ ap (by (map (still shapes kept) cells) (map (shaped_in shapes) cells)) unwritten.shapes_stay
@@ -274,7 +278,7 @@ module _ (thread : ℕ) (shapes : List Shape) (kept : Kept) (cells : List Cell) 
 
 -- ---- a new object
 
-module _ (thread : ℕ) (shapes : List Shape) (kept : Kept) (cells : List Cell) (h : Heap) (is : heap_of thread shapes kept cells ≡ h) (are : AreCells shapes kept cells)
+module _ (thread : ℕ) (shapes : List Shape) (kept : Kept) (cells : List Cell) (h : Private) (is : private_of thread shapes kept cells ≡ h) (are : AreCells shapes kept cells)
     (class : ℕ) (shapes' : List Shape) (o : Object) (has : Has shapes' o.shape (root_of class)) (gains : Gains shapes (root_of class) shapes')
     (bare : o.words.items ≡ []) (cells' : List Cell) (pushed : cells' ≡ cells ++ cell.Object o ∷ []) where
   root_grown : Grows shapes shapes'
@@ -297,20 +301,25 @@ module _ (thread : ℕ) (shapes : List Shape) (kept : Kept) (cells : List Cell) 
       subst (AreCells shapes' kept) (sym pushed)
       (cells_push shapes' kept cells (cell.Object o) (cells_keep shapes shapes' kept kept root_grown (extends_itself kept) cells are) new_object)
 
-  pub made_private : (heap_of thread shapes' kept cells').private ≡ entered h.private (thing.Object class [])
-  made_private =
-      let things : map (still shapes' kept) cells' ≡ map (still shapes kept) cells ++ Some (thing.Object class []) ∷ []
-      = ap (map (still shapes' kept)) pushed
+  made_things : map (still shapes' kept) cells' ≡ map (still shapes kept) cells ++ Some (thing.Object class []) ∷ []
+  made_things =
+      ap (map (still shapes' kept)) pushed
       ∙ map_push (still shapes' kept) cells (cell.Object o)
       ∙ ap (λ ts. ts ++ Some (thing_in shapes' kept o) ∷ []) (things_keep shapes shapes' kept kept root_grown (extends_itself kept) cells are)
-      ∙ ap (λ (t : Thing). map (still shapes kept) cells ++ Some t ∷ []) new_thing in
-      let by : List (Option Thing) → Private = λ ts. record { thread = thread; things = ts } in
-      ap by things ∙ ap (λ (g : Heap). entered g.private (thing.Object class [])) is
+      ∙ ap (λ (t : Thing). map (still shapes kept) cells ++ Some t ∷ []) new_thing
 
-  pub made_shaped : map (shaped_in shapes') cells' ≡ h.shaped ++ Some (root_of class) ∷ []
+  made_shaped : map (shaped_in shapes') cells' ≡ map (shaped_in shapes) cells ++ Some (root_of class) ∷ []
   made_shaped =
       ap (map (shaped_in shapes')) pushed
       ∙ map_push (shaped_in shapes') cells (cell.Object o)
       ∙ ap (λ ss. ss ++ Some (shape_in shapes' o) ∷ []) (shaped_keep shapes shapes' kept kept root_grown (extends_itself kept) cells are)
       ∙ ap (λ (s : Shape). map (shaped_in shapes) cells ++ Some s ∷ []) has.1
-      ∙ ap (λ (g : Heap). g.shaped ++ Some (root_of class) ∷ []) is
+
+  pub made_private : private_of thread shapes' kept cells' ≡ entered h (thing.Object class [])
+  made_private =
+      let by : List (Option Thing) → List (Option Shape) → List Shape → Private = λ ts ss all. record { thread = thread; things = ts; shaped = ss; shapes = all } in
+      let old : Private = private_of thread shapes kept cells in
+      ap (λ ts. by ts (map (shaped_in shapes') cells') shapes') made_things
+      ∙ ap (λ ss. by (entered old (thing.Object class [])).things ss shapes') made_shaped
+      ∙ ap (by (entered old (thing.Object class [])).things (entered old (thing.Object class [])).shaped) (gains_is_with shapes shapes' (root_of class) gains)
+      ∙ ap (λ (g : Private). entered g (thing.Object class [])) is

@@ -15,7 +15,7 @@ use Rattle.shape_core.specs.declared.facts.Place.{Place}
 use Rattle.shape_core.specs.Path.{Path, find_on, next_place, places_of}
 use Rattle.shape_core.proofs.Paths.{Found, found_cases, same_name, own_name}
 use Rattle.shape_core.proofs.Places.{below, apart}
-use Rattle.local_heap.specs.Paths.{path_behind}
+use Rattle.rb_model.specs.Paths.{path_behind}
 use Rattle.local_heap.specs.Words.{any_of, integer_of}
 use Rattle.local_heap.specs.Kept.{Kept, IsWord, Extends, meaning}
 use Rattle.local_heap.specs.Fields.{IsLaid, Wrote, field_of, field_found, value_by, is_any}

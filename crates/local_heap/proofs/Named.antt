@@ -9,10 +9,9 @@ use Rattle.rb_model.specs.Things.{Field, field, with_field, is_integer}
 use Rattle.shape_core.specs.declared.edge.Kind.{Kind}
 use Rattle.shape_core.specs.declared.edge.Kind.TheVariants.{IntLoc, AnyLoc}
 use Rattle.shape_core.specs.declared.edge.Edge.TheVariants.{Add, Widen, Share}
-use Rattle.shape_core.specs.Path.{Path, IsPath, find_on, next_place}
+use Rattle.shape_core.specs.Path.{Path, IsPath, find_on, next_place, names_on}
 use Rattle.shape_core.proofs.Paths.{Found, same_name}
 use Rattle.local_heap.specs.Memory.{wide_on}
-use Rattle.local_heap.specs.Fields.{names_on}
 
 abbrev has : NameId → List Field → Bool
 has name [] = false

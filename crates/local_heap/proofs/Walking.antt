@@ -6,9 +6,9 @@ use Rattle.rb_tree.specs.declared.span.NameId.{NameId}
 use Rattle.shape_core.specs.declared.edge.Edge.{Edge}
 use Rattle.shape_core.specs.declared.edge.Edge.TheVariants.{Add, Widen, Share}
 use Rattle.shape_core.specs.declared.facts.ShapeId.{ShapeId}
-use Rattle.shape_core.specs.Path.{Path, last_edge}
+use Rattle.shape_core.specs.Path.{Path, last_edge, names_on}
 use Rattle.shape_core.specs.Shape.{Shape, IsParentOf, path_at}
-use Rattle.local_heap.specs.Fields.{names_on, given_name}
+use Rattle.local_heap.specs.Fields.{given_name}
 
 -- the path that is left to walk
 abbrev pub rest_of : List Shape → Option ShapeId → Path

@@ -6,14 +6,14 @@ use Rattle.rb_model.specs.Values.{Value as Val}
 use Rattle.rb_model.specs.Acts.{Act, SetField}
 use Rattle.rb_model.specs.Things.{Thing, Field, with_field, becomes}
 use Rattle.rb_model.specs.Things as thing
+use Rattle.rb_model.specs.Paths.{shape_behind}
+use Rattle.rb_model.specs.Private.{Private}
 use Rattle.shape_core.specs.Shape.{Shape, Gains, path_at, shape_at}
 use Rattle.local_heap.specs.declared.object.Object.{Object}
 use Rattle.local_heap.specs.declared.heap.Cell.{Cell}
 use Rattle.local_heap.specs.declared.heap.Cell.TheVariants as cell
-use Rattle.local_heap.specs.Paths.{shape_behind}
 use Rattle.local_heap.specs.Kept.{Kept}
 use Rattle.local_heap.specs.Fields.{fields_of, IsLaid}
-use Rattle.local_heap.specs.Heap.{Heap}
 
 -- the shape of an object
 abbrev pub shape_in : List Shape → Object → Shape
@@ -31,7 +31,7 @@ pub record IsObject (shapes : List Shape) (kept : Kept) (o : Object) : Type 0 wh
 -- an object, before and behind the write of a value to a field
 pub record Written (shapes : List Shape) (kept : Kept) (o : Object) (name : NameId) (v : Val) (shapes' : List Shape) (kept' : Kept) (o' : Object) : Type 0 where
   pub object : IsObject shapes' kept' o'
-  pub shape : shape_in shapes' o' ≡ shape_behind (shape_in shapes o) (SetField name v)
+  pub shape : shape_in shapes' o' ≡ shape_behind (SetField name v) (shape_in shapes o)
   pub fields : fields_in shapes' kept' o' ≡ with_field name v (fields_in shapes kept o)
   pub gains : Gains shapes (shape_in shapes' o') shapes'
 
@@ -42,7 +42,7 @@ thing_in shapes kept o = thing.Object (shape_in shapes o).class (fields_in shape
 -- an object, before and behind an act
 pub record Acted (shapes : List Shape) (kept : Kept) (o : Object) (act : Act) (shapes' : List Shape) (kept' : Kept) (o' : Object) : Type 0 where
   pub object : IsObject shapes' kept' o'
-  pub shape : shape_in shapes' o' ≡ shape_behind (shape_in shapes o) act
+  pub shape : shape_in shapes' o' ≡ shape_behind act (shape_in shapes o)
   pub thing : thing_in shapes' kept' o' ≡ becomes (thing_in shapes kept o) act
   pub gains : Gains shapes (shape_in shapes' o') shapes'
 
@@ -68,9 +68,10 @@ abbrev pub AreCells : List Shape → Kept → List Cell → Type 0
 AreCells shapes kept cells = AllByRecursion (IsCell shapes kept) cells
 
 -- what a heap is
-abbrev pub heap_of : ℕ → List Shape → Kept → List Cell → Heap
-heap_of thread shapes kept cells = record {
-  private = record { thread = thread; things = map (still shapes kept) cells };
+abbrev pub private_of : ℕ → List Shape → Kept → List Cell → Private
+private_of thread shapes kept cells = record {
+  thread = thread;
+  things = map (still shapes kept) cells;
   shaped = map (shaped_in shapes) cells;
   shapes = shapes;
 }

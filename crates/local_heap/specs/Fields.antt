@@ -1,5 +1,5 @@
 -- The fields of an object: its path, its words by place, and the table of its heap.
-use Rattle.std.specs.Prelude.{◌≡◌, ℕ, Bool, true, false, List, [], ◌∷◌, ◌++◌, length, map, slice_index, Option, Some, None}
+use Rattle.std.specs.Prelude.{◌≡◌, ℕ, Bool, true, false, List, [], ◌∷◌, length, map, slice_index, Option, Some, None}
 use Rattle.rb_tree.specs.declared.span.NameId.{NameId}
 use Rattle.rb_model.specs.Values.{Value as Val, Nil, Int}
 use Rattle.rb_model.specs.Things.{Field, with_field}
@@ -8,17 +8,10 @@ use Rattle.shape_core.specs.declared.edge.Kind.TheVariants.{IntLoc, AnyLoc}
 use Rattle.shape_core.specs.declared.edge.Edge.{Edge}
 use Rattle.shape_core.specs.declared.edge.Edge.TheVariants.{Add, Widen, Share}
 use Rattle.shape_core.specs.declared.facts.Place.{Place}
-use Rattle.shape_core.specs.Path.{Path, IsPath, find_on, places_of}
-use Rattle.local_heap.specs.Paths.{path_behind}
+use Rattle.rb_model.specs.Paths.{path_behind}
+use Rattle.shape_core.specs.Path.{Path, IsPath, find_on, places_of, names_on}
 use Rattle.local_heap.specs.Words.{integer_of, any_of}
 use Rattle.local_heap.specs.Kept.{Kept, IsWord, meaning}
-
--- the names of a path, in the order in which it adds them
-abbrev pub names_on : Path → List NameId
-names_on [] = []
-names_on (Add name kind ∷ path) = names_on path ++ name ∷ []
-names_on (Widen name ∷ path) = names_on path
-names_on (Share ∷ path) = names_on path
 
 -- the name that an edge adds, if it adds one
 abbrev pub given_name : Option Edge → List NameId

@@ -1,6 +1,5 @@
-pub mod Paths
 pub mod Memory
-pub mod Heap
+pub mod Agreement
 pub mod Words
 pub mod Kept
 pub mod Fields

@@ -1,11 +1,10 @@
 // The private heap.
 
-ghost use Rattle.std.specs.Prelude.{◌≡◌, ◌++◌, ◌∷◌, [], set, IsSome, is_some, Some, None, IfOk, OnOk, OnErr};
+ghost use Rattle.std.specs.Prelude.{◌≡◌, [], IsSome, is_some, Some, IfOk, OnOk, OnErr};
 ghost use Rattle.rb_model.specs.Private.{Becomes, Gives, bare, entered, held, next_id};
 ghost use Rattle.rb_model.specs.Doing.{doing, said, made, seen, sort_of};
-ghost use Rattle.shape_core.specs.Shape.{Gains, root_of};
 ghost use Rattle.local_heap.specs.Memory.{MayWant};
-ghost use Rattle.local_heap.specs.Heap.{AgreesAt, shape_made, shape_then};
+ghost use Rattle.local_heap.specs.Agreement.{AgreesAt};
 
 use crate::object::Object;
 use crate::room::push_within;
@@ -23,8 +22,7 @@ pub enum Cell {
     Object(Object),
 }
 
-/// The things that one thread made, by their serial numbers, over a store of shapes. Contracts see the private store, the
-/// shape of each object in it, and the shapes of the shape store.
+/// The things that one thread made, by their serial numbers, over a store of shapes. Contracts see the private store.
 #[derive(Drop)]
 pub struct LocalHeap<S: ShapeStore> {
     alloc: Global,
@@ -35,25 +33,24 @@ pub struct LocalHeap<S: ShapeStore> {
 }
 
 impl<S: ShapeStore> Model for LocalHeap<S> {
-    ghost use Rattle.local_heap.specs.Heap.{Heap};
+    ghost use Rattle.rb_model.specs.Private.{Private};
 
-    ghost Value = { Heap };
+    ghost Value = { Private };
 
-    ghost use Rattle.local_heap.specs.Cells.{heap_of, AreCells};
+    ghost use Rattle.local_heap.specs.Cells.{private_of, AreCells};
 
-    ghost view = { λ h. heap_of h.thread (S.shapes h.shapes) h.table h.cells.items };
+    ghost view = { λ h. private_of h.thread (S.shapes h.shapes) h.table h.cells.items };
 
     ghost invariant = { λ h. AreCells (S.shapes h.shapes) h.table h.cells.items };
 }
 
 impl<S: ShapeStore> LocalHeap<S> {
-    /// The heap of a thread that has made nothing, over a store of shapes.
+    /// The heap of a thread that has made nothing, over a store with no shapes.
     pub fn new(alloc: Global, thread: u64, shapes: S) -> Result<LocalHeap<S>, AllocError>
     where
         S: Drop,
-        ensures private { IfOk result (λ heap. heap.private ≡ bare thread) }
-        ensures shaped { IfOk result (λ heap. heap.shaped ≡ None ∷ []) }
-        ensures shapes { IfOk result (λ heap. heap.shapes ≡ S.shapes shapes) }
+        requires { S.shapes shapes ≡ [] }
+        ensures { IfOk result (λ heap. heap ≡ bare thread) }
     {
         let mut cells = Vec::new(alloc);
         cells.push(Cell::Empty)?;
@@ -83,7 +80,7 @@ impl<S: ShapeStore> LocalHeap<S> {
 
     /// Whether the thing of an id is private here.
     pub fn holds(&self, id: Id) -> bool
-        ensures { result ≡ is_some (held self.now.private id) }
+        ensures { result ≡ is_some (held self.now id) }
     {
         if id.thread != self.thread {
             return false;
@@ -99,11 +96,9 @@ impl<S: ShapeStore> LocalHeap<S> {
 
     /// Makes a thing, under the next number.
     pub fn make(&mut self, make: Make) -> Result<Ref, AllocError>
-        ensures id { IfOk result (λ thing. thing.id ≡ next_id self.old.private) }
+        ensures id { IfOk result (λ thing. thing.id ≡ next_id self.old) }
         ensures sort { IfOk result (λ thing. thing.sort ≡ sort_of make) }
-        ensures private { OnOk result (self.new.private ≡ entered self.old.private (made make)) }
-        ensures shaped { OnOk result (self.new.shaped ≡ self.old.shaped ++ Some (shape_made make) ∷ []) }
-        ensures gains { OnOk result (Gains self.old.shapes (shape_made make) self.new.shapes) }
+        ensures private { OnOk result (self.new ≡ entered self.old (made make)) }
         ensures err { OnErr result (self.new ≡ self.old) }
     {
         match make {
@@ -113,11 +108,9 @@ impl<S: ShapeStore> LocalHeap<S> {
 
     /// Makes an object with no fields.
     fn make_object(&mut self, class: u32) -> Result<Ref, AllocError>
-        ensures id { IfOk result (λ thing. thing.id ≡ next_id self.old.private) }
+        ensures id { IfOk result (λ thing. thing.id ≡ next_id self.old) }
         ensures sort { IfOk result (λ thing. thing.sort ≡ Sort.Object class) }
-        ensures private { OnOk result (self.new.private ≡ entered self.old.private (made (Make.Object class))) }
-        ensures shaped { OnOk result (self.new.shaped ≡ self.old.shaped ++ Some (root_of class) ∷ []) }
-        ensures gains { OnOk result (Gains self.old.shapes (root_of class) self.new.shapes) }
+        ensures private { OnOk result (self.new ≡ entered self.old (made (Make.Object class))) }
         ensures err { OnErr result (self.new ≡ self.old) }
     {
         let serial = self.cells.len() as u64;
@@ -141,13 +134,11 @@ impl<S: ShapeStore> LocalHeap<S> {
 
     /// Does what is asked of a thing that is held.
     pub fn apply(&mut self, id: Id, act: Act) -> Result<Reply, AllocError>
-        requires { IsSome (held self.old.private id) }
-        ensures reply { IfOk result (λ reply. Gives self.old.private id (doing act) (said reply)) }
-        ensures private { OnOk result (Becomes self.old.private id (doing act) self.new.private) }
-        ensures shaped { OnOk result (self.new.shaped ≡ set self.old.shaped id.serial (Some (shape_then self.old id (doing act)))) }
-        ensures gains { OnOk result (Gains self.old.shapes (shape_then self.old id (doing act)) self.new.shapes) }
+        requires { IsSome (held self.old id) }
+        ensures reply { IfOk result (λ reply. Gives self.old id (doing act) (said reply)) }
+        ensures private { OnOk result (Becomes self.old id (doing act) self.new) }
         ensures err { OnErr result (self.new ≡ self.old) }
-        ensures refused { OnErr result (MayWant self.old.private id (doing act)) }
+        ensures refused { OnErr result (MayWant self.old id (doing act)) }
     {
         match &mut self.cells[id.serial as usize] {
             // Never, as the thing is held.
@@ -158,8 +149,8 @@ impl<S: ShapeStore> LocalHeap<S> {
 
     /// A copy of a thing that is held.
     pub fn thing(&self, id: Id) -> Result<Thing, AllocError>
-        requires { IsSome (held self.now.private id) }
-        ensures { IfOk result (λ thing. held self.now.private id ≡ Some (seen thing)) }
+        requires { IsSome (held self.now id) }
+        ensures { IfOk result (λ thing. held self.now id ≡ Some (seen thing)) }
     {
         match &self.cells[id.serial as usize] {
             // Never, as the thing is held.

@@ -316,7 +316,7 @@ fn make_with<S: ShapeStore>(
     name: NameId,
     n: i64,
 ) -> Result<Ref, AllocError>
-    ensures { IfOk result (λ made. held heap.new.private made.id ≡ Some (Object class (record { name = name; value = Int n; wide = false } ∷ []))) }
+    ensures { IfOk result (λ made. held heap.new made.id ≡ Some (Object class (record { name = name; value = Int n; wide = false } ∷ []))) }
 {
     let made = heap.make(Make::Object(class))?;
     heap.apply(made.id, Act::SetField(name, Value::Int(n)))?;

@@ -2,8 +2,9 @@
 
 ghost use Rattle.std.specs.Prelude.{◌≡◌, ◌<◌, ◌++◌, length, IfOk, OnOk};
 ghost use Rattle.rb_model.specs.Doing.{seen, slot};
+ghost use Rattle.shape_core.specs.Path.{names_on};
 ghost use Rattle.shape_core.specs.Shape.{path_at};
-ghost use Rattle.local_heap.specs.Fields.{field_of, given_name, names_on};
+ghost use Rattle.local_heap.specs.Fields.{field_of, given_name};
 ghost use Rattle.local_heap.specs.Cells.{IsObject, thing_in};
 
 use crate::object::Object;

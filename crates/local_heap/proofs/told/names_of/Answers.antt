@@ -2,7 +2,8 @@ use Rattle.std.proofs.Common.{◌<◌, ◌∙◌, ◌++◌, Option, ap, sym, sub
 use Rattle.std.specs.Prelude.{reverse}
 use Rattle.shape_core.specs.declared.facts.ShapeId.{ShapeId}
 use Rattle.shape_core.specs.Shape.{path_at}
-use Rattle.local_heap.specs.Fields.{names_on, given_name}
+use Rattle.shape_core.specs.Path.{names_on}
+use Rattle.local_heap.specs.Fields.{given_name}
 use Rattle.local_heap.proofs.Walking.{Known, rest_of, steps_left, walks, known_parent, fewer_steps, whole_slice}
 use Rattle.local_heap.proofs.told.names_of.Goals as goal
 

@@ -1,7 +1,7 @@
 use Rattle.std.proofs.Common.{◌≡◌, ◌++◌}
 use Rattle.std.specs.Prelude.{reverse}
 use Rattle.shape_core.specs.Shape.{path_at}
-use Rattle.local_heap.specs.Fields.{names_on}
+use Rattle.shape_core.specs.Path.{names_on}
 use Rattle.local_heap.proofs.Walking.{Known, rest_of, steps_left}
 use Rattle.local_heap.proofs.told.names_of.Given as goal
 

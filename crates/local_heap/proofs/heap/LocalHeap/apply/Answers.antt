@@ -2,7 +2,7 @@ use Rattle.std.proofs.Common.{◌∙◌, ap, inl, inr}
 use Rattle.std.proofs.lemmas.Result.{IfOk-weaker, on_ok_weaker, on_err_weaker}
 use Rattle.rb_model.specs.Things.{Thing, gives}
 use Rattle.rb_model.specs.Doing.{doing}
-use Rattle.local_heap.proofs.Cellwise.{either, acted_cells, acted_private, acted_shaped, acted_gains, failed_cells, failed_heap, thing_is}
+use Rattle.local_heap.proofs.Cellwise.{either, acted_cells, acted_private, failed_cells, failed_private, thing_is}
 use Rattle.local_heap.proofs.heap.LocalHeap.apply.Goals as goal
 
 pub invariant_of-self-in-Object : goal.invariant_of-self-in-Object
@@ -32,23 +32,9 @@ returns-in-Object-clause-private g c =
     c.args.id c.requires c.index_mut.result.now c.in-Object.object c.index_mut.ensures.value c.in-Object.is c.self.invariant
     (g.S.ShapeStore.shapes c.act.new.shapes) c.act.new.table c.act.new.self c.act.ensures.kept _ acted) c.act.ensures.acted
 
-pub returns-in-Object-clause-shaped : goal.returns-in-Object-clause-shaped
-returns-in-Object-clause-shaped g c =
-    on_ok_weaker c.act.result
-    (λ acted. acted_shaped c.self.inside.thread (g.S.ShapeStore.shapes c.self.inside.shapes) c.self.inside.table c.self.inside.cells.items c.args.self.now c.self.view_is
-    c.args.id c.requires c.index_mut.result.now c.in-Object.object c.index_mut.ensures.value c.in-Object.is c.self.invariant
-    (g.S.ShapeStore.shapes c.act.new.shapes) c.act.new.table c.act.new.self c.act.ensures.kept _ acted) c.act.ensures.acted
-
-pub returns-in-Object-clause-gains : goal.returns-in-Object-clause-gains
-returns-in-Object-clause-gains g c =
-    on_ok_weaker c.act.result
-    (λ acted. acted_gains c.self.inside.thread (g.S.ShapeStore.shapes c.self.inside.shapes) c.self.inside.table c.self.inside.cells.items c.args.self.now c.self.view_is
-    c.args.id c.requires c.index_mut.result.now c.in-Object.object c.index_mut.ensures.value c.in-Object.is c.self.invariant
-    (g.S.ShapeStore.shapes c.act.new.shapes) c.act.new.table c.act.new.self c.act.ensures.kept _ acted) c.act.ensures.acted
-
 pub returns-in-Object-clause-err : goal.returns-in-Object-clause-err
 returns-in-Object-clause-err g c =
     on_err_weaker c.act.result
-    (λ failed. failed_heap c.self.inside.thread (g.S.ShapeStore.shapes c.self.inside.shapes) c.self.inside.table c.self.inside.cells.items c.args.self.now c.self.view_is
+    (λ failed. failed_private c.self.inside.thread (g.S.ShapeStore.shapes c.self.inside.shapes) c.self.inside.table c.self.inside.cells.items c.args.self.now c.self.view_is
     c.args.id c.requires c.index_mut.result.now c.in-Object.object c.index_mut.ensures.value c.in-Object.is c.self.invariant
     (g.S.ShapeStore.shapes c.act.new.shapes) c.act.new.table c.act.new.self c.act.ensures.kept failed) c.act.ensures.err
