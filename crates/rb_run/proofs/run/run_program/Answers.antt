@@ -1,6 +1,5 @@
-use Rattle.std.proofs.Common.{refl, subst}
+use Rattle.std.proofs.Common.{refl}
 use Rattle.rb_resolver.specs.Names.{script_of}
-use Rattle.rb_run.specs.Run.{IsRunOf}
 use Rattle.rb_run.proofs.Running.{is_run, failed}
 use Rattle.rb_run.proofs.run.run_program.Goals as goal
 
@@ -8,8 +7,7 @@ pub returns-in-Ok-run_with-clause-runs : goal.returns-in-Ok-run_with-clause-runs
 returns-in-Ok-run_with-clause-runs g c =
     let ran = c.in-Ok-run_with.ensures in
     let done = ran.follows (script_of c.args.program.now) c.in-Ok.ensures refl in
-    subst (λ shapes. IsRunOf c.args.program.now c.args.steps _ _ _ _ shapes) done.1
-    (is_run c.args.program.now c.args.steps _ _ _ _ done.0 ran.own ran.written done.2)
+    is_run c.args.program.now c.args.steps _ _ _ _ _ done.0 done.1 ran.own ran.written done.2
 
 pub returns-in-Ok-run_with-clause-cause : goal.returns-in-Ok-run_with-clause-cause
 returns-in-Ok-run_with-clause-cause g c = λ q.
