@@ -235,24 +235,6 @@ fn text_deed(
     }
 }
 
-/// Whether two values are one and the same.
-fn is_same(a: &Value, b: &Value) -> bool
-    ensures { result ≡ same (plain a.now) (plain b.now) }
-{
-    match (a, b) {
-        (Value::Nil, Value::Nil) => true,
-        (Value::False, Value::False) => true,
-        (Value::True, Value::True) => true,
-        (Value::Int(m), Value::Int(n)) => *m == *n,
-        (Value::Sym(m), Value::Sym(n)) => m.0 == n.0,
-        (Value::Str(s), Value::Str(t)) => s.as_slice() == t.as_slice(),
-        (Value::Ref(r), Value::Ref(s)) => {
-            r.id.thread == s.id.thread && r.id.serial == s.id.serial
-        }
-        _ => false,
-    }
-}
-
 /// Whether two values may be compared: two arrays, and two hashes, may not unless they are one.
 fn may_compare(a: &Value, b: &Value) -> bool
     ensures { result ≡ table.may_compare (plain a.now) (plain b.now) }
@@ -273,7 +255,7 @@ fn equal(receiver: &Value, args: &[Value]) -> Deed
     let [other] = args else {
         return Deed::Raise(Fault::ArgumentCount);
     };
-    let is_equal = is_same(receiver, other);
+    let is_equal = *receiver == *other;
     if is_equal || may_compare(receiver, other) {
         truth_of(is_equal)
     } else {

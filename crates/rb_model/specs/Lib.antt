@@ -1,5 +1,7 @@
 pub mod Characters
 pub mod Values
+pub mod Hashed
+pub mod Sameness
 pub mod Ends
 pub mod Faults
 pub mod Acts

@@ -6,6 +6,7 @@ ghost use Rattle.rb_model.specs.Values.{plain};
 use crate::shared_text::SharedText;
 use rb_tree::NameId;
 use std::alloc::AllocError;
+use std::hash::{Hash, Hasher};
 
 /// The number of a thing: the thread that made it, and the how many-th it is among those that this thread made, from 1 on.
 #[derive(Clone, Copy, Debug, PartialEq, Eq)]
@@ -59,5 +60,71 @@ impl Value {
             Value::Str(text) => Value::Str(text.share()?),
             Value::Ref(thing) => Value::Ref(*thing),
         })
+    }
+}
+
+/// Two values are equal where they are one and the same: the same nil or truth value, integer, symbol, bytes or thing.
+impl PartialEq for Value {
+    ghost use Rattle.rb_model.specs.Values.{plain, same};
+    ghost use Rattle.rb_model.specs.Sameness.{same_partial};
+
+    ghost eq = { λ a b. same (plain a) (plain b) };
+
+    ghost laws = { same_partial };
+
+    fn eq(&self, other: &Value) -> bool {
+        match (self, other) {
+            (Value::Nil, Value::Nil) => true,
+            (Value::False, Value::False) => true,
+            (Value::True, Value::True) => true,
+            (Value::Int(m), Value::Int(n)) => *m == *n,
+            (Value::Sym(m), Value::Sym(n)) => m.0 == n.0,
+            (Value::Str(s), Value::Str(t)) => s.as_slice() == t.as_slice(),
+            (Value::Ref(r), Value::Ref(s)) => {
+                r.id.thread == s.id.thread && r.id.serial == s.id.serial
+            }
+            _ => false,
+        }
+    }
+}
+
+impl Eq for Value {
+    ghost use Rattle.rb_model.specs.Sameness.{same_equivalence};
+
+    ghost laws = { same_equivalence };
+}
+
+impl Hash for Value {
+    ghost use Rattle.rb_model.specs.Values.{plain};
+    ghost use Rattle.rb_model.specs.Hashed.{hashed};
+    ghost use Rattle.rb_model.specs.Sameness.{same_hashed};
+
+    ghost hash_input = { λ a. hashed (plain a) };
+
+    ghost respects_eq = { same_hashed };
+
+    fn hash<H: Hasher>(&self, state: &mut H) {
+        match self {
+            Value::Nil => state.write_u8(0),
+            Value::False => state.write_u8(1),
+            Value::True => state.write_u8(2),
+            Value::Int(n) => {
+                state.write_u8(3);
+                n.hash(state);
+            }
+            Value::Sym(name) => {
+                state.write_u8(4);
+                name.0.hash(state);
+            }
+            Value::Str(text) => {
+                state.write_u8(5);
+                text.as_slice().hash(state);
+            }
+            Value::Ref(thing) => {
+                state.write_u8(6);
+                thing.id.thread.hash(state);
+                thing.id.serial.hash(state);
+            }
+        }
     }
 }

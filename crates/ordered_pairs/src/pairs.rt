@@ -1,0 +1,161 @@
+// Pairs in the order of their keys.
+
+ghost use Rattle.std.specs.Prelude.{◌≡◌, ◌↔◌, [], length, map, true, false, IfOk, IsOk, OnOk, OnErr, Err};
+ghost use Rattle.std.specs.List.{IsDistinct};
+ghost use Rattle.std.specs.Map.{keys_of};
+ghost use Rattle.rb_model.specs.Values.{plain, same};
+ghost use Rattle.rb_model.specs.Things.{has_key, value_at, with_pair, without_key, may_put};
+ghost use Rattle.ordered_pairs.specs.Order.{pair_of};
+
+use lru::LruCache;
+use rb_model::Value;
+use std::alloc::{AllocError, AllocFailed, Global};
+use std::marker::Model;
+use thiserror::Error;
+
+/// How many pairs there are at the most.
+pub const MAX_PAIRS: usize = 16_777_216;
+
+/// Why a pair was not put.
+#[derive(Clone, Copy, Debug, PartialEq, Eq, Error)]
+pub enum PutFault {
+    /// The key is not there, and there are as many pairs as there may be.
+    #[error("too many pairs")]
+    TooLong,
+    /// Want of memory.
+    #[error("out of memory")]
+    Memory,
+}
+
+impl From<AllocFailed<(Value, Value)>> for PutFault {
+    ghost use Rattle.std.specs.Prelude.{◌≡◌};
+    ghost use Rattle.ordered_pairs.specs.declared.pairs.PutFault.TheVariants.{Memory};
+
+    ghost from_gives = { λ _ fault. fault ≡ Memory };
+
+    fn from(_: AllocFailed<(Value, Value)>) -> PutFault {
+        PutFault::Memory
+    }
+}
+
+/// Pairs of a key and a value, in the order in which their keys came. Two keys are one where they are the same value. Contracts
+/// see the list of pairs.
+///
+/// The entries are those of a cache without bound that is never asked for a key in a way that counts as a use: then its order is that of
+/// their coming, and an entry is linked out in constant time.
+#[derive(Drop)]
+pub struct OrderedPairs {
+    entries: LruCache<Value, Value>,
+}
+
+impl Model for OrderedPairs {
+    ghost use Rattle.std.specs.Prelude.{◌≡◌, ◌-◌, ◌^◌, List};
+    ghost use Rattle.rb_model.specs.Values.{Value as Val};
+    ghost use Rattle.ordered_pairs.specs.Order.{in_order};
+
+    ghost Value = { List (Val × Val) };
+
+    ghost view = { λ p. in_order p.entries.entries };
+
+    ghost invariant = { λ p. p.entries.cap ≡ 2 ^ 64 - 1 };
+}
+
+/// No key stands twice. The length of a cache tells that, and so callers ask for it.
+fn are_distinct(entries: &LruCache<Value, Value>)
+    ensures { IsDistinct (λ a b. same (plain a) (plain b)) (keys_of entries.now.entries) }
+{
+    let _ = entries.len();
+}
+
+impl OrderedPairs {
+    /// No pairs.
+    pub fn new(alloc: Global) -> Result<OrderedPairs, AllocError>
+        ensures { IfOk result (λ pairs. pairs ≡ []) }
+    {
+        Ok(OrderedPairs {
+            entries: LruCache::unbounded(alloc)?,
+        })
+    }
+
+    /// How many pairs there are.
+    pub fn len(&self) -> usize
+        ensures { result ≡ length self.now }
+    {
+        self.entries.len()
+    }
+
+    /// Whether there are none.
+    pub fn is_empty(&self) -> bool
+        ensures { (result ≡ true) ↔ (self.now ≡ []) }
+    {
+        self.entries.len() == 0
+    }
+
+    /// Whether a key is there.
+    pub fn has(&self, key: &Value) -> bool
+        ensures { result ≡ has_key (plain key.now) self.now }
+    {
+        self.entries.contains(key)
+    }
+
+    /// The value of a key, nil where it is not there. No bytes are copied. Where as many own a text as can be counted, that is want of
+    /// memory.
+    pub fn get(&self, key: &Value) -> Result<Value, AllocError>
+        ensures { IfOk result (λ value. plain value ≡ value_at (plain key.now) self.now) }
+    {
+        are_distinct(&self.entries);
+        match self.entries.peek(key) {
+            Some(value) => value.share(),
+            None => Ok(Value::Nil),
+        }
+    }
+
+    /// Gives a key a value. A key that is there keeps its place, another comes last.
+    pub fn put(&mut self, key: Value, value: Value) -> Result<(), PutFault>
+        ensures done { OnOk result (self.new ≡ with_pair (plain key) (plain value) self.old) }
+        ensures too_long { (result ≡ Err PutFault.TooLong) ↔ (may_put (plain key) self.old ≡ false) }
+        ensures kept { OnErr result (self.new ≡ self.old) }
+        ensures there { has_key (plain key) self.old ≡ true → IsOk result }
+    {
+        are_distinct(&self.entries);
+        if let Some(place) = self.entries.peek_mut(&key) {
+            *place = value;
+            return Ok(());
+        }
+        if self.entries.len() >= MAX_PAIRS {
+            return Err(PutFault::TooLong);
+        }
+        self.entries.put(key, value)?;
+        Ok(())
+    }
+
+    /// Takes the pair of a key out. Answers its value, nil where it is not there.
+    pub fn delete(&mut self, key: &Value) -> Value
+        ensures value { plain result ≡ value_at (plain key.now) self.old }
+        ensures gone { self.new ≡ without_key (plain key.now) self.old }
+    {
+        are_distinct(&self.entries);
+        match self.entries.pop(key) {
+            Some(value) => value,
+            None => Value::Nil,
+        }
+    }
+
+    /// Takes all pairs out.
+    pub fn clear(&mut self)
+        ensures { self.new ≡ [] }
+    {
+        self.entries.clear();
+    }
+
+    /// A copy of all pairs. No bytes are copied.
+    pub fn copy(&self, alloc: Global) -> Result<Vec<(Value, Value)>, AllocError>
+        ensures { IfOk result (λ pairs. map pair_of pairs.items ≡ self.now) }
+    {
+        let mut pairs = Vec::with_capacity(alloc, self.entries.len())?;
+        'pairs: for (key, value) in self.entries.iter().rev() {
+            pairs.push((key.share()?, value.share()?))?;
+        }
+        Ok(pairs)
+    }
+}
