@@ -1,27 +1,36 @@
--- The cells of a heap, as its shape store and its table grow, and where one of them changes.
+-- The cells of a heap, as its shape store grows, and where one of them changes or comes behind the others.
 use Rattle.std.proofs.Common.{◌≡◌, ℕ, zero, suc, ◌<◌, ◌==◌, Bool, true, false, cond, List, [], ◌∷◌, ◌++◌, map, length, get_or, set, Option, Some, None, inl, inr, refl, ap, sym, ◌∙◌, subst, arith, length-append}
-use Rattle.std.specs.Prelude.{slice_get, IsSome, ◌⊎◌, Result, Ok, Err, OnOk, OnErr}
+use Rattle.std.specs.Prelude.{slice_get, ◌⊎◌, Result, Ok, Err, OnOk, OnErr}
 use Rattle.std.specs.Option.{option_map}
-use Rattle.std.proofs.lemmas.List.{map_push, map-set, set-get_or}
+use Rattle.std.specs.List.{AllByRecursion}
 use Rattle.std.proofs.lemmas.Option.{slice_get_read, slice_get_within}
+use Rattle.rb_tree.specs.declared.span.NameId.{NameId}
 use Rattle.rb_model.specs.declared.value.Id.{Id}
-use Rattle.rb_model.specs.Acts.{Act}
-use Rattle.rb_model.specs.Things.{Thing, becomes}
+use Rattle.rb_model.specs.Values.{Value as Val, or_nil}
+use Rattle.rb_model.specs.Values as val
+use Rattle.rb_model.specs.Acts.{Act, SetField}
+use Rattle.rb_model.specs.Things.{Thing, Field, becomes}
 use Rattle.rb_model.specs.Things as thing
 use Rattle.rb_model.specs.Paths.{shape_behind}
-use Rattle.rb_model.specs.Private.{Private, held, shape_held, or_none, changed, acted as acted_by, entered}
+use Rattle.rb_model.specs.Private.{held, or_none}
+use Rattle.shape_core.specs.declared.edge.Kind.{Kind}
+use Rattle.shape_core.specs.declared.edge.Kind.TheVariants.{IntLoc, AnyLoc}
 use Rattle.shape_core.specs.declared.facts.ShapeId.{ShapeId}
-use Rattle.shape_core.specs.Path.{Path, names_on}
-use Rattle.shape_core.specs.Shape.{Shape, Gains, Has, shape_at, path_at, root_of}
+use Rattle.shape_core.specs.declared.facts.Place.{Place}
+use Rattle.shape_core.specs.Path.{Path, IsPath, find_on, names_on, places_of}
+use Rattle.shape_core.specs.Shape.{Shape, Gains, shape_at, path_at}
+use Rattle.shape_core.proofs.Paths.{Found}
 use Rattle.shape_core.proofs.Stores.{shape_at-older}
-use Rattle.shape_core.proofs.Sames.{gains_is_with}
+use Rattle.typed_location.specs.declared.general_place.Any.{Any}
+use Rattle.typed_location.specs.declared.general_place.Any.TheVariants as any
 use Rattle.local_heap.specs.declared.object.Object.{Object}
-use Rattle.local_heap.specs.declared.heap.Cell.{Cell}
-use Rattle.local_heap.specs.declared.heap.Cell.TheVariants as cell
-use Rattle.local_heap.specs.Kept.{Kept, Extends}
-use Rattle.local_heap.specs.Fields.{IsLaid, fields_of, field_of}
-use Rattle.local_heap.specs.Cells.{IsObject, Acted, Unwritten, IsCell, AreCells, still, shaped_in, shape_in, thing_in, private_of}
-use Rattle.local_heap.proofs.Laid.{field_stays, word_keeps, extends_itself}
+use Rattle.local_heap.specs.declared.cells.Cell.{Cell}
+use Rattle.local_heap.specs.declared.cells.Cell.TheVariants as cell
+use Rattle.local_heap.specs.Words.{any_of}
+use Rattle.local_heap.specs.Slots.{Home, Standing, IsWord, Stands, meaning, own, slot_at, thing_meaning, to_own}
+use Rattle.local_heap.specs.Fields.{AreWords, fields_of, field_of, field_found, value_by}
+use Rattle.local_heap.specs.Cells.{IsObject, IsSound, AreKnown, AreSound, classes_of, private_by, shape_in, shaped_in, still, thing_in}
+use Rattle.local_heap.proofs.Inverse.{any_of-word_of}
 
 -- the shapes of a store keep their numbers
 abbrev pub Grows : List Shape → List Shape → Type 0
@@ -43,57 +52,127 @@ pub either : {T E P Q : Type 0} (r : Result T E) → OnOk r P → OnErr r Q → 
 either (Ok x) p q = inl p
 either (Err e) p q = inr q
 
-pub always_err : {T E P : Type 0} (r : Result T E) → P → OnErr r P
-always_err (Ok x) p = tt
-always_err (Err e) p = p
-
-map_same : {A B : Type 0} (f g : A → B) (xs : List A) → ((x : A) → f x ≡ g x) → map f xs ≡ map g xs
+pub map_same : {A B : Type 0} (f g : A → B) (xs : List A) → ((x : A) → f x ≡ g x) → map f xs ≡ map g xs
 map_same f g [] same = refl
 map_same f g (x ∷ xs) same =
     let one = same x in
     let rest = map_same f g xs same in
     cc
 
-module _ (shapes shapes' : List Shape) (kept kept' : Kept) (grown : Grows shapes shapes') (more : Extends kept kept') where
-  laid_keeps : (path : Path) (words : List ℕ) → IsLaid kept path words → IsLaid kept' path words
-  laid_keeps path words laid = record {
-    valid = laid.valid;
-    long = laid.long;
-    sound = λ name place at. word_keeps kept kept' (get_or words place.0 0) more (laid.sound name place at);
-  }
+-- ---- a heap with more objects
 
-  fields_keep : (path : Path) (words : List ℕ) → IsLaid kept path words → fields_of kept' path words ≡ fields_of kept path words
-  fields_keep path words laid =
-      map_same (field_of kept' path words) (field_of kept path words) (names_on path)
-      (λ m. field_stays kept kept' path path words words m laid more refl (λ place kind at. refl))
+-- the objects of a heap keep their classes
+pub record Holds (home home' : Home) : Type 0 where
+  pub thread : home'.thread ≡ home.thread
+  pub longer : (n : ℕ) → n < length home.classes → n < length home'.classes
+  pub same : (n : ℕ) → n < length home.classes → own home' n ≡ own home n
 
-  pub object_keeps : (o : Object) → IsObject shapes kept o → IsObject shapes' kept' o
+pub holds_itself : (home : Home) → Holds home home
+holds_itself home = record { thread = refl; longer = λ n h. h; same = λ n h. refl }
+
+older_class : (xs : List (Option ℕ)) (x : Option ℕ) (n : ℕ) → n < length xs → or_none (slice_get (xs ++ x ∷ []) n) ≡ or_none (slice_get xs n)
+older_class [] x n h = absurd (omega (arith, h))
+older_class (y ∷ xs) x zero h = refl
+older_class (y ∷ xs) x (suc n) h = older_class xs x n (omega (arith, h))
+
+pub holds_more : (thread : ℕ) (classes : List (Option ℕ)) (class : Option ℕ) → Holds (record { thread = thread; classes = classes }) (record { thread = thread; classes = classes ++ class ∷ [] })
+holds_more thread classes class = record {
+  thread = refl;
+  longer = λ n h. omega (arith, h, length-append classes (class ∷ []));
+  same = λ n h. ap (λ c. or_nil (option_map (to_own thread n) c)) (older_class classes class n h);
+}
+
+module _ (home home' : Home) (more : Holds home home') where
+  thing_keeps_meaning : (whole : Val) (n : ℕ) → (whole ≡ val.Nil → n < length home.classes) → thing_meaning home' whole n ≡ thing_meaning home whole n
+  thing_keeps_meaning val.Nil n stands = more.same n (stands refl)
+  thing_keeps_meaning val.False n stands = refl
+  thing_keeps_meaning val.True n stands = refl
+  thing_keeps_meaning (val.Int i) n stands = refl
+  thing_keeps_meaning (val.Sym s) n stands = refl
+  thing_keeps_meaning (val.Str t) n stands = refl
+  thing_keeps_meaning (val.To r) n stands = refl
+
+  means_same : (whole : Val) (it : Any) → Stands home whole it → meaning home' whole it ≡ meaning home whole it
+  means_same whole any.Nil stands = refl
+  means_same whole any.False stands = refl
+  means_same whole any.True stands = refl
+  means_same whole (any.Small n) stands = refl
+  means_same whole (any.Sym n) stands = refl
+  means_same whole (any.Text n) stands = refl
+  means_same whole (any.Boxed n) stands = refl
+  means_same whole (any.Thing n) stands = thing_keeps_meaning whole n stands
+
+  stands_more : (whole : Val) (it : Any) → Stands home whole it → Stands home' whole it
+  stands_more whole any.Nil stands = tt
+  stands_more whole any.False stands = tt
+  stands_more whole any.True stands = tt
+  stands_more whole (any.Small n) stands = tt
+  stands_more whole (any.Sym n) stands = tt
+  stands_more whole (any.Text n) stands = tt
+  stands_more whole (any.Boxed n) stands = tt
+  stands_more whole (any.Thing n) stands = λ e. more.longer n (stands e)
+
+  word_keeps : (slot : Standing) → IsWord home slot → IsWord home' slot
+  word_keeps slot is = record { any = is.any; fits = is.fits; stands = stands_more slot.whole is.any is.stands; is = is.is }
+
+  value_keeps : (slot : Standing) → IsWord home slot → value_by home' AnyLoc slot ≡ value_by home AnyLoc slot
+  value_keeps slot is =
+      let e : any_of slot.word ≡ is.any = ap any_of (sym is.is) ∙ any_of-word_of is.any is.fits in
+      ap (meaning home' slot.whole) e ∙ means_same slot.whole is.any is.stands ∙ ap (meaning home slot.whole) (sym e)
+
+  field_keeps : (path : Path) (slots : ℕ → Standing) (m : NameId) → AreWords home path slots → field_of home' path slots m ≡ field_of home path slots m
+  field_keeps path slots m sound = by (find_on path m) refl
+    where
+      here : (place : Place) (kind : Kind) → find_on path m ≡ Some (place, kind)
+          → field_found home' slots m (Some (place, kind)) ≡ field_found home slots m (Some (place, kind))
+      here place IntLoc e = refl
+      here place AnyLoc e = ap (λ v. record { name = m; value = v; wide = true }) (value_keeps (slots place.0) (sound m place e))
+
+      by : (o : Option Found) → find_on path m ≡ o → field_found home' slots m o ≡ field_found home slots m o
+      by None e = refl
+      by (Some found) e = here found.0 found.1 e
+
+  fields_keep : (path : Path) (slots : ℕ → Standing) → AreWords home path slots → fields_of home' path slots ≡ fields_of home path slots
+  fields_keep path slots sound = map_same (field_of home' path slots) (field_of home path slots) (names_on path) (λ m. field_keeps path slots m sound)
+
+module _ (shapes shapes' : List Shape) (home home' : Home) (grown : Grows shapes shapes') (more : Holds home home') where
+  pub object_keeps : (o : Object) → IsObject shapes o → IsObject shapes' o
   object_keeps o is =
       let g = grown o.shape is.known in
       record {
         known = g.0;
-        laid = subst (λ (s : Shape). IsLaid kept' s.path o.words.items) (sym g.1) (laid_keeps (path_at shapes o.shape) o.words.items is.laid);
+        valid = subst (λ (s : Shape). IsPath s.path) (sym g.1) is.valid;
+        long = is.long ∙ ap (λ (s : Shape). places_of s.path) (sym g.1);
       }
 
-  thing_keeps : (o : Object) → IsObject shapes kept o → thing_in shapes' kept' o ≡ thing_in shapes kept o
-  thing_keeps o is =
-      ap (λ (s : Shape). thing.Object s.class (fields_of kept' s.path o.words.items)) (grown o.shape is.known).1
-      ∙ ap (thing.Object (shape_in shapes o).class) (fields_keep (path_at shapes o.shape) o.words.items is.laid)
+  pub sound_keeps : (o : Object) → IsObject shapes o → IsSound shapes home o → IsSound shapes' home' o
+  sound_keeps o is sound =
+      subst (λ (s : Shape). AreWords home' s.path (slot_at o)) (sym (grown o.shape is.known).1) (λ name place at. word_keeps home home' more (slot_at o place.0) (sound name place at))
 
-  pub cells_keep : (cells : List Cell) → AreCells shapes kept cells → AreCells shapes' kept' cells
-  cells_keep [] are = tt
-  cells_keep (cell.Empty ∷ cells) are = (tt, cells_keep cells are.1)
-  cells_keep (cell.Object o ∷ cells) are = (object_keeps o are.0, cells_keep cells are.1)
+  pub thing_keeps : (o : Object) → IsObject shapes o → IsSound shapes home o → thing_in shapes' home' o ≡ thing_in shapes home o
+  thing_keeps o is sound =
+      ap (λ (s : Shape). thing.Object s.class (fields_of home' s.path (slot_at o))) (grown o.shape is.known).1
+      ∙ ap (thing.Object (shape_in shapes o).class) (fields_keep home home' more (path_at shapes o.shape) (slot_at o) sound)
 
-  pub things_keep : (cells : List Cell) → AreCells shapes kept cells → map (still shapes' kept') cells ≡ map (still shapes kept) cells
-  things_keep [] are = refl
-  things_keep (cell.Empty ∷ cells) are = ap (λ ts. None ∷ ts) (things_keep cells are.1)
-  things_keep (cell.Object o ∷ cells) are =
-      let one = thing_keeps o are.0 in
-      let rest = things_keep cells are.1 in
+  pub known_keep : (cells : List Cell) → AreKnown shapes cells → AreKnown shapes' cells
+  known_keep [] are = tt
+  known_keep (cell.Empty ∷ cells) are = (tt, known_keep cells are.1)
+  known_keep (cell.Object o ∷ cells) are = (object_keeps o are.0, known_keep cells are.1)
+
+  pub sound_all : (cells : List Cell) → AreKnown shapes cells → AreSound shapes home cells → AreSound shapes' home' cells
+  sound_all [] are sound = tt
+  sound_all (cell.Empty ∷ cells) are sound = (tt, sound_all cells are.1 sound.1)
+  sound_all (cell.Object o ∷ cells) are sound = (sound_keeps o are.0 sound.0, sound_all cells are.1 sound.1)
+
+  pub things_keep : (cells : List Cell) → AreKnown shapes cells → AreSound shapes home cells → map (still shapes' home') cells ≡ map (still shapes home) cells
+  things_keep [] are sound = refl
+  things_keep (cell.Empty ∷ cells) are sound = ap (λ ts. None ∷ ts) (things_keep cells are.1 sound.1)
+  things_keep (cell.Object o ∷ cells) are sound =
+      let one = thing_keeps o are.0 sound.0 in
+      let rest = things_keep cells are.1 sound.1 in
       cc
 
-  pub shaped_keep : (cells : List Cell) → AreCells shapes kept cells → map (shaped_in shapes') cells ≡ map (shaped_in shapes) cells
+  pub shaped_keep : (cells : List Cell) → AreKnown shapes cells → map (shaped_in shapes') cells ≡ map (shaped_in shapes) cells
   shaped_keep [] are = refl
   shaped_keep (cell.Empty ∷ cells) are = ap (λ ts. None ∷ ts) (shaped_keep cells are.1)
   shaped_keep (cell.Object o ∷ cells) are =
@@ -101,34 +180,22 @@ module _ (shapes shapes' : List Shape) (kept kept' : Kept) (grown : Grows shapes
       let rest = shaped_keep cells are.1 in
       cc
 
--- objects of one shape and the same words
-object_alike : (shapes : List Shape) (kept : Kept) (o o' : Object) → o'.shape ≡ o.shape → o'.words.items ≡ o.words.items → IsObject shapes kept o → IsObject shapes kept o'
-object_alike shapes kept o o' shape words is = record {
-  known = subst (λ (id : ShapeId). id.0 < length shapes) (sym shape) is.known;
-  laid = subst (λ (id : ShapeId). IsLaid kept (path_at shapes id) o'.words.items) (sym shape)
-      (subst (λ (ws : List ℕ). IsLaid kept (path_at shapes o.shape) ws) (sym words) is.laid);
-}
-
-thing_alike : (shapes : List Shape) (kept : Kept) (o o' : Object) → o'.shape ≡ o.shape → o'.words.items ≡ o.words.items → thing_in shapes kept o' ≡ thing_in shapes kept o
-thing_alike shapes kept o o' shape words =
-    ap (λ (id : ShapeId). thing.Object (shape_at shapes id).class (fields_of kept (path_at shapes id) o'.words.items)) shape
-    ∙ ap (λ (ws : List ℕ). thing.Object (shape_in shapes o).class (fields_of kept (path_at shapes o.shape) ws)) words
-
 -- ---- lists of cells
 
-pub cells_push : (shapes : List Shape) (kept : Kept) (cells : List Cell) (c : Cell) → AreCells shapes kept cells → IsCell shapes kept c → AreCells shapes kept (cells ++ c ∷ [])
-cells_push shapes kept [] c are is = (is, tt)
-cells_push shapes kept (x ∷ cells) c are is = (are.0, cells_push shapes kept cells c are.1 is)
+module _ (P : Cell → Type 0) where
+  pub all_push : (cells : List Cell) (c : Cell) → AllByRecursion P cells → P c → AllByRecursion P (cells ++ c ∷ [])
+  all_push [] c are is = (is, tt)
+  all_push (x ∷ cells) c are is = (are.0, all_push cells c are.1 is)
 
-pub cells_set : (shapes : List Shape) (kept : Kept) (cells : List Cell) (i : ℕ) (c : Cell) → AreCells shapes kept cells → IsCell shapes kept c → AreCells shapes kept (set cells i c)
-cells_set shapes kept [] i c are is = tt
-cells_set shapes kept (x ∷ cells) zero c are is = (is, are.1)
-cells_set shapes kept (x ∷ cells) (suc i) c are is = (are.0, cells_set shapes kept cells i c are.1 is)
+  pub all_set : (cells : List Cell) (i : ℕ) (c : Cell) → AllByRecursion P cells → P c → AllByRecursion P (set cells i c)
+  all_set [] i c are is = tt
+  all_set (x ∷ cells) zero c are is = (is, are.1)
+  all_set (x ∷ cells) (suc i) c are is = (are.0, all_set cells i c are.1 is)
 
-pub cell_is : (shapes : List Shape) (kept : Kept) (cells : List Cell) (i : ℕ) (c : Cell) → AreCells shapes kept cells → slice_get cells i ≡ Some c → IsCell shapes kept c
-cell_is shapes kept [] i c are e = absurd (cc)
-cell_is shapes kept (x ∷ cells) zero c are e = let same : x ≡ c = cc in subst (IsCell shapes kept) same are.0
-cell_is shapes kept (x ∷ cells) (suc i) c are e = cell_is shapes kept cells i c are.1 e
+  pub all_at : (cells : List Cell) (i : ℕ) (c : Cell) → AllByRecursion P cells → slice_get cells i ≡ Some c → P c
+  all_at [] i c are e = absurd (cc)
+  all_at (x ∷ cells) zero c are e = let same : x ≡ c = cc in subst P same are.0
+  all_at (x ∷ cells) (suc i) c are e = all_at cells i c are.1 e
 
 -- ---- what stands at a serial number
 
@@ -142,11 +209,11 @@ in_cells f (c ∷ cells) zero x e = (c, refl, e)
 in_cells f (c ∷ cells) (suc i) x e = in_cells f cells i x e
 
 -- the cell of a thing that is held
-pub held_cell : (thread : ℕ) (shapes : List Shape) (kept : Kept) (cells : List Cell) (id : Id) (x : Thing)
-    → held (private_of thread shapes kept cells) id ≡ Some x → (c : Cell) × (slice_get cells id.serial ≡ Some c) × (still shapes kept c ≡ Some x)
-held_cell thread shapes kept cells id x e = in_cells (still shapes kept) cells id.serial x (held_on (id.thread == thread) _ x e)
+pub held_cell : (thread : ℕ) (shapes : List Shape) (home : Home) (cells : List Cell) (id : Id) (x : Thing)
+    → held (private_by thread shapes home cells) id ≡ Some x → (c : Cell) × (slice_get cells id.serial ≡ Some c) × (still shapes home c ≡ Some x)
+held_cell thread shapes home cells id x e = in_cells (still shapes home) cells id.serial x (held_on (id.thread == thread) _ x e)
 
-read_at : (cells : List Cell) (i : ℕ) (c d : Cell) → slice_get cells i ≡ Some d → c ≡ get_or cells i c → c ≡ d
+pub read_at : (cells : List Cell) (i : ℕ) (c d : Cell) → slice_get cells i ≡ Some d → c ≡ get_or cells i c → c ≡ d
 read_at cells i c d found read =
     let within = slice_get_within cells i d found in
     let same : slice_get cells i ≡ Some c = slice_get_read cells (length cells) i c refl within read in
@@ -159,167 +226,17 @@ shaped_at shapes [] i o e = absurd (cc)
 shaped_at shapes (c ∷ cells) zero o e = let same : c ≡ cell.Object o = cc in ap (λ (x : Cell). shaped_in shapes x) same
 shaped_at shapes (c ∷ cells) (suc i) o e = shaped_at shapes cells i o e
 
-module _ (thread : ℕ) (shapes : List Shape) (kept : Kept) (cells : List Cell) (h : Private) (is : private_of thread shapes kept cells ≡ h)
-    (id : Id) (held_here : IsSome (held h id)) (c : Cell) (o : Object) (read : c ≡ get_or cells id.serial c) (at : c ≡ cell.Object o) where
-  some_thing : (found : Option Thing) → IsSome found → (x : Thing) × (found ≡ Some x)
-  some_thing None e = absurd (cc)
-  some_thing (Some x) e = (x, refl)
+-- the classes of cells where the object at a number has another shape of its class
+pub classes_stay : (shaped : List (Option Shape)) (i : ℕ) (old new : Shape) → or_none (slice_get shaped i) ≡ Some old → new.class ≡ old.class
+    → classes_of (set shaped i (Some new)) ≡ classes_of shaped
+classes_stay [] i old new e same = absurd (cc)
+classes_stay (s ∷ shaped) zero old new e same = ap (λ c. c ∷ classes_of shaped) (ap Some same ∙ sym (ap (option_map (λ (x : Shape). x.class)) e))
+classes_stay (s ∷ shaped) (suc i) old new e same = ap (λ cs. option_map (λ (x : Shape). x.class) s ∷ cs) (classes_stay shaped i old new e same)
 
-  seen_held : held (private_of thread shapes kept cells) id ≡ held h id
-  seen_held = ap (λ (g : Private). held g id) is
-
-  there : slice_get cells id.serial ≡ Some (cell.Object o)
-  there =
-      let x = some_thing (held h id) held_here in
-      let found = held_cell thread shapes kept cells id x.0 (seen_held ∙ x.1) in
-      let same : c ≡ found.0 = read_at cells id.serial c found.0 found.1 read in
-      found.1 ∙ ap Some (sym same ∙ at)
-
-  -- a thing that is held is its object
-  pub thing_is : (x : Thing) → held h id ≡ Some x → thing_in shapes kept o ≡ x
-  thing_is x e =
-      let found = held_cell thread shapes kept cells id x (seen_held ∙ e) in
-      let same : c ≡ found.0 = read_at cells id.serial c found.0 found.1 read in
-      let still_is : still shapes kept (cell.Object o) ≡ Some x = ap (still shapes kept) (sym at ∙ same) ∙ found.2 in
-      cc
-
-  pub held_is : held h id ≡ Some (thing_in shapes kept o)
-  held_is =
-      let x = some_thing (held h id) held_here in
-      x.1 ∙ ap Some (sym (thing_is x.0 x.1))
-
-  -- and so is its shape
-  pub shape_is : shape_held h id ≡ Some (shape_in shapes o)
-  shape_is = ap (λ (g : Private). shape_held g id) (sym is) ∙ shaped_at shapes cells id.serial o there
-
-  pub object_is : AreCells shapes kept cells → IsObject shapes kept o
-  object_is are = cell_is shapes kept cells id.serial (cell.Object o) are there
-
-  -- ---- an act
-
-  module _ (are : AreCells shapes kept cells) (shapes' : List Shape) (kept' : Kept) (o' : Object) (more : Extends kept kept') where
-    abbrev pub after : Private
-    after = private_of thread shapes' kept' (set cells id.serial (cell.Object o'))
-
-    module _ (act : Act) (acted : Acted shapes kept o act shapes' kept' o') where
-      grown_by : Grows shapes shapes'
-      grown_by = grows shapes shapes' (shape_in shapes' o') acted.gains
-
-      pub acted_cells : AreCells shapes' kept' (set cells id.serial (cell.Object o'))
-      acted_cells = cells_set shapes' kept' cells id.serial (cell.Object o') (cells_keep shapes shapes' kept kept' grown_by more cells are) acted.object
-
-      shape_then : option_map (shape_behind act) (shape_held h id) ≡ Some (shape_in shapes' o')
-      shape_then = ap (option_map (shape_behind act)) shape_is ∙ ap Some (sym acted.shape)
-
-      acted_things : (x : Thing) → held h id ≡ Some x → map (still shapes' kept') (set cells id.serial (cell.Object o')) ≡ set (map (still shapes kept) cells) id.serial (Some (becomes x act))
-      acted_things x e =
-          let put : List (Option Thing) → Thing → List (Option Thing) = λ ts t. set ts id.serial (Some t) in
-          map-set (still shapes' kept') cells id.serial (cell.Object o')
-          ∙ ap (λ ts. put ts (thing_in shapes' kept' o')) (things_keep shapes shapes' kept kept' grown_by more cells are)
-          ∙ ap (put (map (still shapes kept) cells)) (acted.thing ∙ ap (λ (t : Thing). becomes t act) (thing_is x e))
-
-      acted_shaped : map (shaped_in shapes') (set cells id.serial (cell.Object o')) ≡ set (map (shaped_in shapes) cells) id.serial (Some (shape_in shapes' o'))
-      acted_shaped =
-          map-set (shaped_in shapes') cells id.serial (cell.Object o')
-          ∙ ap (λ ss. set ss id.serial (Some (shape_in shapes' o'))) (shaped_keep shapes shapes' kept kept' grown_by more cells are)
-
-      pub acted_private : (x : Thing) → held h id ≡ Some x → after ≡ acted_by h id act x
-      acted_private x e =
-          let by : List (Option Thing) → List (Option Shape) → List Shape → Private = λ ts ss all. record { thread = thread; things = ts; shaped = ss; shapes = all } in
-          let changed_by : Private → Private = λ g. changed g id (becomes x act) (Some (shape_in shapes' o')) in
-          ap (λ ts. by ts after.shaped shapes') (acted_things x e)
-          ∙ ap (λ ss. by (set (map (still shapes kept) cells) id.serial (Some (becomes x act))) ss shapes') acted_shaped
-          ∙ ap (λ all. by (changed_by (private_of thread shapes kept cells)).things (changed_by (private_of thread shapes kept cells)).shaped all)
-          (gains_is_with shapes shapes' (shape_in shapes' o') acted.gains)
-          ∙ ap changed_by is
-          ∙ ap (changed h id (becomes x act)) (sym shape_then)
-
-    -- ---- an act that failed
-
-    module _ (unwritten : Unwritten shapes o shapes' o') where
-      same_grown : Grows shapes shapes'
-      same_grown = stays_grown shapes shapes' unwritten.shapes_stay
-
-      same_object : IsObject shapes' kept' o'
-      same_object = object_alike shapes' kept' o o' unwritten.shape unwritten.words (object_keeps shapes shapes' kept kept' same_grown more o (object_is are))
-
-      pub failed_cells : AreCells shapes' kept' (set cells id.serial (cell.Object o'))
-      failed_cells = cells_set shapes' kept' cells id.serial (cell.Object o') (cells_keep shapes shapes' kept kept' same_grown more cells are) same_object
-
-      put_back : set cells id.serial (cell.Object o) ≡ cells
-      put_back = ap (set cells id.serial) (sym at ∙ read) ∙ set-get_or cells id.serial c
-
-      failed_things : map (still shapes' kept') (set cells id.serial (cell.Object o')) ≡ map (still shapes kept) cells
-      failed_things =
-          let put : List (Option Thing) → Thing → List (Option Thing) = λ ts t. set ts id.serial (Some t) in
-          map-set (still shapes' kept') cells id.serial (cell.Object o')
-          ∙ ap (λ ts. put ts (thing_in shapes' kept' o')) (things_keep shapes shapes' kept kept' same_grown more cells are)
-          ∙ ap (put (map (still shapes kept) cells))
-          (thing_alike shapes' kept' o o' unwritten.shape unwritten.words ∙ thing_keeps shapes shapes' kept kept' same_grown more o (object_is are))
-          ∙ sym (map-set (still shapes kept) cells id.serial (cell.Object o))
-          ∙ ap (map (still shapes kept)) put_back
-
-      failed_shaped : map (shaped_in shapes') (set cells id.serial (cell.Object o')) ≡ map (shaped_in shapes) cells
-      failed_shaped =
-          map-set (shaped_in shapes') cells id.serial (cell.Object o')
-          ∙ ap (λ ss. set ss id.serial (Some (shape_in shapes' o'))) (shaped_keep shapes shapes' kept kept' same_grown more cells are)
-          ∙ ap (λ (s : Shape). set (map (shaped_in shapes) cells) id.serial (Some s))
-          (ap (shape_at shapes') unwritten.shape ∙ ap (λ (s : List Shape). shape_at s o.shape) unwritten.shapes_stay)
-          ∙ sym (map-set (shaped_in shapes) cells id.serial (cell.Object o))
-          ∙ ap (map (shaped_in shapes)) put_back
-
-      pub failed_private : after ≡ h
-      failed_private =
-          let by : List (Option Thing) → List (Option Shape) → List Shape → Private = λ ts ss all. record { thread = thread; things = ts; shaped = ss; shapes = all } in
-          ap (λ ts. by ts after.shaped shapes') failed_things
-          ∙ ap (λ ss. by (map (still shapes kept) cells) ss shapes') failed_shaped
-          ∙ ap (by (map (still shapes kept) cells) (map (shaped_in shapes) cells)) unwritten.shapes_stay
-          ∙ is
-
--- ---- a new object
-
-module _ (thread : ℕ) (shapes : List Shape) (kept : Kept) (cells : List Cell) (h : Private) (is : private_of thread shapes kept cells ≡ h) (are : AreCells shapes kept cells)
-    (class : ℕ) (shapes' : List Shape) (o : Object) (has : Has shapes' o.shape (root_of class)) (gains : Gains shapes (root_of class) shapes')
-    (bare : o.words.items ≡ []) (cells' : List Cell) (pushed : cells' ≡ cells ++ cell.Object o ∷ []) where
-  root_grown : Grows shapes shapes'
-  root_grown = grows shapes shapes' (root_of class) gains
-
-  bare_laid : IsLaid kept [] []
-  bare_laid = record { valid = tt; long = refl; sound = λ name place e. absurd (cc) }
-
-  new_object : IsObject shapes' kept o
-  new_object = record {
-    known = has.0;
-    laid = subst (λ (s : Shape). IsLaid kept s.path o.words.items) (sym has.1) (subst (λ (ws : List ℕ). IsLaid kept [] ws) (sym bare) bare_laid);
-  }
-
-  new_thing : thing_in shapes' kept o ≡ thing.Object class []
-  new_thing = ap (λ (s : Shape). thing.Object s.class (fields_of kept s.path o.words.items)) has.1
-
-  pub made_cells : AreCells shapes' kept cells'
-  made_cells =
-      subst (AreCells shapes' kept) (sym pushed)
-      (cells_push shapes' kept cells (cell.Object o) (cells_keep shapes shapes' kept kept root_grown (extends_itself kept) cells are) new_object)
-
-  made_things : map (still shapes' kept) cells' ≡ map (still shapes kept) cells ++ Some (thing.Object class []) ∷ []
-  made_things =
-      ap (map (still shapes' kept)) pushed
-      ∙ map_push (still shapes' kept) cells (cell.Object o)
-      ∙ ap (λ ts. ts ++ Some (thing_in shapes' kept o) ∷ []) (things_keep shapes shapes' kept kept root_grown (extends_itself kept) cells are)
-      ∙ ap (λ (t : Thing). map (still shapes kept) cells ++ Some t ∷ []) new_thing
-
-  made_shaped : map (shaped_in shapes') cells' ≡ map (shaped_in shapes) cells ++ Some (root_of class) ∷ []
-  made_shaped =
-      ap (map (shaped_in shapes')) pushed
-      ∙ map_push (shaped_in shapes') cells (cell.Object o)
-      ∙ ap (λ ss. ss ++ Some (shape_in shapes' o) ∷ []) (shaped_keep shapes shapes' kept kept root_grown (extends_itself kept) cells are)
-      ∙ ap (λ (s : Shape). map (shaped_in shapes) cells ++ Some s ∷ []) has.1
-
-  pub made_private : private_of thread shapes' kept cells' ≡ entered h (thing.Object class [])
-  made_private =
-      let by : List (Option Thing) → List (Option Shape) → List Shape → Private = λ ts ss all. record { thread = thread; things = ts; shaped = ss; shapes = all } in
-      let old : Private = private_of thread shapes kept cells in
-      ap (λ ts. by ts (map (shaped_in shapes') cells') shapes') made_things
-      ∙ ap (λ ss. by (entered old (thing.Object class [])).things ss shapes') made_shaped
-      ∙ ap (by (entered old (thing.Object class [])).things (entered old (thing.Object class [])).shaped) (gains_is_with shapes shapes' (root_of class) gains)
-      ∙ ap (λ (g : Private). entered g (thing.Object class [])) is
+-- a shape keeps its class behind an act
+pub class_behind : (act : Act) (shape : Shape) → (shape_behind act shape).class ≡ shape.class
+class_behind act shape = by act
+  where
+    by : (act : Act) → (shape_behind act shape).class ≡ shape.class
+    by (SetField name v) = refl
+    by other = refl

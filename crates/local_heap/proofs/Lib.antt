@@ -1,9 +1,13 @@
 pub mod Inverse
+pub mod Slotted
 pub mod Named
 pub mod Laid
 pub mod Behind
 pub mod Objects
+pub mod Writing
 pub mod Cellwise
+pub mod Acting
 pub mod Callers
 pub mod Walking
 pub mod Agreeing
+pub mod Reading

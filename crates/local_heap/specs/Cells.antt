@@ -1,77 +1,112 @@
 -- The private things as a heap keeps them.
 use Rattle.std.specs.Prelude.{◌≡◌, ℕ, ◌<◌, List, map, length, Option, Some, None}
+use Rattle.std.specs.Option.{option_map}
 use Rattle.std.specs.List.{AllByRecursion}
 use Rattle.rb_tree.specs.declared.span.NameId.{NameId}
 use Rattle.rb_model.specs.Values.{Value as Val}
 use Rattle.rb_model.specs.Acts.{Act, SetField}
-use Rattle.rb_model.specs.Things.{Thing, Field, with_field, becomes}
+use Rattle.rb_model.specs.Things.{Thing, Field, becomes}
 use Rattle.rb_model.specs.Things as thing
 use Rattle.rb_model.specs.Paths.{shape_behind}
 use Rattle.rb_model.specs.Private.{Private}
+use Rattle.shape_core.specs.Path.{IsPath, places_of}
 use Rattle.shape_core.specs.Shape.{Shape, Gains, path_at, shape_at}
 use Rattle.local_heap.specs.declared.object.Object.{Object}
-use Rattle.local_heap.specs.declared.heap.Cell.{Cell}
-use Rattle.local_heap.specs.declared.heap.Cell.TheVariants as cell
-use Rattle.local_heap.specs.Kept.{Kept}
-use Rattle.local_heap.specs.Fields.{fields_of, IsLaid}
+use Rattle.local_heap.specs.declared.slot.Whose.{Whose}
+use Rattle.local_heap.specs.declared.cells.Cell.{Cell}
+use Rattle.local_heap.specs.declared.cells.Cell.TheVariants as cell
+use Rattle.local_heap.specs.declared.cells.Cells.{Cells}
+use Rattle.local_heap.specs.Slots.{Home, IsOwnBy, slot_at}
+use Rattle.local_heap.specs.Fields.{AreWords, Wrote, fields_of}
 
 -- the shape of an object
 abbrev pub shape_in : List Shape → Object → Shape
 shape_in shapes o = shape_at shapes o.shape
 
 -- its fields
-abbrev pub fields_in : List Shape → Kept → Object → List Field
-fields_in shapes kept o = fields_of kept (path_at shapes o.shape) o.words.items
+abbrev pub fields_in : List Shape → Home → Object → List Field
+fields_in shapes home o = fields_of home (path_at shapes o.shape) (slot_at o)
 
--- an object over its shape store and table
-pub record IsObject (shapes : List Shape) (kept : Kept) (o : Object) : Type 0 where
+-- an object over its shape store: a word for each place
+pub record IsObject (shapes : List Shape) (o : Object) : Type 0 where
   pub known : o.shape.0 < length shapes
-  pub laid : IsLaid kept (path_at shapes o.shape) o.words.items
+  pub valid : IsPath (path_at shapes o.shape)
+  pub long : length o.words.items ≡ places_of (path_at shapes o.shape)
 
--- an object, before and behind the write of a value to a field
-pub record Written (shapes : List Shape) (kept : Kept) (o : Object) (name : NameId) (v : Val) (shapes' : List Shape) (kept' : Kept) (o' : Object) : Type 0 where
-  pub object : IsObject shapes' kept' o'
+-- whose words are those of a heap
+abbrev pub IsSound : List Shape → Home → Object → Type 0
+IsSound shapes home o = AreWords home (path_at shapes o.shape) (slot_at o)
+
+-- an object, before and behind the write of a value to a field, in whatever heap
+pub record Written (shapes : List Shape) (o : Object) (name : NameId) (v : Val) (whose : Whose) (shapes' : List Shape) (o' : Object) : Type 0 where
+  pub object : IsObject shapes' o'
   pub shape : shape_in shapes' o' ≡ shape_behind (SetField name v) (shape_in shapes o)
-  pub fields : fields_in shapes' kept' o' ≡ with_field name v (fields_in shapes kept o)
   pub gains : Gains shapes (shape_in shapes' o') shapes'
-
--- the thing that an object is
-abbrev pub thing_in : List Shape → Kept → Object → Thing
-thing_in shapes kept o = thing.Object (shape_in shapes o).class (fields_in shapes kept o)
-
--- an object, before and behind an act
-pub record Acted (shapes : List Shape) (kept : Kept) (o : Object) (act : Act) (shapes' : List Shape) (kept' : Kept) (o' : Object) : Type 0 where
-  pub object : IsObject shapes' kept' o'
-  pub shape : shape_in shapes' o' ≡ shape_behind act (shape_in shapes o)
-  pub thing : thing_in shapes' kept' o' ≡ becomes (thing_in shapes kept o) act
-  pub gains : Gains shapes (shape_in shapes' o') shapes'
+  pub wrote : (home : Home) → IsSound shapes home o → IsOwnBy home whose v
+      → Wrote home (path_at shapes o.shape) (slot_at o) name v (path_at shapes' o'.shape) (slot_at o')
 
 -- an object and the shapes of its store, which a failed write left as they were
 pub record Unwritten (shapes : List Shape) (o : Object) (shapes' : List Shape) (o' : Object) : Type 0 where
   pub shapes_stay : shapes' ≡ shapes
   pub shape : o'.shape ≡ o.shape
   pub words : o'.words.items ≡ o.words.items
+  pub whole : (p : ℕ) → p < length o.words.items → slot_at o' p ≡ slot_at o p
 
-abbrev pub still : List Shape → Kept → Cell → Option Thing
-still shapes kept cell.Empty = None
-still shapes kept (cell.Object o) = Some (thing_in shapes kept o)
+-- the thing that an object is
+abbrev pub thing_in : List Shape → Home → Object → Thing
+thing_in shapes home o = thing.Object (shape_in shapes o).class (fields_in shapes home o)
+
+-- an object, before and behind an act
+pub record Acted (shapes : List Shape) (home : Home) (o : Object) (act : Act) (shapes' : List Shape) (o' : Object) : Type 0 where
+  pub object : IsObject shapes' o'
+  pub sound : IsSound shapes' home o'
+  pub shape : shape_in shapes' o' ≡ shape_behind act (shape_in shapes o)
+  pub thing : thing_in shapes' home o' ≡ becomes (thing_in shapes home o) act
+  pub gains : Gains shapes (shape_in shapes' o') shapes'
+
+abbrev pub still : List Shape → Home → Cell → Option Thing
+still shapes home cell.Empty = None
+still shapes home (cell.Object o) = Some (thing_in shapes home o)
 
 abbrev pub shaped_in : List Shape → Cell → Option Shape
 shaped_in shapes cell.Empty = None
 shaped_in shapes (cell.Object o) = Some (shape_in shapes o)
 
-abbrev pub IsCell : List Shape → Kept → Cell → Type 0
-IsCell shapes kept cell.Empty = Unit {0}
-IsCell shapes kept (cell.Object o) = IsObject shapes kept o
+-- the classes of the objects of a heap
+abbrev pub classes_of : List (Option Shape) → List (Option ℕ)
+classes_of shaped = map (option_map (λ (s : Shape). s.class)) shaped
 
-abbrev pub AreCells : List Shape → Kept → List Cell → Type 0
-AreCells shapes kept cells = AllByRecursion (IsCell shapes kept) cells
+abbrev pub home_by : ℕ → List (Option Shape) → Home
+home_by thread shaped = record { thread = thread; classes = classes_of shaped }
+
+abbrev pub home_of : List Shape → Cells → Home
+home_of shapes cells = home_by cells.thread (map (shaped_in shapes) cells.items.items)
+
+abbrev pub IsKnown : List Shape → Cell → Type 0
+IsKnown shapes cell.Empty = Unit {0}
+IsKnown shapes (cell.Object o) = IsObject shapes o
+
+abbrev pub AreKnown : List Shape → List Cell → Type 0
+AreKnown shapes cells = AllByRecursion (IsKnown shapes) cells
+
+abbrev pub IsCell : List Shape → Home → Cell → Type 0
+IsCell shapes home cell.Empty = Unit {0}
+IsCell shapes home (cell.Object o) = IsSound shapes home o
+
+abbrev pub AreSound : List Shape → Home → List Cell → Type 0
+AreSound shapes home cells = AllByRecursion (IsCell shapes home) cells
 
 -- what a heap is
-abbrev pub private_of : ℕ → List Shape → Kept → List Cell → Private
-private_of thread shapes kept cells = record {
+abbrev pub private_by : ℕ → List Shape → Home → List Cell → Private
+private_by thread shapes home cells = record {
   thread = thread;
-  things = map (still shapes kept) cells;
+  things = map (still shapes home) cells;
   shaped = map (shaped_in shapes) cells;
   shapes = shapes;
 }
+
+abbrev pub private_of : List Shape → Cells → Private
+private_of shapes cells = private_by cells.thread shapes (home_of shapes cells) cells.items.items
+
+abbrev pub AreCells : List Shape → Cells → Type 0
+AreCells shapes cells = AreKnown shapes cells.items.items × AreSound shapes (home_of shapes cells) cells.items.items

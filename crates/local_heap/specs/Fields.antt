@@ -1,5 +1,6 @@
--- The fields of an object: its path, its words by place, and the table of its heap.
-use Rattle.std.specs.Prelude.{◌≡◌, ℕ, Bool, true, false, List, [], ◌∷◌, length, map, slice_index, Option, Some, None}
+-- The fields of an object: its path, and what stands at its places.
+use Rattle.std.specs.Prelude.{◌≡◌, ℕ, Bool, true, false, List, [], ◌∷◌, map, Option, Some, None}
+use Rattle.std.specs.Option.{option_map}
 use Rattle.rb_tree.specs.declared.span.NameId.{NameId}
 use Rattle.rb_model.specs.Values.{Value as Val, Nil, Int}
 use Rattle.rb_model.specs.Things.{Field, with_field}
@@ -8,10 +9,9 @@ use Rattle.shape_core.specs.declared.edge.Kind.TheVariants.{IntLoc, AnyLoc}
 use Rattle.shape_core.specs.declared.edge.Edge.{Edge}
 use Rattle.shape_core.specs.declared.edge.Edge.TheVariants.{Add, Widen, Share}
 use Rattle.shape_core.specs.declared.facts.Place.{Place}
-use Rattle.rb_model.specs.Paths.{path_behind}
-use Rattle.shape_core.specs.Path.{Path, IsPath, find_on, places_of, names_on}
+use Rattle.shape_core.specs.Path.{Path, find_on, kind_on, names_on}
 use Rattle.local_heap.specs.Words.{integer_of, any_of}
-use Rattle.local_heap.specs.Kept.{Kept, IsWord, meaning}
+use Rattle.local_heap.specs.Slots.{Home, Standing, IsWord, meaning}
 
 -- the name that an edge adds, if it adds one
 abbrev pub given_name : Option Edge → List NameId
@@ -20,36 +20,36 @@ given_name (Some (Add name kind)) = name ∷ []
 given_name (Some (Widen name)) = []
 given_name (Some Share) = []
 
--- the value of a word, by the kind of its place
-abbrev pub value_by : Kept → Kind → ℕ → Val
-value_by kept IntLoc word = Int (integer_of word)
-value_by kept AnyLoc word = meaning kept (any_of word)
+-- the value of what stands at a place, by its kind
+abbrev pub value_by : Home → Kind → Standing → Val
+value_by home IntLoc slot = Int (integer_of slot.word)
+value_by home AnyLoc slot = meaning home slot.whole (any_of slot.word)
 
 abbrev pub is_any : Kind → Bool
 is_any IntLoc = false
 is_any AnyLoc = true
 
--- the field of a name, by where it was found
-abbrev pub field_found : Kept → List ℕ → NameId → Option (Place × Kind) → Field
-field_found kept words name None = record { name = name; value = Nil; wide = false }
-field_found kept words name (Some found) =
-    record { name = name; value = value_by kept found.1 (slice_index words found.0.0); wide = is_any found.1 }
+-- whether the field of a name is wide, where the path has one
+abbrev pub wide_in : Path → NameId → Option Bool
+wide_in path name = option_map is_any (kind_on path name)
 
-abbrev pub field_of : Kept → Path → List ℕ → NameId → Field
-field_of kept path words name = field_found kept words name (find_on path name)
+-- the field of a name, by where it was found
+abbrev pub field_found : Home → (ℕ → Standing) → NameId → Option (Place × Kind) → Field
+field_found home slots name None = record { name = name; value = Nil; wide = false }
+field_found home slots name (Some found) = record { name = name; value = value_by home found.1 (slots found.0.0); wide = is_any found.1 }
+
+abbrev pub field_of : Home → Path → (ℕ → Standing) → NameId → Field
+field_of home path slots name = field_found home slots name (find_on path name)
 
 -- all fields
-abbrev pub fields_of : Kept → Path → List ℕ → List Field
-fields_of kept path words = map (field_of kept path words) (names_on path)
+abbrev pub fields_of : Home → Path → (ℕ → Standing) → List Field
+fields_of home path slots = map (field_of home path slots) (names_on path)
 
--- Words that are those of a path: one a place, and at the place of each name that may hold any value, a word of the table.
-pub record IsLaid (kept : Kept) (path : Path) (words : List ℕ) : Type 0 where
-  pub valid : IsPath path
-  pub long : length words ≡ places_of path
-  pub sound : (name : NameId) (place : Place) → find_on path name ≡ Some (place, AnyLoc) → IsWord kept (slice_index words place.0)
+-- At the place of each name that may hold any value there is a word of the heap.
+abbrev pub AreWords : Home → Path → (ℕ → Standing) → Type 0
+AreWords home path slots = (name : NameId) (place : Place) → find_on path name ≡ Some (place, AnyLoc) → IsWord home (slots place.0)
 
--- Words over a path and a table, before and behind the write of a value to a name.
-pub record Wrote (kept : Kept) (path : Path) (words : List ℕ) (name : NameId) (v : Val) (kept' : Kept) (path' : Path) (words' : List ℕ) : Type 0 where
-  pub laid : IsLaid kept' path' words'
-  pub behind : path' ≡ path_behind path name v
-  pub fields : fields_of kept' path' words' ≡ with_field name v (fields_of kept path words)
+-- Fields of a heap, before and behind the write of a value to a name.
+pub record Wrote (home : Home) (path : Path) (slots : ℕ → Standing) (name : NameId) (v : Val) (path' : Path) (slots' : ℕ → Standing) : Type 0 where
+  pub sound : AreWords home path' slots'
+  pub fields : fields_of home path' slots' ≡ with_field name v (fields_of home path slots)

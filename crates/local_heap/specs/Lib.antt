@@ -1,6 +1,6 @@
 pub mod Memory
 pub mod Agreement
 pub mod Words
-pub mod Kept
+pub mod Slots
 pub mod Fields
 pub mod Cells

@@ -1,35 +1,28 @@
 // The private heap.
 
 ghost use Rattle.std.specs.Prelude.{◌≡◌, [], IsSome, is_some, Some, IfOk, OnOk, OnErr};
+ghost use Rattle.rb_model.specs.Values.{plain};
+ghost use Rattle.rb_model.specs.Acts.{Done, GetField, SetField};
 ghost use Rattle.rb_model.specs.Private.{Becomes, Gives, bare, entered, held, next_id};
 ghost use Rattle.rb_model.specs.Doing.{doing, said, made, seen, sort_of};
 ghost use Rattle.local_heap.specs.Memory.{MayWant};
 ghost use Rattle.local_heap.specs.Agreement.{AgreesAt};
 
+use crate::cells::{Cell, Cells};
 use crate::object::Object;
-use crate::room::push_within;
-use crate::table::Table;
-use rb_model::{Act, Id, Make, Ref, Reply, Sort, Thing};
+use rb_model::{Act, Id, Make, Ref, Reply, Sort, Thing, Value};
+use rb_tree::NameId;
 use shape_core::ShapeStore;
+use smallvec::SmallVec;
 use std::alloc::{AllocError, Global};
 use std::marker::Model;
-
-/// What stands at a serial number.
-#[derive(Drop)]
-pub enum Cell {
-    /// No thing: number 0 is that of none.
-    Empty,
-    Object(Object),
-}
 
 /// The things that one thread made, by their serial numbers, over a store of shapes. Contracts see the private store.
 #[derive(Drop)]
 pub struct LocalHeap<S: ShapeStore> {
     alloc: Global,
-    thread: u64,
     shapes: S,
-    table: Table,
-    cells: Vec<Cell>,
+    cells: Cells,
 }
 
 impl<S: ShapeStore> Model for LocalHeap<S> {
@@ -39,9 +32,9 @@ impl<S: ShapeStore> Model for LocalHeap<S> {
 
     ghost use Rattle.local_heap.specs.Cells.{private_of, AreCells};
 
-    ghost view = { λ h. private_of h.thread (S.shapes h.shapes) h.table h.cells.items };
+    ghost view = { λ h. private_of (S.shapes h.shapes) h.cells };
 
-    ghost invariant = { λ h. AreCells (S.shapes h.shapes) h.table h.cells.items };
+    ghost invariant = { λ h. AreCells (S.shapes h.shapes) h.cells };
 }
 
 impl<S: ShapeStore> LocalHeap<S> {
@@ -52,14 +45,12 @@ impl<S: ShapeStore> LocalHeap<S> {
         requires { S.shapes shapes ≡ [] }
         ensures { IfOk result (λ heap. heap ≡ bare thread) }
     {
-        let mut cells = Vec::new(alloc);
-        cells.push(Cell::Empty)?;
+        let mut items = Vec::new(alloc);
+        items.push(Cell::Empty)?;
         Ok(LocalHeap {
             alloc,
-            thread,
             shapes,
-            table: Table::new(alloc),
-            cells,
+            cells: Cells { thread, items },
         })
     }
 
@@ -82,10 +73,10 @@ impl<S: ShapeStore> LocalHeap<S> {
     pub fn holds(&self, id: Id) -> bool
         ensures { result ≡ is_some (held self.now id) }
     {
-        if id.thread != self.thread {
+        if id.thread != self.cells.thread {
             return false;
         }
-        match self.cells.get(id.serial as usize) {
+        match self.cells.items.get(id.serial as usize) {
             Some(cell) => match cell {
                 Cell::Object(_) => true,
                 Cell::Empty => false,
@@ -113,17 +104,17 @@ impl<S: ShapeStore> LocalHeap<S> {
         ensures private { OnOk result (self.new ≡ entered self.old (made (Make.Object class))) }
         ensures err { OnErr result (self.new ≡ self.old) }
     {
-        let serial = self.cells.len() as u64;
+        let serial = self.cells.items.len() as u64;
         // Room comes first, so that nothing fails once the shape is there.
-        self.cells.reserve(1)?;
+        self.cells.items.reserve(1)?;
         let shape = self.shapes.root(class)?;
-        let object = Object {
+        self.cells.items.push_reserved(Cell::Object(Object {
             shape,
-            words: Vec::new(self.alloc),
-        };
-        push_within(&mut self.cells, Cell::Object(object));
+            words: SmallVec::new(self.alloc),
+            whole: Vec::new(self.alloc),
+        }));
         let id = Id {
-            thread: self.thread,
+            thread: self.cells.thread,
             serial,
         };
         Ok(Ref {
@@ -140,10 +131,45 @@ impl<S: ShapeStore> LocalHeap<S> {
         ensures err { OnErr result (self.new ≡ self.old) }
         ensures refused { OnErr result (MayWant self.old id (doing act)) }
     {
-        match &mut self.cells[id.serial as usize] {
+        match act {
+            Act::GetField(name) => {
+                let value = self.read(id, name)?;
+                Ok(Reply::Value(value))
+            }
+            Act::SetField(name, value) => {
+                self.write(id, name, value)?;
+                Ok(Reply::Done)
+            }
+        }
+    }
+
+    /// The value of a field.
+    fn read(&self, id: Id, name: NameId) -> Result<Value, AllocError>
+        requires { IsSome (held self.now id) }
+        ensures reply { IfOk result (λ value. Gives self.now id (GetField name) (said (Reply.Value value))) }
+        ensures private { OnOk result (Becomes self.now id (GetField name) self.now) }
+        ensures refused { OnErr result (MayWant self.now id (GetField name)) }
+    {
+        match &self.cells.items[id.serial as usize] {
             // Never, as the thing is held.
             Cell::Empty => Err(AllocError),
-            Cell::Object(object) => object.act(&mut self.shapes, &mut self.table, act),
+            Cell::Object(object) => self.cells.read(&self.shapes, object, name),
+        }
+    }
+
+    /// Gives a field a value.
+    fn write(&mut self, id: Id, name: NameId, value: Value) -> Result<(), AllocError>
+        requires { IsSome (held self.old id) }
+        ensures reply { OnOk result (Gives self.old id (SetField name (plain value)) Done) }
+        ensures private { OnOk result (Becomes self.old id (SetField name (plain value)) self.new) }
+        ensures err { OnErr result (self.new ≡ self.old) }
+        ensures refused { OnErr result (MayWant self.old id (SetField name (plain value))) }
+    {
+        let whose = self.cells.whose(&self.shapes, &value);
+        match &mut self.cells.items[id.serial as usize] {
+            // Never, as the thing is held.
+            Cell::Empty => Err(AllocError),
+            Cell::Object(object) => object.write(&mut self.shapes, name, value, whose),
         }
     }
 
@@ -152,10 +178,10 @@ impl<S: ShapeStore> LocalHeap<S> {
         requires { IsSome (held self.now id) }
         ensures { IfOk result (λ thing. held self.now id ≡ Some (seen thing)) }
     {
-        match &self.cells[id.serial as usize] {
+        match &self.cells.items[id.serial as usize] {
             // Never, as the thing is held.
             Cell::Empty => Err(AllocError),
-            Cell::Object(object) => object.told(self.alloc, &self.shapes, &self.table),
+            Cell::Object(object) => self.cells.told(self.alloc, &self.shapes, object),
         }
     }
 

@@ -6,10 +6,13 @@ ghost use Rattle.rb_model.specs.Things.{Object};
 ghost use Rattle.rb_model.specs.Private.{held};
 
 use crate::LocalHeap;
+use crate::object::Object;
+use crate::slot::Whose;
 use rb_model::{Act, Id, Make, Ref, Reply, SharedText, Sort, Thing, Value};
 use rb_tree::NameId;
 use shape_core::ShapeStore;
 use shape_tree::Tree;
+use smallvec::SmallVec;
 use std::alloc::{AllocError, Global};
 use std::test::Fail;
 
@@ -24,6 +27,8 @@ enum Row {
     Text(&'static str),
     /// The object of this number.
     Object(u64),
+    /// Another reference.
+    To(Ref),
 }
 
 /// What is done to the heap, in turn. Objects are named by their serial numbers.
@@ -59,6 +64,7 @@ fn value(alloc: Global, row: Row) -> Result<Value, AllocError> {
         Row::Sym(number) => Value::Sym(NameId(number)),
         Row::Text(text) => Value::Str(SharedText::from_slice(alloc, text.as_bytes())?),
         Row::Object(serial) => Value::Ref(thing(serial)),
+        Row::To(other) => Value::Ref(other),
     })
 }
 
@@ -72,6 +78,7 @@ fn is(value: &Value, row: Row) -> bool {
         (Value::Sym(name), Row::Sym(number)) => name.0 == number,
         (Value::Str(text), Row::Text(want)) => text.as_slice() == want.as_bytes(),
         (Value::Ref(r), Row::Object(serial)) => *r == thing(serial),
+        (Value::Ref(r), Row::To(other)) => *r == other,
         _ => false,
     }
 }
@@ -145,8 +152,33 @@ const ORDERS: [Step; 12] = [
     Shapes(6),
 ];
 
+/// References that are to no object of the heap, though they may look so.
+const LIST: Ref = Ref {
+    sort: Sort::List,
+    id: Id {
+        thread: 4,
+        serial: 1,
+    },
+};
+
+const OF_ANOTHER_CLASS: Ref = Ref {
+    sort: Sort::Object(9),
+    id: Id {
+        thread: 3,
+        serial: 1,
+    },
+};
+
+const NOT_MADE: Ref = Ref {
+    sort: Sort::Object(7),
+    id: Id {
+        thread: 3,
+        serial: 2,
+    },
+};
+
 /// Every kind of value in one place for any value, and the bounds of what a word holds.
-const VALUES: [Step; 24] = [
+const VALUES: [Step; 32] = [
     New(7),
     Set(1, 0, Row::Nil),
     Has(1, 0, Row::Nil),
@@ -170,6 +202,14 @@ const VALUES: [Step; 24] = [
     Has(1, 0, Row::Text("text")),
     Set(1, 0, Row::Object(1)),
     Has(1, 0, Row::Object(1)),
+    Set(1, 0, Row::To(LIST)),
+    Has(1, 0, Row::To(LIST)),
+    Set(1, 0, Row::Object(1)),
+    Has(1, 0, Row::Object(1)),
+    Set(1, 0, Row::To(OF_ANOTHER_CLASS)),
+    Has(1, 0, Row::To(OF_ANOTHER_CLASS)),
+    Set(1, 0, Row::To(NOT_MADE)),
+    Has(1, 0, Row::To(NOT_MADE)),
     Shapes(2),
 ];
 
@@ -306,6 +346,30 @@ fn a_write_that_fails_leaves_all_as_it_was(rt: HostRuntime) -> Result<(), Fail> 
         assert!(rt; has(&mut heap, 1, 5, new)?);
         old = new;
     }
+    Ok(())
+}
+
+#[test]
+fn values_that_are_overwritten_are_not_kept(rt: HostRuntime) -> Result<(), Fail> {
+    let alloc = rt.alloc();
+    let mut tree = Tree::new(alloc)?;
+    let mut object = Object {
+        shape: tree.root(7)?,
+        words: SmallVec::new(alloc),
+        whole: Vec::new(alloc),
+    };
+    for row in [
+        Row::Int(5),
+        Row::Text("text"),
+        Row::Int(i64::MIN),
+        Row::To(LIST),
+        Row::Object(1),
+    ] {
+        object.write(&mut tree, NameId(3), value(alloc, row)?, Whose::Others)?;
+    }
+    assert_eq!(rt; (object.words.len(), object.whole.len()), (2, 2));
+    object.write(&mut tree, NameId(3), Value::Nil, Whose::Others)?;
+    assert!(rt; object.whole.iter().all(|whole| matches!(whole, Value::Nil)));
     Ok(())
 }
 

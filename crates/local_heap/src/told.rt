@@ -4,53 +4,58 @@ ghost use Rattle.std.specs.Prelude.{◌≡◌, ◌<◌, ◌++◌, length, IfOk, 
 ghost use Rattle.rb_model.specs.Doing.{seen, slot};
 ghost use Rattle.shape_core.specs.Path.{names_on};
 ghost use Rattle.shape_core.specs.Shape.{path_at};
+ghost use Rattle.local_heap.specs.Slots.{slot_at};
 ghost use Rattle.local_heap.specs.Fields.{field_of, given_name};
-ghost use Rattle.local_heap.specs.Cells.{IsObject, thing_in};
+ghost use Rattle.local_heap.specs.Cells.{AreKnown, IsObject, IsSound, home_of, thing_in};
 
+use crate::cells::Cells;
 use crate::object::Object;
-use crate::table::Table;
 use rb_model::{Field, Thing, Value};
 use rb_tree::NameId;
 use shape_core::{Edge, Kind, ShapeId, ShapeStore};
 use std::alloc::{AllocError, Global};
 
-impl Object {
-    /// A copy of the object.
+impl Cells {
+    /// A copy of an object.
     pub fn told<S: ShapeStore>(
         &self,
         alloc: Global,
         shapes: &S,
-        table: &Table,
+        object: &Object,
     ) -> Result<Thing, AllocError>
-        requires { IsObject (S.shapes shapes.now) table.now self.now }
-        ensures { IfOk result (λ thing. seen thing ≡ thing_in (S.shapes shapes.now) table.now self.now) }
+        requires known { AreKnown (S.shapes shapes.now) self.now.items.items }
+        requires object { IsObject (S.shapes shapes.now) object.now }
+        requires sound { IsSound (S.shapes shapes.now) (home_of (S.shapes shapes.now) self.now) object.now }
+        ensures { IfOk result (λ thing. seen thing ≡ thing_in (S.shapes shapes.now) (home_of (S.shapes shapes.now) self.now) object.now) }
     {
-        let names = names_of(alloc, shapes, self.shape)?;
+        let names = names_of(alloc, shapes, object.shape)?;
         let mut fields = Vec::new(alloc);
         for name in &names {
-            fields.push(self.field(shapes, table, *name)?)?;
+            fields.push(self.field(shapes, object, *name)?)?;
         }
-        Ok(Thing::Object(shapes.facts(self.shape).class, fields))
+        Ok(Thing::Object(shapes.facts(object.shape).class, fields))
     }
 
     /// A copy of a field.
     fn field<S: ShapeStore>(
         &self,
         shapes: &S,
-        table: &Table,
+        object: &Object,
         name: NameId,
     ) -> Result<Field, AllocError>
-        requires { IsObject (S.shapes shapes.now) table.now self.now }
-        ensures { IfOk result (λ field. slot field ≡ field_of table.now (path_at (S.shapes shapes.now) self.now.shape) self.now.words.items name) }
+        requires known { AreKnown (S.shapes shapes.now) self.now.items.items }
+        requires object { IsObject (S.shapes shapes.now) object.now }
+        requires sound { IsSound (S.shapes shapes.now) (home_of (S.shapes shapes.now) self.now) object.now }
+        ensures { IfOk result (λ field. slot field ≡ field_of (home_of (S.shapes shapes.now) self.now) (path_at (S.shapes shapes.now) object.now.shape) (slot_at object.now) name) }
     {
-        let Some((place, kind)) = shapes.find(self.shape, name) else {
+        let Some((place, kind)) = shapes.find(object.shape, name) else {
             return Ok(Field {
                 name,
                 value: Value::Nil,
                 wide: false,
             });
         };
-        let value = self.read_at(table, place, kind)?;
+        let value = self.read_at(shapes, object, place, kind)?;
         Ok(Field {
             name,
             value,

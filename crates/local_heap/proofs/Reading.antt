@@ -1,0 +1,42 @@
+-- What is found at serial numbers, and what is read of an object.
+use Rattle.std.proofs.Common.{◌≡◌, ℕ, ◌<◌, zero, suc, List, [], ◌∷◌, map, length, get_or, Option, Some, None, refl, ap, sym, ◌∙◌}
+use Rattle.std.specs.Prelude.{slice_get, IfSome}
+use Rattle.std.proofs.lemmas.Option.{slice_get_read}
+use Rattle.std.specs.Option.{option_map}
+use Rattle.rb_model.specs.Private.{or_none}
+use Rattle.shape_core.specs.Shape.{Shape}
+use Rattle.typed_location.specs.declared.general_place.Any.{Any}
+use Rattle.typed_location.specs.Word.{word_of, Fits}
+use Rattle.local_heap.specs.declared.cells.Cell.{Cell}
+use Rattle.local_heap.specs.Words.{any_of}
+use Rattle.local_heap.specs.Cells.{classes_of, shaped_in}
+use Rattle.local_heap.proofs.Inverse.{any_of-word_of}
+
+abbrev pub class_in : List Shape → Cell → Option ℕ
+class_in shapes c = option_map (λ (s : Shape). s.class) (shaped_in shapes c)
+
+pub class_found : (shapes : List Shape) (cells : List Cell) (n : ℕ) (c : Cell) → slice_get cells n ≡ Some c
+    → or_none (slice_get (classes_of (map (shaped_in shapes) cells)) n) ≡ class_in shapes c
+class_found shapes [] n c e = absurd (cc)
+class_found shapes (x ∷ cells) zero c e = let same : x ≡ c = cc in ap (class_in shapes) same
+class_found shapes (x ∷ cells) (suc n) c e = class_found shapes cells n c e
+
+pub no_class : (shapes : List Shape) (cells : List Cell) (n : ℕ) → slice_get cells n ≡ None → or_none (slice_get (classes_of (map (shaped_in shapes) cells)) n) ≡ None
+no_class shapes [] n e = refl
+no_class shapes (x ∷ cells) zero e = absurd (cc)
+no_class shapes (x ∷ cells) (suc n) e = no_class shapes cells n e
+
+-- what a word was made of
+word_read : (it : Any) (word : ℕ) → Fits it → word_of it ≡ word → it ≡ any_of word
+word_read it word fits e = sym (any_of-word_of it fits) ∙ ap any_of e
+
+pub any_read : (r : Option Any) (it : Any) (word : ℕ) → r ≡ Some it → IfSome r (λ v. Fits v × (word_of v ≡ word)) → it ≡ any_of word
+any_read None it word e found = absurd (cc)
+any_read (Some v) it word e found =
+    let same : v ≡ it = cc in
+    sym same ∙ word_read v word found.0 found.1
+
+-- a cell that was looked up in a slice
+pub cell_found : (cells seen : List Cell) (n : ℕ) (c : Cell) → seen ≡ cells → n < length seen → c ≡ get_or seen n c → slice_get cells n ≡ Some c
+cell_found cells seen n c same within read =
+    ap (λ (xs : List Cell). slice_get xs n) (sym same) ∙ slice_get_read seen (length seen) n c refl within read

@@ -1,9 +1,0 @@
-use Rattle.std.proofs.Common.{◌≡◌, map, take}
-use Rattle.rb_model.specs.Doing.{slot}
-use Rattle.shape_core.specs.Shape.{path_at}
-use Rattle.local_heap.specs.Fields.{field_of}
-use Rattle.local_heap.proofs.object.Object.told.Given as goal
-
-abbrev pub invariant-loop-name : goal.invariant-loop-name
-invariant-loop-name g l =
-    map slot l.fields.items ≡ map (field_of l.table (path_at (g.S.ShapeStore.shapes l.shapes) l.self.shape) l.self.words.items) (take l.name-index l.name-items)

@@ -1,0 +1,188 @@
+// The things of a heap by serial number.
+
+ghost use Rattle.std.specs.Prelude.{◌≡◌, ◌<◌, length, IfOk, OnErr, true};
+ghost use Rattle.rb_model.specs.Values.{plain};
+ghost use Rattle.rb_model.specs.Things.{field};
+ghost use Rattle.local_heap.specs.Memory.{is_text};
+ghost use Rattle.local_heap.specs.Slots.{IsOwnBy, IsWord, class_at, meaning, own, slot_at};
+ghost use Rattle.local_heap.specs.Words.{any_of};
+ghost use Rattle.local_heap.specs.Fields.{value_by};
+ghost use Rattle.local_heap.specs.Cells.{AreKnown, IsObject, IsSound, fields_in, home_of};
+
+use crate::object::Object;
+use crate::row::value_at;
+use crate::slot::Whose;
+use rb_model::{Id, Ref, Sort, Value};
+use rb_tree::NameId;
+use shape_core::{Kind, Place, ShapeStore};
+use std::alloc::AllocError;
+use typed_location::{Any, from_any_word, from_int_word};
+
+/// What stands at a serial number.
+#[derive(Drop)]
+pub enum Cell {
+    /// No thing: number 0 is that of none.
+    Empty,
+    Object(Object),
+}
+
+/// The things that a thread made, by serial number.
+#[derive(Drop)]
+pub struct Cells {
+    pub thread: u64,
+    pub items: Vec<Cell>,
+}
+
+impl Cells {
+    /// The class of the object at a serial number.
+    fn class_of<S: ShapeStore>(&self, shapes: &S, serial: u64) -> Option<u32>
+        requires { AreKnown (S.shapes shapes.now) self.now.items.items }
+        ensures { result ≡ class_at (home_of (S.shapes shapes.now) self.now) serial }
+    {
+        match self.items.get(serial as usize) {
+            None => None,
+            Some(cell) => match cell {
+                Cell::Empty => None,
+                Cell::Object(object) => Some(shapes.facts(object.shape).class),
+            },
+        }
+    }
+
+    /// Where the thing of a value is, if the value is a reference.
+    pub fn whose<S: ShapeStore>(&self, shapes: &S, value: &Value) -> Whose
+        requires { AreKnown (S.shapes shapes.now) self.now.items.items }
+        ensures { IsOwnBy (home_of (S.shapes shapes.now) self.now) result (plain value.now) }
+    {
+        match value {
+            Value::Ref(thing) => self.whose_thing(shapes, *thing),
+            _ => Whose::Others,
+        }
+    }
+
+    /// Where the thing of a reference is.
+    fn whose_thing<S: ShapeStore>(&self, shapes: &S, thing: Ref) -> Whose
+        requires { AreKnown (S.shapes shapes.now) self.now.items.items }
+        ensures { IsOwnBy (home_of (S.shapes shapes.now) self.now) result (plain (Value.Ref thing)) }
+    {
+        if thing.id.thread != self.thread {
+            return Whose::Others;
+        }
+        let Sort::Object(class) = thing.sort else {
+            return Whose::Others;
+        };
+        match self.class_of(shapes, thing.id.serial) {
+            None => Whose::Others,
+            Some(own) => {
+                if own == class {
+                    Whose::Own
+                } else {
+                    Whose::Others
+                }
+            }
+        }
+    }
+
+    /// The reference to the thing at a serial number.
+    fn own<S: ShapeStore>(&self, shapes: &S, serial: u64) -> Value
+        requires { AreKnown (S.shapes shapes.now) self.now.items.items }
+        ensures { plain result ≡ own (home_of (S.shapes shapes.now) self.now) serial }
+    {
+        match self.class_of(shapes, serial) {
+            None => Value::Nil,
+            Some(class) => Value::Ref(Ref {
+                sort: Sort::Object(class),
+                id: Id {
+                    thread: self.thread,
+                    serial,
+                },
+            }),
+        }
+    }
+
+    /// The value of a field of an object; nil where the shape has no such name.
+    pub fn read<S: ShapeStore>(
+        &self,
+        shapes: &S,
+        object: &Object,
+        name: NameId,
+    ) -> Result<Value, AllocError>
+        requires known { AreKnown (S.shapes shapes.now) self.now.items.items }
+        requires object { IsObject (S.shapes shapes.now) object.now }
+        requires sound { IsSound (S.shapes shapes.now) (home_of (S.shapes shapes.now) self.now) object.now }
+        ensures value { IfOk result (λ value. plain value ≡ field name (fields_in (S.shapes shapes.now) (home_of (S.shapes shapes.now) self.now) object.now)) }
+        ensures refused { OnErr result (is_text (field name (fields_in (S.shapes shapes.now) (home_of (S.shapes shapes.now) self.now) object.now)) ≡ true) }
+    {
+        match shapes.find(object.shape, name) {
+            None => Ok(Value::Nil),
+            Some((place, kind)) => self.read_at(shapes, object, place, kind),
+        }
+    }
+
+    /// The value at a place of this kind.
+    pub fn read_at<S: ShapeStore>(
+        &self,
+        shapes: &S,
+        object: &Object,
+        place: Place,
+        kind: Kind,
+    ) -> Result<Value, AllocError>
+        requires known { AreKnown (S.shapes shapes.now) self.now.items.items }
+        requires within { place.0 < length object.now.words.items }
+        requires sound { kind ≡ Kind.AnyLoc → IsWord (home_of (S.shapes shapes.now) self.now) (slot_at object.now place.0) }
+        ensures value { IfOk result (λ value. plain value ≡ value_by (home_of (S.shapes shapes.now) self.now) kind (slot_at object.now place.0)) }
+        ensures refused { OnErr result (is_text (value_by (home_of (S.shapes shapes.now) self.now) kind (slot_at object.now place.0)) ≡ true) }
+    {
+        let at = place.0 as usize;
+        let word = object.words[at];
+        match kind {
+            Kind::IntLoc => Ok(Value::Int(from_int_word(word))),
+            Kind::AnyLoc => {
+                let any = from_any_word(word).unwrap();
+                self.meant(shapes, object, at, any)
+            }
+        }
+    }
+
+    /// The value of what stands in the word of a place.
+    fn meant<S: ShapeStore>(
+        &self,
+        shapes: &S,
+        object: &Object,
+        at: usize,
+        any: Any,
+    ) -> Result<Value, AllocError>
+        requires { AreKnown (S.shapes shapes.now) self.now.items.items }
+        ensures value { IfOk result (λ value. plain value ≡ meaning (home_of (S.shapes shapes.now) self.now) (slot_at object.now at).whole any) }
+        ensures refused { OnErr result (is_text (meaning (home_of (S.shapes shapes.now) self.now) (slot_at object.now at).whole any) ≡ true) }
+    {
+        match any {
+            Any::Nil => Ok(Value::Nil),
+            Any::False => Ok(Value::False),
+            Any::True => Ok(Value::True),
+            Any::Small(n) => Ok(Value::Int(n)),
+            Any::Sym(number) => Ok(Value::Sym(NameId(number))),
+            Any::Text(_) => value_at(&object.whole, at),
+            Any::Boxed(_) => value_at(&object.whole, at),
+            Any::Thing(serial) => self.thing_meant(shapes, object, at, serial),
+        }
+    }
+
+    /// The value of a word that speaks of a thing: what is kept whole at its place, or else the thing of this heap.
+    fn thing_meant<S: ShapeStore>(
+        &self,
+        shapes: &S,
+        object: &Object,
+        at: usize,
+        serial: u64,
+    ) -> Result<Value, AllocError>
+        requires { AreKnown (S.shapes shapes.now) self.now.items.items }
+        ensures value { IfOk result (λ value. plain value ≡ meaning (home_of (S.shapes shapes.now) self.now) (slot_at object.now at).whole (Any.Thing serial)) }
+        ensures refused { OnErr result (is_text (meaning (home_of (S.shapes shapes.now) self.now) (slot_at object.now at).whole (Any.Thing serial)) ≡ true) }
+    {
+        let value = value_at(&object.whole, at)?;
+        match value {
+            Value::Nil => Ok(self.own(shapes, serial)),
+            whole => Ok(whole),
+        }
+    }
+}
