@@ -20,3 +20,4 @@ pub mod Threadless
 pub mod ParamsMore
 pub mod Makes
 pub mod Making
+pub mod Captures

@@ -79,7 +79,7 @@ ends_more v us (Some used) round at m old new count o is n = by (assigns_as v th
 
 -- the word that starts a thread uses no local
 starts_none : (place : ℕ) (known : List Local) (round : Open) (s : Sight) (at : Span) → starts_at place s at ≡ true → use_of known round s at ≡ []
-starts_none place known round sight.Starts at h = refl
+starts_none place known round (sight.Starts body) at h = refl
 starts_none place known round other at h = absurd (false≢true h)
 
 -- the uses behind a start, with one more event

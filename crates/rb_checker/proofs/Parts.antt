@@ -108,7 +108,7 @@ pub events-new : (b : ℕ → List Event) (class : NameId) (args : List Node) (a
 unfolding part_of
 events-new b class args at = search (rules, the_lemmas)
 
-pub events-thread_new : (b : ℕ → List Event) (args : List Node) (body : ℕ) (at : Span) → (part_of b (node.ThreadNew args body at)).events ≡ event sight.Starts at ∷ events_of_all b args ++ inside around.Thread at (b body)
+pub events-thread_new : (b : ℕ → List Event) (args : List Node) (body : ℕ) (at : Span) → (part_of b (node.ThreadNew args body at)).events ≡ event (sight.Starts body) at ∷ events_of_all b args ++ inside around.Thread at (b body)
 unfolding part_of
 events-thread_new b args body at = search (rules, the_lemmas)
 

@@ -99,7 +99,7 @@ module _ (body_of : ℕ → List Event) where
   node_events (node.OpAssign target op value at) = target at value.events
   node_events (node.Call receiver name args block at) = receiver_step receiver name at ++ (all_of args ++ called_block block)
   node_events (node.New class args at) = event (sight.Makes class) at ∷ all_of args
-  node_events (node.ThreadNew args body at) = event sight.Starts at ∷ all_of args ++ inside around.Thread at (body_of body)
+  node_events (node.ThreadNew args body at) = event (sight.Starts body) at ∷ all_of args ++ inside around.Thread at (body_of body)
   node_events (node.And left right at) = left.events ++ right.events
   node_events (node.Or left right at) = left.events ++ right.events
   node_events (node.Not value at) = value.events

@@ -20,3 +20,5 @@ pub mod Crowded
 pub mod Assigned
 pub mod Settling
 pub mod Scoped
+pub mod Captured
+pub mod Threads

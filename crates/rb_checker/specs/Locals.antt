@@ -92,7 +92,7 @@ uses_in events = uses_from [] (placed [] events)
 
 -- whether a thread is started at a place
 abbrev pub starts_at : ℕ → Sight → Span → Bool
-starts_at place sight.Starts at = at.from == place
+starts_at place (sight.Starts body) at = at.from == place
 starts_at place other at = false
 
 -- the uses of locals behind the word that starts a thread at a place

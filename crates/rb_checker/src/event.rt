@@ -24,8 +24,8 @@ pub(crate) enum Sight {
     Calls(NameId),
     /// An object of a class is made.
     Makes(NameId),
-    /// A thread is started: its arguments follow, and then its block, which begins at the same place.
-    Starts,
+    /// A thread is started, whose body has this number: its arguments follow, and then its body, which begins at the same place.
+    Starts(u32),
     SelfRef,
     Field(NameId),
     Global(NameId),

@@ -124,7 +124,7 @@ pub(crate) fn add_node(
             add_all(events, bodies, args.as_slice())
         }
         Node::ThreadNew { args, body, at } => {
-            add_event(events, Sight::Starts, *at)?;
+            add_event(events, Sight::Starts(*body), *at)?;
             add_all(events, bodies, args.as_slice())?;
             add_event(events, Sight::Begins(Around::Thread), *at)?;
             add_body(events, bodies, *body)?;

@@ -20,10 +20,12 @@ mod rules;
 mod sets;
 mod settling;
 mod texts;
+mod threads;
 mod unsettled;
 mod walking;
 mod whole;
 
 pub use fault::CheckFault;
 pub use naming::{ScopeNames, names_of_scopes};
+pub use threads::{ThreadNames, names_of_threads};
 pub use whole::{CheckError, check};

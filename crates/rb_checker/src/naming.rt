@@ -24,7 +24,7 @@ use std::alloc::{AllocError, Global};
 use std::collections::{HashMap, HashSet};
 
 /// Adds the local that an event gives a value to.
-fn add_made(made: &mut Vec<Local>, used: Option<Used>) -> Result<(), AllocError>
+pub(crate) fn add_made(made: &mut Vec<Local>, used: Option<Used>) -> Result<(), AllocError>
     ensures { OnOk result ((round : Open) (at : Place) → made.new.items ≡ made.old.items ++ spec.made_in (uses_as used round at)) }
 {
     let Some(used) = used else {
@@ -133,7 +133,10 @@ fn add_to_block(
 }
 
 /// The names of these locals in the scopes of blocks, by their places.
-fn names_of_blocks(alloc: Global, made: &[Local]) -> Result<HashMap<u32, Items<NameId>>, AllocError>
+pub(crate) fn names_of_blocks(
+    alloc: Global,
+    made: &[Local],
+) -> Result<HashMap<u32, Items<NameId>>, AllocError>
     ensures { IfOk result (λ blocks. (place : ℕ) → spec.names_at blocks place ≡ spec.names_behind [] (Some place) made.now) }
 {
     let mut known = HashSet::new(alloc);

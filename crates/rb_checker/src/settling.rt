@@ -108,7 +108,10 @@ fn note_start(
 ) -> Result<(), AllocError>
     ensures { OnOk result ((place : ℕ) → map.get nat_eq starts.new place ≡ spec.start_behind (map.get nat_eq starts.old place) (starts_at place event.now.sight event.now.at) uses) }
 {
-    if event.sight != Sight::Starts || starts.contains_key(&event.at.from) {
+    let Sight::Starts(_) = event.sight else {
+        return Ok(());
+    };
+    if starts.contains_key(&event.at.from) {
         return Ok(());
     }
     if let Err(_) = starts.insert(event.at.from, uses) {

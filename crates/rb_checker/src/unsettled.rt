@@ -22,7 +22,7 @@ use std::alloc::{AllocError, Global};
 use std::collections::{HashMap, HashSet};
 
 /// Whether this opens the scope of a local.
-fn opens(scope: Option<u32>, around: Around, at: Span) -> bool
+pub(crate) fn opens(scope: Option<u32>, around: Around, at: Span) -> bool
     ensures { result ≡ spec.opens scope (around, at) }
 {
     let Some(from) = scope else {

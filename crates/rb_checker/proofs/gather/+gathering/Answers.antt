@@ -79,7 +79,7 @@ pub add_node-returns-in_ok-add_body-in-ThreadNew : goal.add_node-returns-in_ok-a
 add_node-returns-in_ok-add_body-in-ThreadNew t c =
     so c.add_event-in-ThreadNew-3.result c.add_event-in-ThreadNew-3.ensures (λ told b tells.
     five_times _
-    (spec.alone sight.Starts c.in-ThreadNew.at)
+    (spec.alone (sight.Starts c.in-ThreadNew.body) c.in-ThreadNew.at)
     (spec.events_of_all b c.as_slice-in-ThreadNew.result.now)
     (spec.alone (sight.Begins around.Thread) c.in-ThreadNew.at)
     (b c.in-ThreadNew.body)
