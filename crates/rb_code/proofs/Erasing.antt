@@ -105,6 +105,10 @@ pub erase-new : (class : ℕ) (first : Option ℕ) (name : NameId) (args : List 
 unfolding erase erase_piece erase_block
 erase-new class first name args at = search (rules, the_lemmas)
 
+pub erase-start : (args : List Code) (body : ℕ) (slots : List ℕ) (at : Span) → erase (is.Start args body slots at) ≡ tree.ThreadNew (map erase args) body at
+unfolding erase erase_piece erase_block
+erase-start args body slots at = search (rules, the_lemmas)
+
 pub erase-print : (form : Form) (name : NameId) (args : List Code) (at : Span) → erase (is.Print form name args at) ≡ tree.Call None name (map erase args) None at
 unfolding erase erase_piece erase_block
 erase-print form name args at = search (rules, the_lemmas)

@@ -15,7 +15,7 @@ use Rattle.rb_code.specs.declared.code.CodeBlock.{CodeBlock}
 use Rattle.std.specs.Prelude.{◌&&◌, ◌++◌, ◌+◌, ◌==◌, nat_le, true, is_none, length, codes}
 use Rattle.std.specs.Str.{bytes_eq}
 use Rattle.rb_machine.specs.Scopes.{Script, text_of}
-use Rattle.rb_code.specs.Layout.{has_slot, is_at}
+use Rattle.rb_code.specs.Layout.{has_slot, have_slots, is_at}
 use Rattle.rb_code.specs.Dispatch.{is_writer}
 use Rattle.rb_code.specs.Resolved.{every, if_some, form_text, form_takes, prints, function_of, has_number, is_free, is_made, fits, piece_fits, block_fits}
 
@@ -107,6 +107,10 @@ fits-own S names size name args at = search (rules, the_lemmas)
 pub fits-new : (S : Script) (names : List NameId) (size : ℕ) (class : ℕ) (first : Option ℕ) (name : NameId) (args : List Code) (at : Span) → fits S (is.New class first name args at) names size ≡ (is_made S class first name && every (map (fits S) args) names size)
 unfolding fits piece_fits block_fits
 fits-new S names size class first name args at = search (rules, the_lemmas)
+
+pub fits-start : (S : Script) (names : List NameId) (size : ℕ) (args : List Code) (body : ℕ) (slots : List ℕ) (at : Span) → fits S (is.Start args body slots at) names size ≡ (have_slots (S.captured_names body) names slots && every (map (fits S) args) names size)
+unfolding fits piece_fits block_fits
+fits-start S names size args body slots at = search (rules, the_lemmas)
 
 pub fits-print : (S : Script) (names : List NameId) (size : ℕ) (form : Form) (name : NameId) (args : List Code) (at : Span) → fits S (is.Print form name args at) names size ≡ (is_none (function_of S name) && (bytes_eq (text_of S name) (form_text form) && (form_takes form (length (map (fits S) args)) && every (map (fits S) args) names size)))
 unfolding fits piece_fits block_fits

@@ -16,7 +16,7 @@ use Rattle.rb_code.specs.declared.code.Code.TheVariants as is
 use Rattle.rb_code.specs.declared.code.CodePiece.{CodePiece}
 use Rattle.rb_code.specs.declared.code.CodeBlock.{CodeBlock}
 use Rattle.rb_code.specs.Erase.{erase, erase_piece, erase_block}
-use Rattle.rb_code.proofs.Erasing.{erase-nil, erase-false, erase-true, erase-self_ref, erase-int, erase-sym, erase-str, erase-local, erase-set_local, erase-field, erase-set_field, erase-update_local, erase-update_field, erase-update_element, erase-update_attribute, erase-store, erase-operate, erase-send, erase-walk, erase-function, erase-own, erase-new, erase-print, erase-and, erase-or, erase-not, erase-if, erase-while, erase-return, erase-break, erase-next}
+use Rattle.rb_code.proofs.Erasing.{erase-nil, erase-false, erase-true, erase-self_ref, erase-int, erase-sym, erase-str, erase-local, erase-set_local, erase-field, erase-set_field, erase-update_local, erase-update_field, erase-update_element, erase-update_attribute, erase-store, erase-operate, erase-send, erase-walk, erase-function, erase-own, erase-new, erase-start, erase-print, erase-and, erase-or, erase-not, erase-if, erase-while, erase-return, erase-break, erase-next}
 
 pub shows-nil : (c : Code) (at : Span) → c ≡ is.Nil at → out-Node (erase c) ≡ node.Nil at
 shows-nil c at e = ap (λ c. out-Node (erase c)) e ∙ (ap out-Node (erase-nil at) ∙ search (rules, the_lemmas))
@@ -83,6 +83,9 @@ shows-own c name args at e = ap (λ c. out-Node (erase c)) e ∙ (ap out-Node (e
 
 pub shows-new : (c : Code) (class : ℕ) (first : Option ℕ) (name : NameId) (args : List Code) (at : Span) → c ≡ is.New class first name args at → out-Node (erase c) ≡ node.New name (map erase args) at
 shows-new c class first name args at e = ap (λ c. out-Node (erase c)) e ∙ (ap out-Node (erase-new class first name args at) ∙ search (rules, the_lemmas))
+
+pub shows-start : (c : Code) (args : List Code) (body : ℕ) (slots : List ℕ) (at : Span) → c ≡ is.Start args body slots at → out-Node (erase c) ≡ node.ThreadNew (map erase args) body at
+shows-start c args body slots at e = ap (λ c. out-Node (erase c)) e ∙ (ap out-Node (erase-start args body slots at) ∙ search (rules, the_lemmas))
 
 pub shows-print : (c : Code) (form : Form) (name : NameId) (args : List Code) (at : Span) → c ≡ is.Print form name args at → out-Node (erase c) ≡ node.Call None name (map erase args) None at
 shows-print c form name args at e = ap (λ c. out-Node (erase c)) e ∙ (ap out-Node (erase-print form name args at) ∙ search (rules, the_lemmas))

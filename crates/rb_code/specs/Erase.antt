@@ -13,6 +13,7 @@ use Rattle.rb_code.specs.declared.code.CodePiece.{CodePiece, fold-CodePiece}
 use Rattle.rb_code.specs.declared.code.CodeBlock.{CodeBlock, fold-CodeBlock}
 use Rattle.rb_code.specs.declared.code.Code.TheOpen.{Code-F, CodePiece-F, CodeBlock-F}
 use Rattle.rb_code.specs.declared.code.Code.TheOpen as code
+use Rattle.rb_code.specs.declared.scripted.CodeBody.{CodeBody}
 use Rattle.rb_code.specs.declared.scripted.CodeMethod.{CodeMethod}
 use Rattle.rb_code.specs.declared.scripted.CodeClass.{CodeClass}
 
@@ -47,6 +48,7 @@ erase_step (code.Walk number name receiver args block at) = tree.Call (Some rece
 erase_step (code.Function number name args at) = tree.Call None name args None at
 erase_step (code.Own name args at) = tree.Call None name args None at
 erase_step (code.New class first name args at) = tree.New name args at
+erase_step (code.Start args body slots at) = tree.ThreadNew args body at
 erase_step (code.Print form name args at) = tree.Call None name args None at
 erase_step (code.And left right at) = tree.And left right at
 erase_step (code.Or left right at) = tree.Or left right at
@@ -70,6 +72,10 @@ erase_block = fold-CodeBlock Node Piece Block erase_step erase_piece_step erase_
 -- a method without its numbers
 abbrev pub erase_method : CodeMethod → Method
 erase_method m = record { name = m.name; params = m.params; body = map erase m.body; at = m.at }
+
+-- the body of a thread without its numbers and what it captures
+abbrev pub erase_body : CodeBody → Block
+erase_body b = record { params = b.params; body = map erase b.body; at = b.at }
 
 -- and a class
 abbrev pub erase_class : CodeClass → Class

@@ -1,5 +1,5 @@
 -- How the locals in scope lie in slots.
-use Rattle.std.specs.Prelude.{ℕ, suc, Bool, false, List, [], ◌∷◌, Option, Some, None, if◌then◌else◌, ◌==◌}
+use Rattle.std.specs.Prelude.{ℕ, suc, Bool, true, false, ◌&&◌, List, [], ◌∷◌, Option, Some, None, if◌then◌else◌, ◌==◌}
 use Rattle.std.specs.Option.{option_map}
 use Rattle.rb_tree.specs.declared.span.NameId.{NameId}
 use Rattle.rb_model.specs.Values.{Value}
@@ -23,3 +23,9 @@ is_at (Some s) slot = s == slot
 -- whether this is the slot of a name
 abbrev pub has_slot : NameId → List NameId → ℕ → Bool
 has_slot name names slot = is_at (slot_of name names) slot
+
+-- whether these are the slots of names, one of each
+abbrev pub have_slots : List NameId → List NameId → List ℕ → Bool
+have_slots [] names [] = true
+have_slots (n ∷ ns) names (slot ∷ slots) = has_slot n names slot && have_slots ns names slots
+have_slots others names slots = false

@@ -18,7 +18,7 @@ use Rattle.rb_code.specs.declared.code.Code.TheOpen as code
 use Rattle.rb_code.specs.declared.scripted.CodeMethod.{CodeMethod}
 use Rattle.rb_code.specs.declared.scripted.CodeClass.{CodeClass}
 use Rattle.rb_code.specs.declared.scripted.CodeScript.{CodeScript}
-use Rattle.rb_code.specs.Layout.{is_at, has_slot}
+use Rattle.rb_code.specs.Layout.{is_at, has_slot, have_slots}
 use Rattle.rb_code.specs.Dispatch.{method_number, is_writer}
 use Rattle.rb_code.specs.Erase.{erase_method}
 
@@ -100,6 +100,7 @@ module _ (S : Script) where
   node_step (code.Function number name args at) names size = is_at (function_of name) number && every args names size
   node_step (code.Own name args at) names size = is_none (function_of name) && (not (prints (text_of S name)) && every args names size)
   node_step (code.New class first name args at) names size = is_made class first name && every args names size
+  node_step (code.Start args body slots at) names size = have_slots (S.captured_names body) names slots && every args names size
   node_step (code.Print form name args at) names size =
       is_none (function_of name) && (bytes_eq (text_of S name) (form_text form) && (form_takes form (length args) && every args names size))
   node_step (code.And left right at) names size = left names size && right names size

@@ -73,6 +73,8 @@ pub enum Code {
     Own(NameId, Items<Code>, Span),
     /// A new object of the class of this number, whose method `initialize`, where it has one, is the one of this number among its methods.
     New(u32, Option<u32>, NameId, Items<Code>, Span),
+    /// The start of a thread whose body has this number, with the slots of the locals that the body captures, in the order of their first use.
+    Start(Items<Code>, u32, Items<u32>, Span),
     /// A call of `puts`, `print` or `p`.
     Print(Form, NameId, Items<Code>, Span),
     And(Boxed<Code>, Boxed<Code>, Span),

@@ -6,4 +6,4 @@ mod code;
 mod scripted;
 
 pub use code::{Code, CodeBlock, CodePiece};
-pub use scripted::{CodeClass, CodeMethod, CodeScript, Found};
+pub use scripted::{CodeBody, CodeClass, CodeMethod, CodeScript, Found};

@@ -25,6 +25,18 @@ pub struct CodeClass {
     pub at: Span,
 }
 
+/// The body of a thread. Its locals, with those of all its blocks, lie in a frame of `size` slots: its parameters first, then those that it
+/// captures.
+#[derive(Drop)]
+pub struct CodeBody {
+    pub params: Items<Param>,
+    /// The names that are captured, in the order of their first use.
+    pub captured: Items<NameId>,
+    pub size: u32,
+    pub body: Items<Code>,
+    pub at: Span,
+}
+
 /// A method of a class that a name finds: the number of the class, and that of the method among those of the class.
 #[derive(Clone, Copy, Debug, PartialEq, Eq)]
 pub struct Found {
@@ -32,11 +44,13 @@ pub struct Found {
     pub method: u32,
 }
 
-/// A script: its top-level methods, its classes, and its top level with the size of that frame.
+/// A script: its top-level methods, its classes, the bodies of its threads, and its top level with the size of that frame.
 #[derive(Drop)]
 pub struct CodeScript {
     pub functions: Items<CodeMethod>,
     pub classes: Items<CodeClass>,
+    /// By their numbers.
+    pub bodies: Items<CodeBody>,
     /// By the number of a name: the methods of classes that it finds. Where there are no classes there is nothing in it.
     pub dispatch: Items<Items<Found>>,
     pub main: Items<Code>,

@@ -12,11 +12,14 @@ Text = List ℕ
 
 -- A program, and the names that its text makes known in each scope, as Ruby's parser keeps them: the parameters first, then each local
 -- in the order in which the text assigns it first, that of a block without the names that are known round it. A block is known by its place.
+-- The body of a thread is known by its number: the names that it captures, in the order of their first use, lie behind its parameters.
 pub record Script : Type 0 where
   pub program : Program
   pub block_names : Span → List NameId
   pub method_names : Method → List NameId
   pub main_names : List NameId
+  pub captured_names : ℕ → List NameId
+  pub thread_names : ℕ → List NameId
 
 -- the text of a name, empty where there is no such name
 abbrev pub name_text : List Text → NameId → Text

@@ -12,6 +12,7 @@ use Rattle.rb_machine.specs.Scopes.{Script, Text, name_text}
 use Rattle.rb_render.specs.declared.show.Form.{Form}
 use Rattle.rb_render.specs.declared.show.Form.TheVariants as form
 use Rattle.rb_checker.specs.Scoped.{names_at}
+use Rattle.rb_checker.specs.Threads.{captured_of, frame_of}
 use Rattle.rb_code.specs.Dispatch.{method_number, in_no_class}
 use Rattle.rb_code.specs.Resolved.{function_of}
 use Rattle.rb_resolver.specs.declared.known.Known.{Known}
@@ -49,3 +50,5 @@ pub record IsKnown (known : Known) (names : List Text) (S : Script) : Type 0 whe
   pub firsts : (class : ℕ) → unwrap_or (slice_get known.firsts class) None ≡ method_number S (codes "initialize") class
   pub absent : (text : Text) → numbered text names ≡ None → in_no_class S text ≡ true
   pub blocks : (at : Span) → names_at known.scopes.blocks at.from ≡ S.block_names at
+  pub captured : (number : ℕ) → captured_of known.threads number ≡ S.captured_names number
+  pub threads : (number : ℕ) → frame_of known.threads number ≡ S.thread_names number

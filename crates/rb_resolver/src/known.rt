@@ -7,14 +7,14 @@ ghost use Rattle.rb_tree.specs.declared.node.Class.{Class as Kind};
 ghost use Rattle.rb_tree.specs.declared.span.NameId.{NameId as Id};
 
 use crate::fault::ResolveFault;
-use rb_checker::ScopeNames;
+use rb_checker::{ScopeNames, ThreadNames};
 use rb_render::name_text;
 use rb_tree::{Class, Items, Method, NameId, Names};
 use std::alloc::Global;
 use std::collections::HashMap;
 
 /// What is known of a program: the numbers of its top-level methods and of its classes by their names, the number of `initialize` in each
-/// class, and the names of its scopes.
+/// class, and the names of its scopes and of the bodies of its threads.
 #[derive(Drop)]
 pub(crate) struct Known {
     pub alloc: Global,
@@ -22,6 +22,7 @@ pub(crate) struct Known {
     pub classes: HashMap<u32, u32>,
     pub firsts: Items<Option<u32>>,
     pub scopes: ScopeNames,
+    pub threads: ThreadNames,
 }
 
 impl Known {

@@ -11,6 +11,7 @@ mod script;
 mod stores;
 #[cfg(test)]
 mod tests;
+mod threads;
 
 pub use fault::ResolveFault;
 pub use script::resolve;

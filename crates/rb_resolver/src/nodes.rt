@@ -12,6 +12,7 @@ use crate::fault::ResolveFault;
 use crate::frame::Frame;
 use crate::known::Known;
 use crate::stores::{attribute_updated, stored};
+use crate::threads::started;
 use rb_code::{Code, CodeBlock, CodePiece};
 use rb_model::SharedText;
 use rb_tree::{Block, Boxed, Items, Names, Node, Piece, Target};
@@ -109,6 +110,14 @@ fn node(
             let args = body(known, names, args.as_slice(), frame)?;
             made(known, *class, args, *at)
         }
+        Node::ThreadNew {
+            args,
+            body: number,
+            at,
+        } => {
+            let args = body(known, names, args.as_slice(), frame)?;
+            started(known, frame, args, *number, *at)
+        }
         Node::And(left, right, at) => {
             let left = boxed(known, names, left.get(), frame)?;
             let right = boxed(known, names, right.get(), frame)?;
@@ -143,8 +152,7 @@ fn node(
         Node::Array(_, at)
         | Node::Hash(_, at)
         | Node::Global(_, at)
-        | Node::SetGlobal(_, _, at)
-        | Node::ThreadNew { at, .. } => Err(ResolveFault::NotBuilt(*at)),
+        | Node::SetGlobal(_, _, at) => Err(ResolveFault::NotBuilt(*at)),
     }
 }
 

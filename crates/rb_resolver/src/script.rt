@@ -15,13 +15,14 @@ use crate::fault::ResolveFault;
 use crate::frame::Frame;
 use crate::known::{Known, firsts_of, numbers_of, numbers_of_classes};
 use crate::nodes::body;
-use rb_checker::names_of_scopes;
+use crate::threads::bodies;
+use rb_checker::{names_of_scopes, names_of_threads};
 use rb_code::{Code, CodeClass, CodeMethod, CodeScript};
 use rb_tree::{Class, Items, Method, NameId, Names, Node, Program};
 use std::alloc::Global;
 
 /// Resolves the statements of a text whose own names are these. Answers the size of its frame too, which is at least this.
-fn text(
+pub(crate) fn text(
     known: &Known,
     names: &Names,
     own: &[NameId],
@@ -127,22 +128,26 @@ pub fn resolve(alloc: Global, program: &Program) -> Result<CodeScript, ResolveFa
     let numbers = numbers_of_classes(alloc, program.classes.as_slice())?;
     let functions = numbers_of(alloc, program.functions.as_slice())?;
     let scopes = names_of_scopes(alloc, program)?;
+    let threads = names_of_threads(alloc, program)?;
     let known = Known {
         alloc,
         functions,
         classes: numbers,
         firsts,
         scopes,
+        threads,
     };
     let own = known.scopes.classes.as_slice();
     let classes = classes(&known, names, own, program.classes.as_slice())?;
     let own = known.scopes.functions.as_slice();
     let functions = methods(&known, names, own, program.functions.as_slice())?;
+    let bodies = bodies(&known, names, program.bodies.as_slice())?;
     let own = known.scopes.main.as_slice();
     let (main, main_size) = text(&known, names, own, program.main.as_slice(), 0)?;
     Ok(CodeScript {
         functions,
         classes,
+        bodies,
         dispatch,
         main,
         main_size,

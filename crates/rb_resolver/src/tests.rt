@@ -213,6 +213,97 @@ fn objects_are_made_by_the_numbers_of_classes(rt: HostRuntime) -> Result<(), Fai
 }
 
 #[test]
+fn threads_capture_locals_in_the_order_of_their_first_use(rt: HostRuntime) -> Result<(), Fail> {
+    for (source, script) in [
+        ("Thread.new { 1 }", "<>[0]: 1; [0]: (start 0 <>)"),
+        (
+            "x = 1; y = 2\nThread.new { y; x; y }",
+            "<y x>[2]: y/0 x/1 y/0; [2]: (set x/0 1) (set y/1 2) (start 0 <1 0>)",
+        ),
+        // Parameters lie before what is captured, other locals behind it.
+        (
+            "x = 1\nThread.new(2) { |y| z = y; x }",
+            "<x>[3]: (set z/2 y/0) x/1; [1]: (set x/0 1) (start 0 <0> 2)",
+        ),
+        // An argument is no use in the thread, and a parameter hides a local of outside.
+        (
+            "x = 1\nThread.new(x) { |x| x }",
+            "<>[1]: x/0; [1]: (set x/0 1) (start 0 <> x/0)",
+        ),
+        // A parameter that nothing reads has a slot too.
+        ("Thread.new(1, 2) { |a, b| 3 }", "<>[2]: 3; [0]: (start 0 <> 1 2)"),
+        // A local that is assigned first in the thread is the thread's own.
+        (
+            "Thread.new { x = 1 }\nx = 2",
+            "<>[1]: (set x/0 1); [1]: (start 0 <>) (set x/0 2)",
+        ),
+        // Of the top-level method that starts it.
+        (
+            "def f(a, b)\nThread.new { b; a }\nend",
+            "f[2]: (start 0 <1 0>); <b a>[2]: b/0 a/1; [0]:",
+        ),
+        // `self` and instance variables are no locals.
+        (
+            "class A\ndef f(a)\nThread.new { self; @x = a }\nend\nend",
+            "A(f[1]: (start 0 <0>); ) f@0.0 <a>[1]: self (set @x a/0); [0]:",
+        ),
+        // The bodies have numbers in the order of the text.
+        (
+            "x = 1\nThread.new { x }\nThread.new { 2 }",
+            "<x>[1]: x/0; <>[0]: 2; [1]: (set x/0 1) (start 0 <0>) (start 1 <>)",
+        ),
+    ] {
+        let found = told(rt.alloc(), source)?;
+        assert_eq!(rt; found.as_str(), script);
+    }
+    Ok(())
+}
+
+#[test]
+fn threads_capture_through_blocks_and_threads(rt: HostRuntime) -> Result<(), Fail> {
+    for (source, script) in [
+        (
+            "x = 1\nThread.new { 3.times { |i| x + i } }",
+            "<x>[2]: (walk times 3 {1+1 (operate + x/0 i/1)}); [1]: (set x/0 1) (start 0 <0>)",
+        ),
+        // A parameter of a block in the thread hides the local of outside.
+        (
+            "x = 1\nThread.new { 3.times { |x| x } }",
+            "<>[1]: (walk times 3 {0+1 x/0}); [1]: (set x/0 1) (start 0 <>)",
+        ),
+        // The local of a block round the thread, which hides one further out.
+        (
+            "x = 1\n3.times { |x| Thread.new { x } }",
+            "<x>[1]: x/0; [2]: (set x/0 1) (walk times 3 {1+1 (start 0 <1>)})",
+        ),
+        // What an inner thread uses of outside of both, the outer one captures too.
+        (
+            "x = 1; y = 2\nThread.new { Thread.new { y }; x }",
+            "<y x>[2]: (start 1 <0>) x/1; <y>[1]: y/0; [2]: (set x/0 1) (set y/1 2) (start 0 <1 0>)",
+        ),
+        // A local of the outer thread is captured by the inner one alone.
+        (
+            "Thread.new(1) { |a| b = 2; Thread.new { b; a } }",
+            "<>[2]: (set b/1 2) (start 1 <1 0>); <b a>[2]: b/0 a/1; [0]: (start 0 <> 1)",
+        ),
+        // The arguments of an inner thread are used in the outer one.
+        (
+            "x = 1\nThread.new { Thread.new(x) { |y| y } }",
+            "<x>[1]: (start 1 <> x/0); <>[1]: y/0; [1]: (set x/0 1) (start 0 <0>)",
+        ),
+        // A block, a thread in it, and a block in that.
+        (
+            "a = 1\n2.times { |b| Thread.new { 3.times { |c| c; b; a } } }",
+            "<b a>[3]: (walk times 3 {2+1 c/2 b/0 a/1}); [2]: (set a/0 1) (walk times 2 {1+1 (start 0 <1 0>)})",
+        ),
+    ] {
+        let found = told(rt.alloc(), source)?;
+        assert_eq!(rt; found.as_str(), script);
+    }
+    Ok(())
+}
+
+#[test]
 fn what_is_not_built_is_told_at_its_place(rt: HostRuntime) -> Result<(), Fail> {
     for (source, fault) in [
         ("1\n[2]", "not built 2"),
@@ -222,7 +313,8 @@ fn what_is_not_built_is_told_at_its_place(rt: HostRuntime) -> Result<(), Fail> {
         ("$x += 1", "not built 3"),
         ("Foo.new", "not built 4"),
         ("Array.new(2)", "not built 6"),
-        ("Thread.new { 1 }", "not built 7"),
+        ("Thread.new { [1] }", "not built 13"),
+        ("Thread.new([1]) { 2 }", "not built 11"),
         ("class A\ndef f\n[1]\nend\nend", "not built 14"),
         ("p 1, 2", "not built 0"),
     ] {

@@ -1,9 +1,10 @@
 // A resolved script as a text. A local is its name and its slot, as `x/0`; a block `{2+1 ..}` has one local of its own, in slot 2; a text
 // that has a frame of 3 slots is `f[3]: ..`. A call of a name that no built-in method has is written with `?`. A class is `A(..)`, and
-// behind the classes stands what each name finds in them, as `f@0.1`, the second method of the first class.
+// behind the classes stands what each name finds in them, as `f@0.1`, the second method of the first class. The body of a thread is
+// `<x y>[3]: ..` with the names that it captures, and its start `(start 0 <1 2> ..)` has the slots of these round it.
 
 use rb_builtin::Builtin;
-use rb_code::{Code, CodeBlock, CodeMethod, CodePiece, CodeScript, Found};
+use rb_code::{Code, CodeBlock, CodeBody, CodeMethod, CodePiece, CodeScript, Found};
 use rb_tree::{Boxed, NameId, Names};
 use std::alloc::{AllocError, Global};
 
@@ -24,6 +25,7 @@ pub(crate) fn printed(
         write_row(&mut out, names, i, row.as_slice())?;
     }
     write_methods(&mut out, names, script.functions.as_slice())?;
+    write_bodies(&mut out, names, script.bodies.as_slice())?;
     write!(out, "[{}]:", script.main_size)?;
     write_codes(&mut out, names, script.main.as_slice())?;
     Ok(out)
@@ -41,6 +43,37 @@ fn write_methods(
         out.push_str("; ")?;
     }
     Ok(())
+}
+
+fn write_bodies(out: &mut String, names: &Names, bodies: &[CodeBody]) -> Result<(), AllocError> {
+    for body in bodies {
+        out.push('<')?;
+        for (i, name) in body.captured.as_slice().iter().enumerate() {
+            write_gap(out, i)?;
+            write_name(out, names, *name)?;
+        }
+        write!(out, ">[{}]:", body.size)?;
+        write_codes(out, names, body.body.as_slice())?;
+        out.push_str("; ")?;
+    }
+    Ok(())
+}
+
+/// A gap before each but the first.
+fn write_gap(out: &mut String, place: usize) -> Result<(), AllocError> {
+    match place {
+        0 => Ok(()),
+        _ => out.push(' '),
+    }
+}
+
+fn write_slots(out: &mut String, slots: &[u32]) -> Result<(), AllocError> {
+    out.push('<')?;
+    for (i, slot) in slots.iter().enumerate() {
+        write_gap(out, i)?;
+        write!(out, "{slot}")?;
+    }
+    out.push('>')
 }
 
 /// What the name of a number finds in classes, where it finds something.
@@ -212,6 +245,11 @@ fn write_code(out: &mut String, names: &Names, code: &Code) -> Result<(), AllocE
             write_name(out, names, *name)?;
             write!(out, "/{class}")?;
             write_first(out, *first)?;
+            write_codes(out, names, args.as_slice())?;
+        }
+        Code::Start(args, body, slots, _) => {
+            write!(out, "(start {body} ")?;
+            write_slots(out, slots.as_slice())?;
             write_codes(out, names, args.as_slice())?;
         }
         Code::Print(form, _, args, _) => {

@@ -211,3 +211,14 @@ node-returns-in_ok-args-in-New-clause-erases t c =
     IfOk-weaker c.made.result _ _ (λ code is. is
     ∙ ap (λ (ns : List Node). tree.New c.in-New.class ns c.in-New.at) (c.in_ok-args-in-New.ensures.erases ∙ c.as_slice-in-New.ensures)
     ∙ sym c.in-New.is) c.made.ensures.erases
+
+pub node-returns-in_ok-args-in-ThreadNew-clause-fits : goal.node-returns-in_ok-args-in-ThreadNew-clause-fits
+node-returns-in_ok-args-in-ThreadNew-clause-fits t c =
+    let left = c.in_ok-args-in-ThreadNew.ensures.names in
+    IfOk-weaker c.started.result _ _ (λ code is S k size h. at_names (fits S code) _ _ size left (is S _ size k (at_names (λ ns z. every (map (fits S) c.in_ok-args-in-ThreadNew.args) ns z) _ _ size (sym left) (c.in_ok-args-in-ThreadNew.ensures.fits S k size h)))) c.started.ensures.fits
+
+pub node-returns-in_ok-args-in-ThreadNew-clause-erases : goal.node-returns-in_ok-args-in-ThreadNew-clause-erases
+node-returns-in_ok-args-in-ThreadNew-clause-erases t c =
+    IfOk-weaker c.started.result _ _ (λ code is. is
+    ∙ ap (λ (ns : List Node). tree.ThreadNew ns c.in-ThreadNew.number c.in-ThreadNew.at) (c.in_ok-args-in-ThreadNew.ensures.erases ∙ c.as_slice-in-ThreadNew.ensures)
+    ∙ sym c.in-ThreadNew.is) c.started.ensures.erases

@@ -30,7 +30,7 @@ returns c =
     let scopes = c.in_ok-scopes.ensures in
     let table = c.in_ok-dispatch.ensures in
     let plain : all_plain p.names p.classes ≡ true = sym (ap (all_plain p.names) c.as_slice.ensures) ∙ table.plain in
-    let known : Known = record { alloc = c.args.alloc; functions = c.in_ok-functions.functions; classes = c.in_ok-numbers.numbers; firsts = c.in_ok-firsts.firsts; scopes = c.in_ok-scopes.scopes } in
+    let known : Known = record { alloc = c.args.alloc; functions = c.in_ok-functions.functions; classes = c.in_ok-numbers.numbers; firsts = c.in_ok-firsts.firsts; scopes = c.in_ok-scopes.scopes; threads = c.in_ok-threads.threads } in
     let k : IsKnown known p.names S = record {
       texts = refl;
       functions = λ name. c.in_ok-functions.ensures name ∙ ap (number_of name) c.as_slice-4.ensures;
@@ -38,6 +38,8 @@ returns c =
       firsts = λ class. ap (λ fs. unwrap_or (slice_get fs class) None) (c.in_ok-firsts.ensures ∙ ap (map (λ (k : Class). first_in p.names k.methods)) c.as_slice-2.ensures) ∙ firsts_are S class;
       absent = λ text none. absent_is S table.different plain text none;
       blocks = scopes.blocks;
+      captured = c.in_ok-threads.ensures.captured;
+      threads = c.in_ok-threads.ensures.frames;
     } in
     let main_names = c.as_slice-own-3.ensures ∙ scopes.main in
     let room : length S.main_names ≤ c.in_ok-main.main_size = omega (arith, ap length main_names, c.in_ok-main.ensures.room) in
@@ -46,7 +48,9 @@ returns c =
       classes = c.in_ok-classes.ensures.erases ∙ c.as_slice-5.ensures;
       dispatch = λ name class. ap (method_in class) (table.rows name.0 ∙ ap (found_in_all name.0 0) c.as_slice.ensures) ∙ found_is S name.0 class p.classes ∙ dispatched S table.different plain name class;
       plain = plain_is S plain;
-      main = c.in_ok-main.ensures.erases ∙ c.as_slice-7.ensures;
+      bodies = c.in_ok-bodies.ensures.erases ∙ c.as_slice-7.ensures;
+      threads = c.in_ok-bodies.ensures.fits S k;
+      main = c.in_ok-main.ensures.erases ∙ c.as_slice-8.ensures;
       fits = both _ _ (c.in_ok-functions-2.ensures.fits S k (c.as_slice-own-2.ensures ∙ scopes.functions ∙ ap (map S.method_names) (sym c.as_slice-6.ensures)))
           (both _ _ (c.in_ok-classes.ensures.fits S k (c.as_slice-own.ensures ∙ scopes.classes ∙ ap (map (λ (k : Class). map S.method_names k.methods)) (sym c.as_slice-5.ensures)))
           (both _ _ (within (length S.main_names) c.in_ok-main.main_size room)

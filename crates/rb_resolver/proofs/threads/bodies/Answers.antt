@@ -1,0 +1,31 @@
+use Rattle.std.proofs.Common.{◌∙◌, ◌∷◌, [], ap, map, length, length-append, arith}
+use Rattle.std.proofs.lemmas.List.{take_all}
+use Rattle.rb_code.specs.Erase.{erase_body}
+use Rattle.rb_code.specs.Stands.{IsBody}
+use Rattle.rb_resolver.proofs.Fitted.{map_pushed}
+use Rattle.rb_resolver.proofs.Threads.{each_pushed, none_there}
+use Rattle.rb_resolver.proofs.threads.bodies.Goals as goal
+
+pub bodies-init : goal.bodies-init
+bodies-init c = record {
+  counted = ap length c.new-codes.ensures;
+  erases = ap (map erase_body) c.new-codes.ensures;
+  fits = λ S k number it at. absurd (none_there _ number it c.new-codes.ensures at);
+}
+
+pub bodies-preserved : goal.bodies-preserved
+bodies-preserved c =
+    let sources = c.args.sources.now in
+    let i = c.bodies.i in
+    let source = c.index-sources-i.result in
+    let code = c.in_ok-code in
+    let inv = c.bodies.invariant in
+    let pushed = c.in_ok-push.ensures.ok in
+    record {
+      counted = omega (arith, ap length pushed, length-append c.bodies.codes (code.code ∷ []), inv.counted);
+      erases = map_pushed erase_body c.bodies.codes c.push.new.self code.code sources source i pushed inv.erases code.ensures.erases c.bodies-test.true c.index-sources-i.is;
+      fits = λ S k. each_pushed (IsBody S) c.bodies.codes c.push.new.self code.code i pushed inv.counted (inv.fits S k) (code.ensures.fits S k);
+    }
+
+pub returns-clause-erases : goal.returns-clause-erases
+returns-clause-erases c = c.bodies.invariant.erases ∙ take_all c.bodies.i c.args.sources.now c.bodies-test.false
