@@ -3,4 +3,4 @@ pub mod Grows
 pub mod Numbered
 pub mod Fitted
 pub mod Rows
-pub mod Threads
+pub mod Started

@@ -1,9 +1,9 @@
-use Rattle.std.proofs.Common.{◌∙◌, ◌∷◌, [], ap, map, length, length-append, arith}
+use Rattle.std.proofs.Common.{◌≡◌, ◌∙◌, ◌∷◌, [], ap, map, length, length-append, arith, rules}
 use Rattle.std.proofs.lemmas.List.{take_all}
 use Rattle.rb_code.specs.Erase.{erase_body}
 use Rattle.rb_code.specs.Stands.{IsBody}
 use Rattle.rb_resolver.proofs.Fitted.{map_pushed}
-use Rattle.rb_resolver.proofs.Threads.{each_pushed, none_there}
+use Rattle.rb_resolver.proofs.Started.{each_pushed, none_there}
 use Rattle.rb_resolver.proofs.threads.bodies.Goals as goal
 
 pub bodies-init : goal.bodies-init
@@ -21,10 +21,11 @@ bodies-preserved c =
     let code = c.in_ok-code in
     let inv = c.bodies.invariant in
     let pushed = c.in_ok-push.ensures.ok in
+    let number : c.in-Ok.number ≡ i = search rules in
     record {
       counted = omega (arith, ap length pushed, length-append c.bodies.codes (code.code ∷ []), inv.counted);
       erases = map_pushed erase_body c.bodies.codes c.push.new.self code.code sources source i pushed inv.erases code.ensures.erases c.bodies-test.true c.index-sources-i.is;
-      fits = λ S k. each_pushed (IsBody S) c.bodies.codes c.push.new.self code.code i pushed inv.counted (inv.fits S k) (code.ensures.fits S k);
+      fits = λ S k. each_pushed (IsBody S) c.bodies.codes c.push.new.self code.code i c.in-Ok.number pushed inv.counted number (inv.fits S k) (code.ensures.fits S k);
     }
 
 pub returns-clause-erases : goal.returns-clause-erases

@@ -1,10 +1,12 @@
-use Rattle.std.proofs.Common.{◌≡◌, ◌≤◌, ◌+◌, ◌∙◌, ap, sym, refl, map, length, arith}
+use Rattle.std.proofs.Common.{◌≡◌, ◌≤◌, ◌+◌, ◌∙◌, ap, sym, map, length, arith}
+use Rattle.rb_code.specs.Erase.{erase}
 use Rattle.rb_code.specs.Resolved.{body_fits}
-use Rattle.rb_resolver.proofs.Threads.{body_of}
+use Rattle.rb_resolver.proofs.Started.{block_is}
 use Rattle.rb_resolver.proofs.threads.body.Goals as goal
 
 pub returns-clause-erases : goal.returns-clause-erases
-returns-clause-erases c = body_of _ c.args.source.now (c.in_ok-params.ensures ∙ c.as_slice-2.ensures) (c.in_ok-codes.ensures.erases ∙ c.as_slice.ensures) refl
+returns-clause-erases c =
+    block_is c.args.source.now c.in_ok-params.params (map erase c.in_ok-codes.codes) (c.in_ok-params.ensures ∙ c.as_slice-2.ensures) (c.in_ok-codes.ensures.erases ∙ c.as_slice.ensures)
 
 pub returns-clause-fits : goal.returns-clause-fits
 returns-clause-fits c = λ S k.

@@ -1,7 +1,7 @@
 use Rattle.std.proofs.Common.{◌∙◌, ◌+◌, [], ap, take, sym}
 use Rattle.std.proofs.lemmas.List.{take_more, take_all}
 use Rattle.rb_code.specs.Layout.{have_slots}
-use Rattle.rb_resolver.proofs.Threads.{slots_next}
+use Rattle.rb_resolver.proofs.Started.{slots_next}
 use Rattle.rb_resolver.proofs.threads.slots_of.Goals as goal
 
 pub used-init : goal.used-init

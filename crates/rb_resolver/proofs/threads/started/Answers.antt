@@ -1,6 +1,6 @@
 use Rattle.std.proofs.Common.{◌∙◌}
 use Rattle.rb_code.proofs.Erasing.{erase-start}
-use Rattle.rb_resolver.proofs.Threads.{start_fits}
+use Rattle.rb_resolver.proofs.Started.{start_fits}
 use Rattle.rb_resolver.proofs.threads.started.Goals as goal
 
 pub returns-clause-erases : goal.returns-clause-erases

@@ -10,8 +10,6 @@ use Rattle.rb_tree.specs.declared.node.Param.{Param}
 use Rattle.rb_machine.specs.Scopes.{Script}
 use Rattle.rb_code.specs.declared.code.Code.{Code}
 use Rattle.rb_code.specs.declared.code.Code.TheVariants as is
-use Rattle.rb_code.specs.declared.scripted.CodeBody.{CodeBody}
-use Rattle.rb_code.specs.Erase.{erase, erase_body}
 use Rattle.rb_code.specs.Layout.{has_slot, have_slots}
 use Rattle.rb_code.specs.Resolved.{every, fits}
 use Rattle.rb_code.proofs.Dispatched.{conjunction, conjunction_rest}
@@ -35,12 +33,12 @@ pub start_fits : (S : Script) (names captured : List NameId) (size : ℕ) (args 
 start_fits S names captured size args body slots at is h a =
     fits-start S names size args body slots at ∙ both _ _ (ap (λ ns. have_slots ns names slots) (sym is) ∙ h) a
 
-pub body_of : (b : CodeBody) (source : Block) → b.params ≡ source.params → map erase b.body ≡ source.body → b.at ≡ source.at → erase_body b ≡ source
-body_of b source params body at =
-    let with_params : List Param → Block = λ ps. record { params = ps; body = map erase b.body; at = b.at } in
-    let with_body : List Node → Block = λ ns. record { params = source.params; body = ns; at = b.at } in
-    let with_place : Span → Block = λ p. record { params = source.params; body = source.body; at = p } in
-    ap with_params params ∙ ap with_body body ∙ ap with_place at
+-- a block, by its parts
+abbrev block_with : List Param → List Node → Span → Block
+block_with params body at = record { params = params; body = body; at = at }
+
+pub block_is : (source : Block) (params : List Param) (body : List Node) → params ≡ source.params → body ≡ source.body → block_with params body source.at ≡ source
+block_is source params body p b = ap (λ ps. block_with ps body source.at) p ∙ ap (λ ns. block_with source.params ns source.at) b
 
 -- what is so of each element by its number, with one more
 each_more : {A : Type 0} (P : ℕ → A → Type 0) (xs : List A) (x : A) → ((n : ℕ) (y : A) → slice_get xs n ≡ Some y → P n y) → P (length xs) x → (n : ℕ) (y : A) → slice_get (xs ++ x ∷ []) n ≡ Some y → P n y
@@ -49,10 +47,10 @@ each_more P [] x each last (suc n) y at = absurd (cc)
 each_more P (z ∷ xs) x each last zero y at = each 0 y at
 each_more P (z ∷ xs) x each last (suc n) y at = each_more (λ m. P (suc m)) xs x (λ m w h. each (suc m) w h) last n y at
 
-pub each_pushed : {A : Type 0} (P : ℕ → A → Type 0) (xs new : List A) (x : A) (i : ℕ) → new ≡ xs ++ x ∷ [] → length xs ≡ i → ((n : ℕ) (y : A) → slice_get xs n ≡ Some y → P n y) → P i x
-    → (n : ℕ) (y : A) → slice_get new n ≡ Some y → P n y
-each_pushed P xs new x i is count each last n y at =
-    each_more P xs x each (subst (λ m. P m x) (sym count) last) n y (ap (λ l. slice_get l n) (sym is) ∙ at)
+pub each_pushed : {A : Type 0} (P : ℕ → A → Type 0) (xs new : List A) (x : A) (i number : ℕ) → new ≡ xs ++ x ∷ [] → length xs ≡ i → number ≡ i
+    → ((n : ℕ) (y : A) → slice_get xs n ≡ Some y → P n y) → P number x → (n : ℕ) (y : A) → slice_get new n ≡ Some y → P n y
+each_pushed P xs new x i number is count here each last n y at =
+    each_more P xs x each (subst (λ m. P m x) (here ∙ sym count) last) n y (ap (λ l. slice_get l n) (sym is) ∙ at)
 
 pub none_there : {A : Type 0} (xs : List A) (n : ℕ) (y : A) → xs ≡ [] → slice_get xs n ≡ Some y → ⊥
 none_there {A = A} xs n y is at = let e : slice_get {X = A} [] n ≡ Some y = ap (λ l. slice_get l n) (sym is) ∙ at in cc
