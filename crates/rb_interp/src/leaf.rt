@@ -53,6 +53,7 @@ pub(crate) fn place_of(code: &Code) -> Span
         Code::SetField(_, _, at) => *at,
         Code::UpdateField(_, _, _, at) => *at,
         Code::New(_, _, _, _, at) => *at,
+        Code::Start(_, _, _, at) => *at,
         Code::Store(_, _, _, at) => *at,
         Code::Operate(_, _, _, _, at) => *at,
         Code::Send(_, _, _, _, at) => *at,

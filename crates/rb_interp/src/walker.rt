@@ -487,6 +487,8 @@ impl<'p, O: ThreadStore + Drop> Walker<'p, O> {
                 depth,
                 room,
             ),
+            // No accepted script starts a thread yet.
+            Code::Start(_, _, _, at) => self.raise(Fault::NoMethod, *at),
             Code::And(first, second, _) => self.both(first.get(), second.get(), depth, room),
             Code::Or(first, second, _) => self.either(first.get(), second.get(), depth, room),
             Code::Not(value, _) => self.negate(value.get(), depth, room),

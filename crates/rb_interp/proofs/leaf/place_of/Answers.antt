@@ -1,6 +1,6 @@
 use Rattle.std.proofs.Common.{sym, ap}
 use Rattle.rb_tree.specs.Place.{place}
-use Rattle.rb_code.proofs.Showing.{shows-nil, shows-false, shows-true, shows-self_ref, shows-field, shows-set_field, shows-update_field, shows-new, shows-own, shows-int, shows-sym, shows-str, shows-local, shows-set_local, shows-update_local, shows-update_element, shows-update_attribute, shows-store, shows-operate, shows-send, shows-walk, shows-function, shows-print, shows-and, shows-or, shows-not, shows-if, shows-while, shows-return, shows-break, shows-next}
+use Rattle.rb_code.proofs.Showing.{shows-nil, shows-false, shows-true, shows-self_ref, shows-field, shows-set_field, shows-update_field, shows-new, shows-start, shows-own, shows-int, shows-sym, shows-str, shows-local, shows-set_local, shows-update_local, shows-update_element, shows-update_attribute, shows-store, shows-operate, shows-send, shows-walk, shows-function, shows-print, shows-and, shows-or, shows-not, shows-if, shows-while, shows-return, shows-break, shows-next}
 use Rattle.rb_interp.proofs.leaf.place_of.Goals as goal
 
 pub returns-in-Nil : goal.returns-in-Nil
@@ -89,6 +89,9 @@ returns-in-SetField c = sym (ap place (shows-set_field c.args.code.now _ _ _ c.i
 
 pub returns-in-UpdateField : goal.returns-in-UpdateField
 returns-in-UpdateField c = sym (ap place (shows-update_field c.args.code.now _ _ _ _ c.in-UpdateField.is))
+
+pub returns-in-Start : goal.returns-in-Start
+returns-in-Start c = sym (ap place (shows-start c.args.code.now _ _ _ _ c.in-Start.is))
 
 pub returns-in-New : goal.returns-in-New
 returns-in-New c = sym (ap place (shows-new c.args.code.now _ _ _ _ _ c.in-New.is))

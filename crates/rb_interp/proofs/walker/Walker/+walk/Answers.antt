@@ -11,7 +11,7 @@ use Rattle.rb_model.specs.Values.{Nil, Int, plain}
 use Rattle.rb_machine.specs.Control.{Then, Under, Rest, AssignTo, ReturnOf, Test, Again, RightOfAnd, RightOfOr, Negate, Choose, Argument, OnReceiver, IndexedBy, IndexOf, MemberOf, ReadOf, RightOf, WriteTo, ReceiverOf, Instead, OfLocal, OfField, OfElement, OfAttribute, Creating, FieldTo, On, Eval, Storing, ByName, ReceiverToStore, PieceOf, Counting, Turn, Frame, JoinTo, TextOf, WriteBehind}
 use Rattle.rb_code.specs.Erase.{erase, erase_piece, erase_block, erase_method}
 use Rattle.rb_code.specs.Resolved.{fits, every, if_some, block_fits}
-use Rattle.rb_code.proofs.Showing.{shows-nil, shows-false, shows-true, shows-self_ref, shows-field, shows-set_field, shows-update_field, shows-new, shows-own, shows-int, shows-sym, shows-local, shows-and, shows-or, shows-not, shows-if, shows-break, shows-next, shows-set_local, shows-while, shows-return, shows-str, shows-update_local, shows-update_element, shows-update_attribute, shows-store, shows-operate, shows-send, shows-walk, shows-function, shows-print}
+use Rattle.rb_code.proofs.Showing.{shows-nil, shows-false, shows-true, shows-self_ref, shows-field, shows-set_field, shows-update_field, shows-new, shows-start, shows-own, shows-int, shows-sym, shows-local, shows-and, shows-or, shows-not, shows-if, shows-break, shows-next, shows-set_local, shows-while, shows-return, shows-str, shows-update_local, shows-update_element, shows-update_attribute, shows-store, shows-operate, shows-send, shows-walk, shows-function, shows-print}
 use Rattle.rb_code.proofs.Fitting.{fits-local, fits-set_field, fits-update_field, fits-new, fits-own, fits-and, fits-or, fits-not, fits-if, fits-set_local, fits-while, fits-return, fits-str, fits-update_local, fits-update_element, fits-update_attribute, fits-store, fits-operate, fits-send, fits-walk, fits-function, fits-print}
 use Rattle.rb_interp.specs.Outcome.{value_of, outcome}
 use Rattle.rb_interp.proofs.Moves.{gives, test_true, test_false, on, same, begins, follows, counts, too_many, too_deep, left}
@@ -2201,6 +2201,11 @@ pub begin_other-returns-in-SelfRef-clause-came : goal.begin_other-returns-in-Sel
 begin_other-returns-in-SelfRef-clause-came g m c = λ S start k names size st e l a.
     let o = c.give_self.ensures in
     rw (o.gives, o.left, o.store) (begins _ _ k _ _ _ (shows-self_ref c.args.code.now c.in-SelfRef.field-0 c.in-SelfRef.is) a)
+
+pub begin_other-returns-in-Start-clause-came : goal.begin_other-returns-in-Start-clause-came
+begin_other-returns-in-Start-clause-came g m c = λ S start k names size st e l a.
+    let o = c.raise.ensures in
+    rw (o.gives, o.left, o.store) (begins _ _ k _ _ _ (shows-start c.args.code.now _ _ _ c.in-Start.at c.in-Start.is) a)
 
 pub begin_other-returns-in-Field-clause-came : goal.begin_other-returns-in-Field-clause-came
 begin_other-returns-in-Field-clause-came g m c = λ S start k names size st e l a.
