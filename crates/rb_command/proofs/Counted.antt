@@ -3,8 +3,8 @@ use Rattle.std.proofs.Common.{ℕ, ◌≡◌, ◌∙◌, ap, ap₂, sym, subst, 
 use Rattle.std.specs.Prelude.{◌&&◌, if◌then◌else◌, option_and_then, nat_le}
 use Rattle.std.specs.Str.Parse.{digits_value}
 use Rattle.std.proofs.lemmas.Bool.{eqb-true}
-use Rattle.rb_command.specs.Words.{Text, Name, Kind, Given, steps, heap_words, ends, option, refused, other, kind_of, begins_with_hyphen, number_of, within, least_of, most_of, nothing_given, with_file, with_number, with_value, files, reads_on, reads, run_of, run, default_of}
-use Rattle.rb_command.specs.Line.{Parts, no_parts, parts_of, part_files, part_file, part_text, part_value, part_on, whole, line_of, command_of_line}
+use Rattle.rb_command.specs.Words.{Text, Name, Kind, Given, steps, heap_words, ends, option, refused, other, kind_of, begins_with_hyphen, number_of, within, least_of, most_of, with_file, with_number, with_value, files, reads_on, reads, run_of, run_in, default_of}
+use Rattle.rb_command.specs.Line.{Parts, no_parts, parts_of, part_files, part_file, part_text, part_value, part_on, whole, line_of, run_of_line}
 
 -- ---- the numbers of the parts
 
@@ -206,7 +206,7 @@ same_reads (word ∷ rest) (Some name) file s p a b s_is p_is =
 
 -- ---- the command
 
-run_of_parts : (file s p : Option Text) → option_and_then run_of (counted (parts file s p)) ≡ option_and_then command_of_line (whole (parts file s p))
+run_of_parts : (file s p : Option Text) → option_and_then run_of (counted (parts file s p)) ≡ option_and_then run_of_line (whole (parts file s p))
 run_of_parts None s p = go (counted_text steps s) (counted_text heap_words p)
   where
     go : (a b : Option (Option ℕ)) → option_and_then run_of (counted_by None a b) ≡ None
@@ -217,26 +217,26 @@ run_of_parts (Some file) None None = refl
 run_of_parts (Some file) (Some s) None = go (number_of steps s)
   where
     go : (o : Option ℕ) → option_and_then run_of (counted_by (Some file) (option_map (λ n. Some n) o) (Some None))
-        ≡ option_map run (option_and_then (λ n. Some (record { file = file; steps = n; heap_words = default_of heap_words })) o)
+        ≡ option_and_then (λ n. Some (record { file = file; steps = n; heap_words = default_of heap_words })) o
     go None = refl
     go (Some n) = refl
 run_of_parts (Some file) None (Some p) = go (number_of heap_words p)
   where
     go : (o : Option ℕ) → option_and_then run_of (counted_by (Some file) (Some None) (option_map (λ n. Some n) o))
-        ≡ option_map run (option_map (λ n. record { file = file; steps = default_of steps; heap_words = n }) o)
+        ≡ option_map (λ n. record { file = file; steps = default_of steps; heap_words = n }) o
     go None = refl
     go (Some n) = refl
 run_of_parts (Some file) (Some s) (Some p) = go (number_of steps s) (number_of heap_words p)
   where
     go : (a b : Option ℕ) → option_and_then run_of (counted_by (Some file) (option_map (λ n. Some n) a) (option_map (λ n. Some n) b))
-        ≡ option_map run (option_and_then (λ n. option_map (λ m. record { file = file; steps = n; heap_words = m }) b) a)
+        ≡ option_and_then (λ n. option_map (λ m. record { file = file; steps = n; heap_words = m }) b) a
     go None b = refl
     go (Some a) None = refl
     go (Some a) (Some b) = refl
 
-run_of_whole : (o : Option Parts) → option_and_then run_of (option_and_then counted o) ≡ option_and_then command_of_line (option_and_then whole o)
+run_of_whole : (o : Option Parts) → option_and_then run_of (option_and_then counted o) ≡ option_and_then run_of_line (option_and_then whole o)
 run_of_whole None = refl
 run_of_whole (Some now) = run_of_parts now.file now.steps now.heap_words
 
-pub reads-line : (words : List Text) → option_and_then run_of (reads None words nothing_given) ≡ option_and_then command_of_line (line_of words)
+pub reads-line : (words : List Text) → run_in words ≡ option_and_then run_of_line (line_of words)
 reads-line words = ap (option_and_then run_of) (same_reads words None None None None None None refl refl) ∙ run_of_whole (parts_of None words no_parts)

@@ -1,6 +1,6 @@
 -- What command lines ask for, by example.
 use Rattle.std.specs.Prelude.{ℕ, ◌≡◌, List, [], ◌∷◌, Option, Some, None, codes, refl}
-use Rattle.rb_command.specs.Words.{Text, Wanted, run, command_of}
+use Rattle.rb_command.specs.Words.{Text, Wanted, run, shapes, command_of}
 
 abbrev asks : Text → ℕ → ℕ → Option Wanted
 asks file steps heap_words = Some (run (record { file = file; steps = steps; heap_words = heap_words }))
@@ -40,6 +40,9 @@ too_small_a_heap = refl
 
 single_hyphen : of (codes "-" ∷ []) ≡ None
 single_hyphen = refl
+
+for_shapes : command_of (codes "shapes" ∷ codes "a.rb" ∷ codes "--steps=5" ∷ []) ≡ Some (shapes (record { file = codes "a.rb"; steps = 5; heap_words = 1048576 }))
+for_shapes = refl
 
 no_command : command_of (codes "--help" ∷ []) ≡ None
 no_command = refl

@@ -1,8 +1,7 @@
 -- What clap answers to the words behind the command, as the line says it.
-use Rattle.std.proofs.Common.{◌≡◌, ◌≢◌, ◌∙◌, ap, sym, subst, Bool, true, false, inl, inr, List, [], ◌∷◌, Option, Some, None, option_map, codes, refl, ◌≤◌, length, get_or, map, take, drop, ◌-◌, string_bytes, String, Global, Result, Ok, Err, IfOk, arith}
+use Rattle.std.proofs.Common.{◌≡◌, ◌≢◌, ◌∙◌, ap, sym, Bool, true, false, inl, inr, List, [], ◌∷◌, Option, Some, None, option_map, codes, refl, Result, Ok, Err, IfOk}
 use Rattle.std.specs.Prelude.{◌&&◌, ◌||◌, ◌==◌, not, if◌then◌else◌, option_and_then}
 use Rattle.std.specs.Str.{bytes_eq}
-use Rattle.std.proofs.lemmas.List.{take_all}
 use Rattle.clap.specs.Kinds.{Kinds, HasKind, IsAmong}
 use Rattle.clap.specs.Values.{kind_of as kind_of_error}
 use Rattle.clap.specs.declared.error.Error.{Error}
@@ -15,12 +14,11 @@ use Rattle.clap.specs.declared.parser.matches.Found.{Found}
 use Rattle.clap.specs.declared.error.kind.ErrorKind.{ErrorKind}
 use Rattle.clap.proofs.FaultLemmas.{leaf_fault}
 use Rattle.clap.proofs.WalkLemmas.{first_value-rows}
-use Rattle.rb_command.specs.Words.{Text, Name, Kind, steps, heap_words, ends, option, refused, other, kind_of, begins_with_hyphen, name_part, value_part, command_of}
-use Rattle.rb_command.specs.Line.{Parts, Line, whole, no_parts, line_of, parts_of, part_file, part_value, part_text, part_on, has_one_hyphen, any_has_one_hyphen, command_of_line}
+use Rattle.rb_command.specs.Words.{Text, Name, Kind, steps, heap_words, ends, option, refused, other, kind_of, begins_with_hyphen, name_part, value_part}
+use Rattle.rb_command.specs.Line.{Parts, Line, whole, no_parts, line_of, parts_of, part_file, part_value, part_text, part_on, has_one_hyphen, any_has_one_hyphen}
 use Rattle.rb_command.specs.Rows.{line_in}
 use Rattle.rb_command.proofs.Reader.{reader}
 use Rattle.rb_command.proofs.Looks.{one_is_refused}
-use Rattle.rb_command.proofs.Counted.{reads-line}
 use Rattle.rb_command.proofs.Agree.{answer, outcome-line}
 
 -- ---- what clap takes and what it refuses
@@ -110,13 +108,3 @@ pub refused_line : {L E : Type 0} (see : L → Line) (r : Result (Option L) E) (
 refused_line see (Err x) words e nothing cause none_single among = tt
 refused_line see (Ok line) words e nothing cause none_single (inl memory) = absurd (cause memory)
 refused_line see (Ok line) words e nothing cause none_single (inr among) = ap (option_map see) nothing ∙ not_taken words (kind_of_error e) none_single among
-
--- ---- the command
-
-pub run_line : (words : List (String Global)) (first : String Global) → 1 ≤ length words → first ≡ get_or words 0 first → bytes_eq (string_bytes first) (codes "run") ≡ true
-    → option_and_then command_of_line (line_of (map string_bytes (take (length words - 1) (drop 1 words)))) ≡ command_of (map string_bytes words)
-run_line [] first some is run = let none : 1 ≤ 0 = some in absurd (omega arith)
-run_line (word ∷ words) first some is run =
-    let named : bytes_eq (string_bytes word) (codes "run") ≡ true = subst (λ (w : String Global). bytes_eq (string_bytes w) (codes "run") ≡ true) is run in
-    let all : take (length (word ∷ words) - 1) words ≡ words = take_all (length (word ∷ words) - 1) words (omega arith) in
-    rw (named, all) (sym (reads-line (map string_bytes words)))

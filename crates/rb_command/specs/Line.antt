@@ -1,7 +1,7 @@
 -- The words behind the command, with the values of options as texts: what is read before the numbers are.
 use Rattle.std.specs.Prelude.{ℕ, ◌==◌, ◌&&◌, ◌||◌, Bool, false, not, List, [], ◌∷◌, Option, Some, None, option_map, option_and_then, if◌then◌else◌, codes}
 use Rattle.std.specs.Str.{bytes_eq}
-use Rattle.rb_command.specs.Words.{Text, Name, Kind, steps, heap_words, ends, option, refused, other, once, kind_of, begins_with_hyphen, number_in, least_of, most_of, default_of, Run, Wanted, run}
+use Rattle.rb_command.specs.Words.{Text, Name, Kind, steps, heap_words, ends, option, refused, other, once, kind_of, begins_with_hyphen, number_in, least_of, most_of, default_of, Run}
 
 -- ---- words with one hyphen
 
@@ -82,6 +82,3 @@ number_for name text = chosen (least_of name) (most_of name) (default_of name) t
 abbrev pub run_of_line : Line → Option Run
 run_of_line line = option_and_then (λ number. option_map (λ words. record { file = line.file; steps = number; heap_words = words })
     (number_for heap_words line.heap_words)) (number_for steps line.steps)
-
-abbrev pub command_of_line : Line → Option Wanted
-command_of_line line = option_map run (run_of_line line)

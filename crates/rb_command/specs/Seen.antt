@@ -5,7 +5,7 @@ use Rattle.rb_command.specs.Line as said
 use Rattle.rb_command.specs.declared.line.Line.{Line}
 use Rattle.rb_command.specs.declared.words.RunWords.{RunWords}
 use Rattle.rb_command.specs.declared.words.Command.{Command}
-use Rattle.rb_command.specs.declared.words.Command.TheVariants.{Run}
+use Rattle.rb_command.specs.declared.words.Command.TheVariants.{Run, Shapes}
 
 abbrev pub line_seen : Line → said.Line
 line_seen line = record { file = line.file.now; steps = option_map (λ text. text.now) line.steps; heap_words = option_map (λ text. text.now) line.heap_words }
@@ -15,3 +15,4 @@ run_seen words = record { file = words.file.now; steps = words.steps; heap_words
 
 abbrev pub seen : Command → spec.Wanted
 seen (Run words) = spec.run (run_seen words)
+seen (Shapes words) = spec.shapes (run_seen words)

@@ -125,19 +125,26 @@ pub record Run : Type 0 where
   pub steps : ℕ
   pub heap_words : ℕ
 
--- what the program is asked to do
+-- what the program is asked to do: to run a script, or to tell the shapes of its objects behind that
 pub data Wanted : Type 0 where
   run : Run → Wanted
+  shapes : Run → Wanted
 
 -- a run wants a FILE
-abbrev pub run_of : Given → Option Wanted
-run_of given = option_map (λ file. run (record {
+abbrev pub run_of : Given → Option Run
+run_of given = option_map (λ file. record {
   file = file;
   steps = unwrap_or given.steps (default_of steps);
   heap_words = unwrap_or given.heap_words (default_of heap_words);
-})) given.file
+}) given.file
+
+-- the run that the words behind the command tell
+abbrev pub run_in : List Text → Option Run
+run_in words = option_and_then run_of (reads None words nothing_given)
 
 -- what the words ask for, without the program's own name; none where they are no words of the program
 abbrev pub command_of : List Text → Option Wanted
 command_of [] = None
-command_of (word ∷ rest) = if bytes_eq word (codes "run") then option_and_then run_of (reads None rest nothing_given) else None
+command_of (word ∷ rest) =
+    if bytes_eq word (codes "run") then option_map run (run_in rest)
+    else (if bytes_eq word (codes "shapes") then option_map shapes (run_in rest) else None)

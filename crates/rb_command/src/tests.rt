@@ -1,6 +1,6 @@
 // Command lines, and what they ask for.
 
-use crate::{Command, command_of};
+use crate::{Command, RunWords, command_of};
 use std::alloc::{AllocError, Global};
 use std::test::Fail;
 
@@ -13,51 +13,70 @@ fn words_of(alloc: Global, line: &str) -> Result<Vec<String>, AllocError> {
     Ok(words)
 }
 
-/// What the words ask for, as text; `none` where it is nothing.
-fn asked(alloc: Global, line: &str) -> Result<String, AllocError> {
-    let words = words_of(alloc, line)?;
-    match command_of(alloc, words.as_slice())? {
-        Some(Command::Run(run)) => {
-            format!(in alloc; "{} {} {}", run.file, run.steps, run.heap_words)
-        }
-        None => String::from_str(alloc, "none"),
+/// The name of a command, and what it is told.
+fn parts<'w>(command: Command<'w>) -> (&'static str, RunWords<'w>) {
+    match command {
+        Command::Run(words) => ("run", words),
+        Command::Shapes(words) => ("shapes", words),
     }
 }
 
+/// What the words ask for, as text; `none` where it is nothing.
+fn asked(alloc: Global, line: &str) -> Result<String, AllocError> {
+    let words = words_of(alloc, line)?;
+    let Some(command) = command_of(alloc, words.as_slice())? else {
+        return String::from_str(alloc, "none");
+    };
+    let (name, told) = parts(command);
+    format!(in alloc; "{name}: {} {} {}", told.file, told.steps, told.heap_words)
+}
+
 /// A line, and what it asks for: the FILE, the steps and the heap words.
-const ACCEPTED: [(&str, &str); 22] = [
-    ("run a.rb", "a.rb 100000000 1048576"),
-    ("run a.rb --steps=5", "a.rb 5 1048576"),
-    ("run a.rb --steps 5", "a.rb 5 1048576"),
-    ("run --steps=5 a.rb", "a.rb 5 1048576"),
-    ("run --steps 5 a.rb", "a.rb 5 1048576"),
-    ("run a.rb --heap-words=4096", "a.rb 100000000 4096"),
+const ACCEPTED: [(&str, &str); 28] = [
+    ("run a.rb", "run: a.rb 100000000 1048576"),
+    ("run a.rb --steps=5", "run: a.rb 5 1048576"),
+    ("run a.rb --steps 5", "run: a.rb 5 1048576"),
+    ("run --steps=5 a.rb", "run: a.rb 5 1048576"),
+    ("run --steps 5 a.rb", "run: a.rb 5 1048576"),
+    ("run a.rb --heap-words=4096", "run: a.rb 100000000 4096"),
     (
         "run a.rb --heap-words 134217728",
-        "a.rb 100000000 134217728",
+        "run: a.rb 100000000 134217728",
     ),
-    ("run --heap-words=5000 a.rb", "a.rb 100000000 5000"),
-    ("run --heap-words 5000 a.rb", "a.rb 100000000 5000"),
-    ("run --steps 1 --heap-words 4096 a.rb", "a.rb 1 4096"),
+    ("run --heap-words=5000 a.rb", "run: a.rb 100000000 5000"),
+    ("run --heap-words 5000 a.rb", "run: a.rb 100000000 5000"),
+    ("run --steps 1 --heap-words 4096 a.rb", "run: a.rb 1 4096"),
     (
         "run --heap-words=4096 a.rb --steps=1000000000000",
-        "a.rb 1000000000000 4096",
+        "run: a.rb 1000000000000 4096",
     ),
-    ("run a.rb --steps 0000000000000000007", "a.rb 7 1048576"),
-    ("run a.rb --steps 07", "a.rb 7 1048576"),
-    ("run a.rb --", "a.rb 100000000 1048576"),
-    ("run -- a.rb", "a.rb 100000000 1048576"),
-    ("run -- -a.rb", "-a.rb 100000000 1048576"),
-    ("run -- --", "-- 100000000 1048576"),
-    ("run -- -", "- 100000000 1048576"),
-    ("run --steps 5 -- a", "a 5 1048576"),
-    ("run --steps 5 -- --steps", "--steps 5 1048576"),
-    ("run run", "run 100000000 1048576"),
-    ("run ", " 100000000 1048576"),
+    (
+        "run a.rb --steps 0000000000000000007",
+        "run: a.rb 7 1048576",
+    ),
+    ("run a.rb --steps 07", "run: a.rb 7 1048576"),
+    ("run a.rb --", "run: a.rb 100000000 1048576"),
+    ("run -- a.rb", "run: a.rb 100000000 1048576"),
+    ("run -- -a.rb", "run: -a.rb 100000000 1048576"),
+    ("run -- --", "run: -- 100000000 1048576"),
+    ("run -- -", "run: - 100000000 1048576"),
+    ("run --steps 5 -- a", "run: a 5 1048576"),
+    ("run --steps 5 -- --steps", "run: --steps 5 1048576"),
+    ("run run", "run: run 100000000 1048576"),
+    ("run ", "run:  100000000 1048576"),
+    ("shapes a.rb", "shapes: a.rb 100000000 1048576"),
+    (
+        "shapes --steps 5 a.rb --heap-words=4096",
+        "shapes: a.rb 5 4096",
+    ),
+    ("shapes -- -a.rb", "shapes: -a.rb 100000000 1048576"),
+    ("shapes shapes", "shapes: shapes 100000000 1048576"),
+    ("shapes run", "shapes: run 100000000 1048576"),
+    ("run shapes", "run: shapes 100000000 1048576"),
 ];
 
 /// Lines that are no words of the program.
-const REFUSED: [&str; 53] = [
+const REFUSED: [&str; 62] = [
     "",
     "--help",
     "-h",
@@ -111,6 +130,15 @@ const REFUSED: [&str; 53] = [
     "run --heap-words 4095 a.rb",
     "run --heap-words 134217729 a.rb",
     "run --heap-words 0 a.rb",
+    "shapes",
+    "Shapes a.rb",
+    "shape a.rb",
+    "shapes a.rb b.rb",
+    "shapes --steps 0 a.rb",
+    "shapes -a.rb",
+    "--steps 5 shapes a.rb",
+    "run shapes a.rb",
+    "shapes run a.rb",
 ];
 
 #[test]

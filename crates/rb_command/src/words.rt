@@ -9,7 +9,7 @@ use crate::line::{Line, line_of};
 use crate::numbers::{HEAP_WORDS, STEPS, chosen};
 use std::alloc::{AllocError, Global};
 
-/// What `run` is told: the script's path, how many steps a thread may make, how many words the shared heap has.
+/// What a command is told: the script's path, how many steps a thread may make, how many words the shared heap has.
 #[derive(Clone, Copy)]
 pub struct RunWords<'w> {
     pub file: &'w str,
@@ -20,7 +20,10 @@ pub struct RunWords<'w> {
 /// What the program is asked to do.
 #[derive(Clone, Copy)]
 pub enum Command<'w> {
+    /// To run a script.
     Run(RunWords<'w>),
+    /// To run a script, and to tell the shapes of its objects behind that.
+    Shapes(RunWords<'w>),
 }
 
 /// What the words ask for, without the program's own name; none where they are no words of the program.
@@ -30,11 +33,35 @@ pub fn command_of<'w>(alloc: Global, words: &'w [String]) -> Result<Option<Comma
     let [command, rest @ ..] = words else {
         return Ok(None);
     };
-    if command.as_str() != "run" {
-        return Ok(None);
+    if command.as_str() == "run" {
+        return Ok(asked_to_run(words_told(alloc, rest)?));
     }
-    match line_of(alloc, rest)? {
-        Some(line) => Ok(run_command(line)),
+    if command.as_str() == "shapes" {
+        return Ok(asked_for_shapes(words_told(alloc, rest)?));
+    }
+    Ok(None)
+}
+
+/// The command `run`, where its words are there.
+fn asked_to_run<'w>(words: Option<RunWords<'w>>) -> Option<Command<'w>>
+    ensures { option_map seen result ≡ option_map spec.run (option_map run_seen words.entry) }
+{
+    Some(Command::Run(words?))
+}
+
+/// The command `shapes`, where its words are there.
+fn asked_for_shapes<'w>(words: Option<RunWords<'w>>) -> Option<Command<'w>>
+    ensures { option_map seen result ≡ option_map spec.shapes (option_map run_seen words.entry) }
+{
+    Some(Command::Shapes(words?))
+}
+
+/// What the words behind a command tell; none where they are no words of the program.
+fn words_told<'w>(alloc: Global, words: &'w [String]) -> Result<Option<RunWords<'w>>, AllocError>
+    ensures { IfOk result (λ found. option_map run_seen found ≡ spec.run_in (map string_bytes words.now)) }
+{
+    match line_of(alloc, words)? {
+        Some(line) => Ok(run_words(line)),
         None => Ok(None),
     }
 }
@@ -50,14 +77,4 @@ fn run_words<'w>(line: Line<'w>) -> Option<RunWords<'w>>
         steps,
         heap_words,
     })
-}
-
-/// The command that a line asks for.
-fn run_command<'w>(line: Line<'w>) -> Option<Command<'w>>
-    ensures { option_map seen result ≡ said.command_of_line (line_seen line.entry) }
-{
-    match run_words(line) {
-        Some(run) => Some(Command::Run(run)),
-        None => None,
-    }
 }
