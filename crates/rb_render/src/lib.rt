@@ -9,4 +9,4 @@ mod text;
 
 pub use pieces::{Style, add_text, add_value};
 pub use show::{Form, MAX_BYTES, RenderFault, render};
-pub use text::{add_inspected, add_shown, name_text};
+pub use text::{add_inspected, add_shown, class_text, name_text};

@@ -21,7 +21,7 @@ pub fn name_text(names: &Names, name: NameId) -> &[u8]
 }
 
 /// The name of the class of this number, empty where there is no such class.
-fn class_text(program: &Program, class: u32) -> &[u8]
+pub fn class_text(program: &Program, class: u32) -> &[u8]
     ensures { result.now ≡ spec.class_text program.now (slice_get program.now.classes class) }
 {
     match program.classes.get(class as usize) {
