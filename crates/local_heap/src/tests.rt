@@ -6,13 +6,12 @@ ghost use Rattle.rb_model.specs.Things.{Object};
 ghost use Rattle.rb_model.specs.Private.{held};
 
 use crate::LocalHeap;
-use crate::object::Object;
-use crate::slot::Whose;
+use crate::row::settle;
+use crate::slot::{Whose, slot_for};
 use rb_model::{Act, Id, Make, Ref, Reply, SharedText, Sort, Thing, Value};
 use rb_tree::NameId;
 use shape_core::ShapeStore;
 use shape_tree::Tree;
-use smallvec::SmallVec;
 use std::alloc::{AllocError, Global};
 use std::test::Fail;
 
@@ -352,24 +351,18 @@ fn a_write_that_fails_leaves_all_as_it_was(rt: HostRuntime) -> Result<(), Fail> 
 #[test]
 fn values_that_are_overwritten_are_not_kept(rt: HostRuntime) -> Result<(), Fail> {
     let alloc = rt.alloc();
-    let mut tree = Tree::new(alloc)?;
-    let mut object = Object {
-        shape: tree.root(7)?,
-        words: SmallVec::new(alloc),
-        whole: Vec::new(alloc),
-    };
-    for row in [
-        Row::Int(5),
+    let mut row = Vec::new(alloc);
+    for it in [
         Row::Text("text"),
         Row::Int(i64::MIN),
         Row::To(LIST),
-        Row::Object(1),
+        Row::Sym(5),
     ] {
-        object.write(&mut tree, NameId(3), value(alloc, row)?, Whose::Others)?;
+        let slot = slot_for(value(alloc, it)?, Whose::Others);
+        settle(&mut row, 1, slot.whole)?;
     }
-    assert_eq!(rt; (object.words.len(), object.whole.len()), (2, 2));
-    object.write(&mut tree, NameId(3), Value::Nil, Whose::Others)?;
-    assert!(rt; object.whole.iter().all(|whole| matches!(whole, Value::Nil)));
+    assert_eq!(rt; row.len(), 2);
+    assert!(rt; row.iter().all(|whole| matches!(whole, Value::Nil)));
     Ok(())
 }
 
