@@ -149,10 +149,8 @@ fn node(
         }
         Node::Break(at) => Ok(Code::Break(*at)),
         Node::Next(at) => Ok(Code::Next(*at)),
-        Node::Array(_, at)
-        | Node::Hash(_, at)
-        | Node::Global(_, at)
-        | Node::SetGlobal(_, _, at) => Err(ResolveFault::NotBuilt(*at)),
+        Node::Array(_, at) | Node::Hash(_, at) | Node::Global(_, at) | Node::SetGlobal(_, _, at) =>
+            Err(ResolveFault::NotBuilt(*at)),
     }
 }
 

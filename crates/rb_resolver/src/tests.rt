@@ -231,7 +231,10 @@ fn threads_capture_locals_in_the_order_of_their_first_use(rt: HostRuntime) -> Re
             "<>[1]: x/0; [1]: (set x/0 1) (start 0 <> x/0)",
         ),
         // A parameter that nothing reads has a slot too.
-        ("Thread.new(1, 2) { |a, b| 3 }", "<>[2]: 3; [0]: (start 0 <> 1 2)"),
+        (
+            "Thread.new(1, 2) { |a, b| 3 }",
+            "<>[2]: 3; [0]: (start 0 <> 1 2)",
+        ),
         // A local that is assigned first in the thread is the thread's own.
         (
             "Thread.new { x = 1 }\nx = 2",

@@ -51,12 +51,7 @@ pub(crate) fn started(
 }
 
 /// Resolves the body of a thread, which has this number.
-fn body(
-    known: &Known,
-    names: &Names,
-    number: u32,
-    source: &Block,
-) -> Result<CodeBody, ResolveFault>
+fn body(known: &Known, names: &Names, number: u32, source: &Block) -> Result<CodeBody, ResolveFault>
     ensures erases { IfOk result (λ body. erase_body body ≡ source.now) }
     ensures fits { IfOk result (λ body. (S : Script) → spec.IsKnown known.now names.now S → IsBody S number body) }
 {

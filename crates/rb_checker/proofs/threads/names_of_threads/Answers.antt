@@ -1,10 +1,10 @@
-use Rattle.std.proofs.Common.{ℕ, List, Option, [], Some, sym, ap, ◌∙◌}
+use Rattle.std.proofs.Common.{List, [], Some, sym, ap, ◌∙◌}
 use Rattle.std.specs.List.{flat_map}
 use Rattle.rb_checker.specs.declared.event.Event.{Event}
-use Rattle.rb_checker.specs.Captured.{start_in, start_of, captured_at, frame_at, captured_in}
+use Rattle.rb_checker.specs.Captured.{start_of, captured_at, frame_at}
 use Rattle.rb_checker.specs.Check.{texts}
 use Rattle.rb_checker.specs.Locals.{uses_in}
-use Rattle.rb_checker.specs.Scoped.{names_at, names_behind}
+use Rattle.rb_checker.specs.Scoped.{names_behind}
 use Rattle.rb_checker.proofs.Captures.{same_notes, started_same}
 use Rattle.rb_checker.proofs.threads.names_of_threads.Goals as goal
 

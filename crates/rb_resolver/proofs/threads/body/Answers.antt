@@ -1,4 +1,4 @@
-use Rattle.std.proofs.Common.{◌≡◌, ◌≤◌, ◌+◌, ◌∙◌, ap, sym, map, length, arith}
+use Rattle.std.proofs.Common.{◌∙◌, ap, sym, map, length, arith}
 use Rattle.rb_code.specs.Erase.{erase}
 use Rattle.rb_code.specs.Resolved.{body_fits}
 use Rattle.rb_resolver.proofs.Started.{block_is}
