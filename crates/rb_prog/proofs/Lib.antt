@@ -4,3 +4,5 @@ pub mod Judging
 pub mod Telling
 pub mod Completing
 pub mod Wording
+pub mod Shaping
+pub mod Showing

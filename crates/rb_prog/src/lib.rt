@@ -3,6 +3,7 @@
 
 mod refusal;
 mod remarks;
+mod shapes;
 mod source;
 #[cfg(test)]
 mod tests;

@@ -27,7 +27,7 @@ pub(crate) const SOURCE_FAILED: &str = "rbso: source failed\n";
 pub(crate) const MEMORY: &str = "rbso: memory\n";
 
 /// Standard output failed.
-const SINK_FAILED: &str = "rbso: sink failed\n";
+pub(crate) const SINK_FAILED: &str = "rbso: sink failed\n";
 
 /// Writes a line. Where it fails, nothing more is done.
 pub(crate) fn tell<E: Sink>(err: &mut E, line: &str)

@@ -4,6 +4,7 @@ mod examples;
 mod names;
 mod refusals;
 mod scripts;
+mod shapes;
 mod sources;
 
 use crate::{Report, run};
@@ -15,7 +16,7 @@ use std::sync::atomic::{AtomicU64, Ordering};
 use std::test::Fail;
 
 /// Enough for what the scripts here print.
-const ROOM: usize = 16_384;
+const ROOM: usize = 65_536;
 
 /// The files that hold one script under `a.rb`.
 fn script(alloc: Global, source: &[u8], failing: Vec<u64>) -> Result<MemoryFiles, AllocError> {

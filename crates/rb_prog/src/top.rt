@@ -1,24 +1,32 @@
 // The top call.
 
-ghost use Rattle.std.specs.Prelude.{◌≡◌, ◌⊎◌, ◌≤◌, ℕ, List, [], Option, Some, None, map, length, string_bytes};
+ghost use Rattle.std.specs.Prelude.{◌≡◌, ◌⊎◌, ◌≤◌, ℕ, List, [], Option, Some, None, IfSome, IsSome, map, length, string_bytes};
 ghost use Rattle.std.specs.Process.{exit_status};
-ghost use Rattle.rb_tree.specs.declared.node.Program.{Program as Tree};
 ghost use Rattle.rb_command.specs.Words as asked;
-ghost use Rattle.rb_command.specs.Seen.{run_seen, seen};
-ghost use Rattle.rb_edge.specs.Edge.{Bytes, Rose, Told};
+ghost use Rattle.rb_edge.specs.Edge.{Adds, Bytes, Rose, Told};
+ghost use Rattle.rb_model.specs.Values.{Value};
 ghost use Rattle.rb_model.specs.Ends.{over};
+ghost use Rattle.rb_model.specs.Ends as ending;
+ghost use Rattle.rb_model.specs.Log.{Log};
+ghost use Rattle.rb_run.specs.Run.{IsRunOf};
 ghost use Rattle.rb_prog.specs.Accepting.{rejected_status, rejected_line};
 ghost use Rattle.rb_prog.specs.Remarks.{usage_line, memory_line};
+ghost use Rattle.rb_prog.specs.Shapes.{shape_lines, TellsLines};
 ghost use Rattle.rb_prog.specs.Run as spec;
-ghost use Rattle.rb_prog.specs.Run.{Accepts, RunsSource, Runs, IsOwnOrMemory};
+ghost use Rattle.rb_prog.specs.Run.{Accepts, RunsSource, Runs, HasValue, Shows, IsOwnOrMemory};
 
-use crate::remarks::{MEMORY, SOURCE_FAILED, SOURCE_MISSING, USAGE, tell, tell_end, tell_refusal};
+use crate::remarks::{
+    MEMORY, SINK_FAILED, SOURCE_FAILED, SOURCE_MISSING, USAGE, tell, tell_end, tell_refusal,
+};
+use crate::shapes::{Untold, tell_shapes};
 use crate::source::{Unaccepted, accept};
 use rb_command::{Command, RunWords, command_of};
 use rb_edge::{Files, Gate, ReadFault, Sink, read_source};
 use rb_model::End;
 use rb_run::{Ran, run_program};
 use rb_store::RunFront;
+use rb_tree::Program;
+use shape_tree::Tree;
 use std::alloc::Global;
 use std::process::ExitCode;
 use std::sync::Arc;
@@ -39,14 +47,6 @@ impl<K> Report<K> {
     {
         ExitCode::from(self.status)
     }
-}
-
-/// What a run is told by the command.
-fn run_words(command: Command) -> RunWords
-    ensures { seen command.entry ≡ asked.run (run_seen result) }
-{
-    let Command::Run(words) = command;
-    words
 }
 
 /// The status of an end.
@@ -100,6 +100,41 @@ fn rejected<K, E: Sink>(source: &[u8], why: Unaccepted, out: K, err: &mut E) -> 
     }
 }
 
+/// A run that came to a value: its program, and the shapes that the main thread's objects have had.
+#[derive(Drop)]
+struct Valued {
+    program: Program,
+    shapes: Tree,
+}
+
+/// A run with its report, and what is left of it where it came to a value.
+#[derive(Drop)]
+struct Ended<K> {
+    report: Report<K>,
+    valued: Option<Valued>,
+}
+
+/// A run of which a report is all.
+fn no_value<K>(report: Report<K>) -> Ended<K>
+    ensures { result ≡ record { report = report; valued = None } }
+{
+    Ended {
+        report,
+        valued: None,
+    }
+}
+
+/// What is left of a run: its program and the shapes, where it came to a value.
+fn value_left(program: Program, shapes: Tree, end: &End) -> Option<Valued>
+    ensures value { IfSome result (λ left. (value : Value) × (over end.now ≡ ending.Value value) × (left.program ≡ program) × (left.shapes ≡ shapes)) }
+    ensures other { result ≡ None → spec.status_of (over end.now) ≡ 0 → ⊥ }
+{
+    match end {
+        End::Value(_) => Some(Valued { program, shapes }),
+        _ => None,
+    }
+}
+
 /// A source that was read, accepted and run with so many steps.
 fn run_source<K: Sink + Drop, E: Sink>(
     alloc: Global,
@@ -107,30 +142,45 @@ fn run_source<K: Sink + Drop, E: Sink>(
     steps: u64,
     out: K,
     err: &mut E,
-) -> Report<K>
+) -> Ended<K>
     requires { length source.now ≤ 1048577 }
-    ensures runs { (line : List ℕ) × RunsSource source.now steps (K.told out) (K.told result.out) result.status result.front line
+    ensures runs { (line : List ℕ) × RunsSource source.now steps (K.told out) (K.told result.report.out) result.report.status result.report.front line
         × Told (E.told err.old) (E.told err.new) line (Rose (E.faults err.old) (E.faults err.new)) }
-    ensures cause { result.status ≡ 5 → Rose (K.faults out) (K.faults result.out) }
-    ensures never_full { result.status ≡ 7 → ⊥ }
-    ensures rises { K.faults out ≤ K.faults result.out }
+    ensures value { IfSome result.valued (λ left. (log : Log) × (value : Value) × (result.report.front ≡ Some log) × Accepts source.now left.program
+        × IsRunOf left.program steps (K.told out) (K.told result.report.out) log (ending.Value value) left.shapes) }
+    ensures quiet { IsSome result.valued → Adds (E.told err.old) (E.told err.new) [] }
+    ensures other { result.valued ≡ None → result.report.status ≡ 0 → ⊥ }
+    ensures cause { result.report.status ≡ 5 → Rose (K.faults out) (K.faults result.report.out) }
+    ensures never_full { result.report.status ≡ 7 → ⊥ }
+    ensures rises { K.faults out ≤ K.faults result.report.out }
     ensures err_rises { E.faults err.old ≤ E.faults err.new }
 {
     let program = match accept(alloc, source) {
         Ok(program) => program,
-        Err(why) => return rejected(source, why, out, err),
+        Err(why) => return no_value(rejected(source, why, out, err)),
     };
     match run_program(alloc, &program, steps, out) {
-        Ok(Ran { out, front, end }) => {
+        Ok(
+            Ran {
+                out,
+                front,
+                end,
+                shapes,
+            },
+        ) => {
             tell_end(err, source, steps, &end);
-            Report {
+            let report = Report {
                 status: status_of(&end),
                 out,
                 front: Some(front),
+            };
+            Ended {
+                report,
+                valued: value_left(program, shapes, &end),
             }
         }
         // An accepted program has nothing that is not built, so memory was wanted.
-        Err(unbegun) => stopped(8, MEMORY, unbegun.out, err),
+        Err(unbegun) => no_value(stopped(8, MEMORY, unbegun.out, err)),
     }
 }
 
@@ -141,30 +191,105 @@ fn run_file<F: Files, K: Sink + Drop, E: Sink>(
     files: &mut F,
     out: K,
     err: &mut E,
-) -> Report<K>
+) -> Ended<K>
     ensures runs { (line : List ℕ)
-        × Runs (F.held files.old words.entry.file.now) (Rose (F.faults files.old) (F.faults files.new)) words.entry.steps (K.told out) (K.told result.out) result.status result.front line
+        × Runs (F.held files.old words.entry.file.now) (Rose (F.faults files.old) (F.faults files.new)) words.entry.steps (K.told out) (K.told result.report.out) result.report.status result.report.front line
+        × Told (E.told err.old) (E.told err.new) line (Rose (E.faults err.old) (E.faults err.new)) }
+    ensures value { IfSome result.valued (λ left. (log : Log) × (result.report.front ≡ Some log)
+        × HasValue (F.held files.old words.entry.file.now) words.entry.steps (K.told out) (K.told result.report.out) log left.program left.shapes) }
+    ensures quiet { IsSome result.valued → Adds (E.told err.old) (E.told err.new) [] }
+    ensures other { result.valued ≡ None → result.report.status ≡ 0 → ⊥ }
+    ensures cause { result.report.status ≡ 5 → Rose (K.faults out) (K.faults result.report.out) }
+    ensures not_usage { result.report.status ≡ 2 → ⊥ }
+    ensures complete { (bytes : List ℕ) (program : Program) → F.held files.old words.entry.file.now ≡ Bytes bytes → Accepts bytes program
+        → (Rose (F.faults files.old) (F.faults files.new) → ⊥) → (Rose (K.faults out) (K.faults result.report.out) → ⊥) → IsOwnOrMemory result.report.status }
+    ensures kept { (p : List ℕ) → F.held files.new p ≡ F.held files.old p }
+    ensures files_rise { F.faults files.old ≤ F.faults files.new }
+    ensures rises { K.faults out ≤ K.faults result.report.out }
+    ensures err_rises { E.faults err.old ≤ E.faults err.new }
+{
+    match read_source(alloc, files, words.file) {
+        Ok(bytes) => run_source(alloc, bytes.as_slice(), words.steps, out, err),
+        Err(ReadFault::Missing) => no_value(stopped(4, SOURCE_MISSING, out, err)),
+        Err(ReadFault::Failed) => no_value(stopped(4, SOURCE_FAILED, out, err)),
+        Err(ReadFault::Memory) => no_value(stopped(8, MEMORY, out, err)),
+    }
+}
+
+/// The report of lines that were cut short, of which a line tells.
+fn cut_short<K, E: Sink>(
+    status: u8,
+    line: &str,
+    out: K,
+    front: Option<RunFront>,
+    err: &mut E,
+) -> Report<K>
+    ensures report { result ≡ record { status = status; out = out; front = front } }
+    ensures told { Told (E.told err.old) (E.told err.new) line.now (Rose (E.faults err.old) (E.faults err.new)) }
+    ensures rises { E.faults err.old ≤ E.faults err.new }
+{
+    tell(err, line);
+    Report { status, out, front }
+}
+
+/// The lines of the shapes, behind what a run wrote that came to a value.
+fn show_shapes<K: Sink + Drop, E: Sink>(
+    alloc: Global,
+    left: &Valued,
+    report: Report<K>,
+    err: &mut E,
+) -> Report<K>
+    ensures lines { (line : List ℕ)
+        × TellsLines (K.told report.out) (K.told result.out) (shape_lines left.now.program left.now.shapes) result.status line
+        × Told (E.told err.old) (E.told err.new) line (Rose (E.faults err.old) (E.faults err.new)) }
+    ensures front { result.front ≡ report.front }
+    ensures cause { result.status ≡ 5 → Rose (K.faults report.out) (K.faults result.out) }
+    ensures rises { K.faults report.out ≤ K.faults result.out }
+    ensures err_rises { E.faults err.old ≤ E.faults err.new }
+{
+    let Report { mut out, front, .. } = report;
+    match tell_shapes(alloc, &left.program, &left.shapes, &mut out) {
+        Ok(()) => Report {
+            status: 0,
+            out,
+            front,
+        },
+        Err(Untold::Sink) => cut_short(5, SINK_FAILED, out, front, err),
+        Err(Untold::Memory) => cut_short(8, MEMORY, out, front, err),
+    }
+}
+
+/// The script that the words name, read and run, with the lines of the shapes where that came to a value.
+fn show_file<F: Files, K: Sink + Drop, E: Sink>(
+    alloc: Global,
+    words: RunWords,
+    files: &mut F,
+    out: K,
+    err: &mut E,
+) -> Report<K>
+    ensures shows { (line : List ℕ)
+        × Shows (F.held files.old words.entry.file.now) (Rose (F.faults files.old) (F.faults files.new)) words.entry.steps (K.told out) (K.told result.out) result.status result.front line
         × Told (E.told err.old) (E.told err.new) line (Rose (E.faults err.old) (E.faults err.new)) }
     ensures cause { result.status ≡ 5 → Rose (K.faults out) (K.faults result.out) }
     ensures not_usage { result.status ≡ 2 → ⊥ }
-    ensures complete { (bytes : List ℕ) (program : Tree) → F.held files.old words.entry.file.now ≡ Bytes bytes → Accepts bytes program
+    ensures complete { (bytes : List ℕ) (program : Program) → F.held files.old words.entry.file.now ≡ Bytes bytes → Accepts bytes program
         → (Rose (F.faults files.old) (F.faults files.new) → ⊥) → (Rose (K.faults out) (K.faults result.out) → ⊥) → IsOwnOrMemory result.status }
     ensures kept { (p : List ℕ) → F.held files.new p ≡ F.held files.old p }
     ensures files_rise { F.faults files.old ≤ F.faults files.new }
     ensures rises { K.faults out ≤ K.faults result.out }
     ensures err_rises { E.faults err.old ≤ E.faults err.new }
 {
-    match read_source(alloc, files, words.file) {
-        Ok(bytes) => run_source(alloc, bytes.as_slice(), words.steps, out, err),
-        Err(ReadFault::Missing) => stopped(4, SOURCE_MISSING, out, err),
-        Err(ReadFault::Failed) => stopped(4, SOURCE_FAILED, out, err),
-        Err(ReadFault::Memory) => stopped(8, MEMORY, out, err),
+    let Ended { report, valued } = run_file(alloc, words, files, out, err);
+    match valued {
+        None => report,
+        Some(left) => show_shapes(alloc, &left, report, err),
     }
 }
 
-/// All that the program does: `run FILE` reads a script, runs it and writes what it prints to `out`. `words` are the arguments
-/// without the program's own name. A thread makes as many steps as `--steps` says at most; what `--heap-words` says has no effect
-/// yet, since no thread shares anything.
+/// All that the program does: `run FILE` reads a script, runs it and writes what it prints to `out`; `shapes FILE` does the same, and
+/// where the script ended with a value it writes behind that a line for each shape that the main thread's objects have had. `words` are
+/// the arguments without the program's own name. A thread makes as many steps as `--steps` says at most; what `--heap-words` says has no
+/// effect yet, since no thread shares anything.
 ///
 /// The status is 0 where the script ended with a value and 1 where it raised a fault; 2 where the words are none of the
 /// program's; 3 where the script is refused; 4 where it is missing or could not be read; 5 where `out` failed; 6 where it needed
@@ -185,6 +310,12 @@ pub fn run<F: Files, K: Sink + Send + Drop, E: Sink, G: Gate + Send + Sync + Dro
         × Runs (F.held files.old wanted.file) (Rose (F.faults files.old) (F.faults files.new)) wanted.steps (K.told out) (K.told result.out) result.status result.front line
         × Told (E.told err.old) (E.told err.new) line (Rose (E.faults err.old) (E.faults err.new)) }
 
+    // `shapes` does and answers the same, but that the lines of the shapes follow where the run came to a value: all of them, or a
+    // part of them that the sink or want of memory cut short.
+    ensures shows { (wanted : asked.Run) → asked.command_of (map string_bytes words.now) ≡ Some (asked.shapes wanted) → (line : List ℕ)
+        × Shows (F.held files.old wanted.file) (Rose (F.faults files.old) (F.faults files.new)) wanted.steps (K.told out) (K.told result.out) result.status result.front line
+        × Told (E.told err.old) (E.told err.new) line (Rose (E.faults err.old) (E.faults err.new)) }
+
     // Status 2 comes only where the words are not the program's. Where they are not, it comes, or memory is wanted, and nothing is
     // done.
     ensures usage { result.status ≡ 2 → asked.command_of (map string_bytes words.now) ≡ None }
@@ -200,7 +331,11 @@ pub fn run<F: Files, K: Sink + Send + Drop, E: Sink, G: Gate + Send + Sync + Dro
     ensures cause { result.status ≡ 5 → Rose (K.faults out) (K.faults result.out) }
 
     // A program that is held, and no fault from outside, give one of the script's own ends, or want of memory.
-    ensures complete { (wanted : asked.Run) (bytes : List ℕ) (program : Tree) → asked.command_of (map string_bytes words.now) ≡ Some (asked.run wanted)
+    ensures complete { (wanted : asked.Run) (bytes : List ℕ) (program : Program) → asked.command_of (map string_bytes words.now) ≡ Some (asked.run wanted)
+        → F.held files.old wanted.file ≡ Bytes bytes → Accepts bytes program
+        → (Rose (F.faults files.old) (F.faults files.new) → ⊥) → (Rose (K.faults out) (K.faults result.out) → ⊥)
+        → IsOwnOrMemory result.status }
+    ensures shapes_complete { (wanted : asked.Run) (bytes : List ℕ) (program : Program) → asked.command_of (map string_bytes words.now) ≡ Some (asked.shapes wanted)
         → F.held files.old wanted.file ≡ Bytes bytes → Accepts bytes program
         → (Rose (F.faults files.old) (F.faults files.new) → ⊥) → (Rose (K.faults out) (K.faults result.out) → ⊥)
         → IsOwnOrMemory result.status }
@@ -213,7 +348,8 @@ pub fn run<F: Files, K: Sink + Send + Drop, E: Sink, G: Gate + Send + Sync + Dro
 {
     let _ = gate;
     match command_of(alloc, words) {
-        Ok(Some(command)) => run_file(alloc, run_words(command), files, out, err),
+        Ok(Some(Command::Run(words))) => run_file(alloc, words, files, out, err).report,
+        Ok(Some(Command::Shapes(words))) => show_file(alloc, words, files, out, err),
         Ok(None) => stopped(2, USAGE, out, err),
         Err(_) => stopped(8, MEMORY, out, err),
     }

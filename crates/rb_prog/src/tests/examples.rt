@@ -76,10 +76,27 @@ const TO_S: Row = (
     "",
 );
 
+/// `examples/shapes.rb`, and what it prints.
+pub(super) const SHAPES: &str =
+    "# rbso shapes examples/shapes.rb tells the shapes of these objects behind what the script prints.\nclass Point\n  attr_accessor :x, :y, :name\n\n  def initialize(x, y)\n    @x = x\n    @y = y\n  end\nend\n\na = Point.new(1, 2)\nb = Point.new(3, 4)\nputs a.x + b.x\n\n# One name more is a step to another shape.\nb.name = \"b\"\n\n# A text does not fit a place for integers: x moves to a new place.\na.x = \"left\"\nputs a.x, b.name\n\n# The same names in another order are another path.\nclass Size\n  attr_accessor :wide, :high\nend\n\none = Size.new\none.wide = 1\none.high = 2\nother = Size.new\nother.high = 3\nother.wide = 4\nputs one.wide * other.high\n";
+
+pub(super) const SHAPES_PRINT: &str = "4\nleft\nb\n3\n";
+
 #[test]
 fn examples_print_what_they_should(rt: HostRuntime) -> Result<(), Fail> {
     let all = [
-        ANSWER, LINES, INTEGERS, BRANCHES, LOOPS, BLOCKS, METHODS, TEXTS, OBJECTS, TO_S, FAULTS,
+        ANSWER,
+        LINES,
+        INTEGERS,
+        BRANCHES,
+        LOOPS,
+        BLOCKS,
+        METHODS,
+        TEXTS,
+        OBJECTS,
+        TO_S,
+        FAULTS,
+        (SHAPES, SHAPES_PRINT, ""),
     ];
     all_hold(&rt, rt.alloc(), &all)
 }

@@ -1,16 +1,26 @@
-use Rattle.std.proofs.Common.{◌≡◌, ap, ◌∙◌}
+use Rattle.std.proofs.Common.{◌≡◌, ap, ◌∙◌, Some}
 use Rattle.rb_command.specs.Words.{Run}
 use Rattle.rb_command.specs.Seen.{run_seen}
 use Rattle.rb_prog.specs.Run as spec
 use Rattle.rb_prog.proofs.Adding.{adds_none}
-use Rattle.rb_prog.proofs.Wording.{same_run}
+use Rattle.rb_prog.proofs.Showing.{shows_no_memory}
+use Rattle.rb_prog.proofs.Wording.{same_run, same_shapes}
 use Rattle.rb_prog.proofs.top.run.Goals as goal
 
-pub returns-in-Ok-Some-clause-complete : goal.returns-in-Ok-Some-clause-complete
-returns-in-Ok-Some-clause-complete g c = λ wanted bytes program w h a calm never.
-    let words = c.run_words.result in
-    let same : run_seen words ≡ wanted = same_run c.in-Ok-Some.field-0 c.in-Ok-Some.command words _ wanted c.in-Ok-Some.ensures c.in-Ok-Some.field-0-is c.run_words.ensures w in
+pub returns-in-Ok-Some-Run-clause-complete : goal.returns-in-Ok-Some-Run-clause-complete
+returns-in-Ok-Some-Run-clause-complete g c = λ wanted bytes program w h a calm never.
+    let found = c.in-Ok-Some-Run in
+    let same : run_seen found.words ≡ wanted = same_run found.field-0 found.words _ found.ensures wanted (found.field-0-is ∙ ap Some found.field-0-0-is) w in
     c.run_file.ensures.complete bytes program (ap (λ (r : Run). g.F.Files.held c.args.files.now r.file) same ∙ h) a calm never
+
+pub returns-in-Ok-Some-Shapes-clause-shapes_complete : goal.returns-in-Ok-Some-Shapes-clause-shapes_complete
+returns-in-Ok-Some-Shapes-clause-shapes_complete g c = λ wanted bytes program w h a calm never.
+    let found = c.in-Ok-Some-Shapes in
+    let same : run_seen found.words ≡ wanted = same_shapes found.field-0 found.words _ found.ensures wanted (found.field-0-is ∙ ap Some found.field-0-0-is) w in
+    c.show_file.ensures.complete bytes program (ap (λ (r : Run). g.F.Files.held c.args.files.now r.file) same ∙ h) a calm never
 
 pub returns-clause-runs : goal.returns-clause-runs
 returns-clause-runs g c = λ wanted w. rw c.stopped-in-Err.ensures.report (_, spec.Runs.out_of_memory (adds_none (g.K.Sink.told c.args.out)), c.stopped-in-Err.ensures.told)
+
+pub returns-clause-shows : goal.returns-clause-shows
+returns-clause-shows g c = λ wanted w. rw c.stopped-in-Err.ensures.report (_, shows_no_memory _ _ wanted.steps (g.K.Sink.told c.args.out), c.stopped-in-Err.ensures.told)
