@@ -1,6 +1,7 @@
 pub mod Outcome
 pub mod Carries
 pub mod Methods
+pub mod Readers
 pub mod Objects
 pub mod Slots
 pub mod Texts

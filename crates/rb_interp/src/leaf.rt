@@ -109,6 +109,25 @@ pub(crate) fn held_at<'r>(code: &Code, room: &'r [Value]) -> Option<&'r Value>
     }
 }
 
+/// The value that a local has.
+#[inline(always)]
+pub(crate) fn local_at<'r>(code: &Code, room: &'r [Value]) -> Option<&'r Value>
+    ensures { IfSome result (λ v. IsHeld code.now room.now (plain v.now)) }
+{
+    match code {
+        Code::Local(slot, _, _) => slot_at(room, *slot),
+        _ => None,
+    }
+}
+
+/// The value in a slot.
+#[inline(always)]
+fn slot_at(room: &[Value], slot: u32) -> Option<&Value>
+    ensures { IfSome result (λ v. slice_get room.now slot ≡ Some v.now) }
+{
+    room.get(slot as usize)
+}
+
 /// The value in a slot, where it is no thing.
 #[inline(always)]
 fn value_at(room: &[Value], slot: u32) -> Option<&Value>

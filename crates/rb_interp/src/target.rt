@@ -3,10 +3,11 @@
 ghost use Rattle.std.specs.Prelude.{◌≡◌, IfSome, None};
 ghost use Rattle.rb_model.specs.Values.{plain};
 ghost use Rattle.rb_interp.specs.Methods.{IsTarget, HasNone, IsWriter, HasNoWriter};
+ghost use Rattle.rb_interp.specs.Readers.{Reads, IsReader};
 
-use rb_code::{CodeMethod, CodeScript};
+use rb_code::{Code, CodeMethod, CodeScript};
 use rb_model::{Ref, Sort, Value};
-use rb_tree::NameId;
+use rb_tree::{NameId, Span};
 
 /// A method of the class of an object.
 #[derive(Clone, Copy)]
@@ -49,4 +50,43 @@ pub(crate) fn writer_of<'p>(
     ensures none { result ≡ None → HasNoWriter script.now (plain receiver.now) writer }
 {
     target_of(script, receiver, writer?)
+}
+
+/// What a method of an object reads that does nothing else, as `attr_reader` makes it: an instance variable, at this place.
+#[derive(Clone, Copy)]
+pub(crate) struct Reader {
+    pub object: Ref,
+    pub field: NameId,
+    pub at: Span,
+}
+
+/// What a method reads, where it does nothing else.
+#[inline(always)]
+fn read_by(method: &CodeMethod) -> Option<(NameId, Span)>
+    ensures { IfSome result (λ read. Reads method.now read.0 read.1) }
+{
+    if !method.params.is_empty() {
+        return None;
+    }
+    let [only] = method.body.as_slice() else {
+        return None;
+    };
+    match only {
+        Code::Field(field, at) => Some((*field, *at)),
+        _ => None,
+    }
+}
+
+/// What the method reads that a name finds for a value, where it does nothing else.
+#[inline(always)]
+pub(crate) fn reader_of(script: &CodeScript, receiver: &Value, name: NameId) -> Option<Reader>
+    ensures { IfSome result (λ reader. IsReader script.now (plain receiver.now) name reader.object reader.field reader.at) }
+{
+    let target = target_of(script, receiver, name)?;
+    let (field, at) = read_by(target.method)?;
+    Some(Reader {
+        object: target.object,
+        field,
+        at,
+    })
 }

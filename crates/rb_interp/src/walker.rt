@@ -1,6 +1,6 @@
 // The walk.
 
-ghost use Rattle.std.specs.Prelude.{◌≡◌, ◌≤◌, ◌<◌, ◌+◌, ℕ, true, false, List, [], ◌∷◌, ◌++◌, length, Some, None};
+ghost use Rattle.std.specs.Prelude.{◌≡◌, ◌≤◌, ◌<◌, ◌+◌, ℕ, true, false, List, [], ◌∷◌, ◌++◌, length, Some, None, IfSome};
 ghost use Rattle.rb_tree.specs.declared.node.Node.{out-Node};
 ghost use Rattle.rb_model.specs.Values.{Nil, Int};
 ghost use Rattle.rb_model.specs.Ends.{Full, Sink, over};
@@ -17,6 +17,7 @@ ghost use Rattle.rb_code.specs.Erase.{erase};
 ghost use Rattle.rb_code.specs.Resolved.{fits};
 ghost use Rattle.rb_interp.specs.Outcome.{outcome, Over, Came as Comes};
 ghost use Rattle.rb_interp.specs.Carries.{Carries, Keeps, scope_of, goes_on, me_of};
+ghost use Rattle.rb_interp.specs.Readers.{SendsTo};
 
 mod assign;
 mod calls;
@@ -28,11 +29,13 @@ mod values;
 
 use crate::came::{Came, Cut, Leave};
 use crate::ending::{close, end_of};
-use crate::leaf::{held_alone, held_at, place_of, quick, quick_update, small};
+use crate::leaf::{held_alone, held_at, local_at, place_of, quick, quick_update, small};
 use crate::slots::clear;
+use crate::target::reader_of;
+use rb_builtin::Builtin;
 use rb_code::{Code, CodeScript};
-use rb_model::{End, Fault, Ref, ThreadStore, Value};
-use rb_tree::Program;
+use rb_model::{Act, End, Fault, Ref, ThreadStore, Value};
+use rb_tree::{NameId, Program, Span};
 use std::alloc::Global;
 
 /// How many nodes may be under evaluation at once.
@@ -340,6 +343,44 @@ impl<'p, O: ThreadStore + Drop> Walker<'p, O> {
         }
     }
 
+    /// What comes of a method that is sent without arguments, where that is done at once: the receiver is a local that holds no thing, or an
+    /// object whose method only reads an instance variable. Else nothing is done.
+    #[inline(always)]
+    fn sent(
+        &mut self,
+        method: Option<Builtin>,
+        name: NameId,
+        receiver: &Code,
+        args: &[Code],
+        at: Span,
+        depth: u32,
+        room: &[Value],
+    ) -> Option<Came>
+        requires unended { has_end (O.log self.old.store).entries ≡ false }
+        ensures none { result ≡ None → self.new ≡ self.old }
+        ensures empty { IfSome result (λ _. args.now ≡ []) }
+        ensures base { self.new.base ≡ self.old.base }
+        ensures context { self.new.context ≡ self.old.context }
+        ensures less { self.new.left ≤ self.old.left }
+        ensures log { O.log self.new.store ≡ O.log self.old.store }
+        ensures came { IfSome result (λ came. SendsTo self.old.context.script.now self.old.context.program.now self.old.context.steps (me_of self.old.context.me) receiver.now method name at depth self.old.left self.new.left room.now (O.log self.old.store) (O.log self.new.store) (O.private self.old.store) (O.private self.new.store) (outcome came self.new.value self.new.leave)) }
+    {
+        if !args.is_empty() {
+            return None;
+        }
+        if self.left < 2 || depth >= MAX_DEPTH {
+            return None;
+        }
+        if let Some(held) = held_at(receiver, room) {
+            self.left -= 1;
+            return Some(self.call_held(held, method, &[], at));
+        }
+        let reader = reader_of(self.context.script, local_at(receiver, room)?, name)?;
+        self.left -= 2;
+        let came = self.ask(reader.object, Act::GetField(reader.field));
+        Some(self.out_of_call(came))
+    }
+
     /// A call with a receiver, without a block. To a local without arguments it takes no value out of its slot.
     #[cycle(walk)]
     #[inline(never)]
@@ -357,13 +398,11 @@ impl<'p, O: ThreadStore + Drop> Walker<'p, O> {
         match code {
             Code::Send(method, name, receiver, args, at) => {
                 let receiver = receiver.get();
-                if self.left > 0 && depth < MAX_DEPTH && args.is_empty() {
-                    if let Some(held) = held_at(receiver, room) {
-                        self.left -= 1;
-                        return self.call_held(held, *method, &[], *at);
-                    }
+                let args = args.as_slice();
+                match self.sent(*method, *name, receiver, args, *at, depth, room) {
+                    Some(came) => came,
+                    None => self.send(*method, *name, receiver, args, *at, depth, room),
                 }
-                self.send(*method, *name, receiver, args.as_slice(), *at, depth, room)
             }
             _ => self.over(Cut::Memory),
         }

@@ -22,7 +22,7 @@ use Rattle.rb_interp.proofs.Steps.{and_goes, and_stops, or_goes, or_stops, negat
 use Rattle.rb_machine.specs.Scopes.{text_of}
 use Rattle.rb_builtin.specs.Names.{builtin_of}
 use Rattle.rb_builtin.proofs.Table.{same_is}
-use Rattle.rb_interp.proofs.Quick.{calls_held, calls_pair, updates}
+use Rattle.rb_interp.proofs.Quick.{calls_pair, updates}
 use Rattle.rb_interp.proofs.Calls.{calls, no_such, none_plain}
 use Rattle.rb_interp.proofs.Places.{operator_number, or_else_stays, or_else_goes, and_then_stays, and_then_goes, operates, reads, attribute_is, target_local, target_field, target_element, target_attribute}
 use mathlib.Core.Logic.{inl}
@@ -1334,30 +1334,28 @@ pub begin_send-returns-in-Some-clause-came : goal.begin_send-returns-in-Some-cla
 begin_send-returns-in-Some-clause-came g m c = λ S start k names size st e l a.
     let x = c.in-Send in
     let s = sym (ap (λ d. fits S d names size) x.is ∙ fits-send S names size x.method x.name x.receiver x.args x.at) ∙ l.fits in
-    let first = c.get-receiver.result.now in
-    let right : fits S first names size ≡ true = rw c.get-receiver.ensures (fst _ _ (snd _ _ s)) in
+    let right : fits S c.get-receiver.result.now names size ≡ true = rw c.get-receiver.ensures (fst _ _ (snd _ _ s)) in
     let len : length names ≤ length c.args.room.now = omega (arith, l.within, l.below, l.room) in
-    let none : x.args ≡ [] = c.if-is_empty.ensures.0 refl in
-    let o = c.call_held.ensures in
+    let none : x.args ≡ [] = rw c.as_slice-args.ensures at c.in-Some.ensures.empty in
     let number = same_is (builtin_of (text_of S x.name)) x.method (fst _ _ s) in
-    let given = rw (sym e) at (o.gives (text_of S x.name) number) in
     let b = same (begins _ _ k _ _ _ (shows-send c.args.code.now x.method x.name x.receiver x.args x.at x.is) a) (ap (λ args. On (Eval (erase x.receiver)) (Then (ReceiverOf (text_of S x.name) (map erase args) None x.at) ∷ k) (scope_of (me_of c.args.self.now.context.me) names c.args.room.now) c.args.depth c.args.self.now.left) none) in
-    rw (o.left, o.store)
-    (calls_held S _ start _ _ k _ names size c.args.depth c.args.self.now.left c.args.room.now x.name first x.at (plain c.in-Some.held.now) _ (none_plain S (plain c.in-Some.held.now) (text_of S x.name) c.in-Some.ensures.plain) right len c.if-self-gt0.true c.if-depth-lt-MAX_DEPTH.true c.in-Some.ensures.held given (rw c.get-receiver.ensures b))
+    c.in-Some.ensures.came S start k names size st e number right len (rw c.get-receiver.ensures b)
 
-pub begin_send-returns-after-self-gt0-clause-kept : goal.begin_send-returns-after-self-gt0-clause-kept
-begin_send-returns-after-self-gt0-clause-kept g m c = λ S names size st e l i p q.
+pub begin_send-returns-in-None-clause-kept : goal.begin_send-returns-in-None-clause-kept
+begin_send-returns-in-None-clause-kept g m c = λ S names size st e l i p q.
     let x = c.in-Send in
     let s = sym (ap (λ d. fits S d names size) x.is ∙ fits-send S names size x.method x.name x.receiver x.args x.at) ∙ l.fits in
-    let under = sub _ l (rw (c.get-receiver.ensures, c.as_slice.ensures) s) in
-    c.send.ensures.kept S names size st e under i p q
+    let under = sub _ l (rw (c.get-receiver.ensures, c.as_slice-args.ensures) s) in
+    let kept = rw (c.sent.ensures.none c.in-None.is) at c.send.ensures.kept in
+    kept S names size st e under i p q
 
-pub begin_send-returns-after-self-gt0-clause-came : goal.begin_send-returns-after-self-gt0-clause-came
-begin_send-returns-after-self-gt0-clause-came g m c = λ S start k names size st e l a.
+pub begin_send-returns-in-None-clause-came : goal.begin_send-returns-in-None-clause-came
+begin_send-returns-in-None-clause-came g m c = λ S start k names size st e l a.
     let x = c.in-Send in
     let s = sym (ap (λ d. fits S d names size) x.is ∙ fits-send S names size x.method x.name x.receiver x.args x.at) ∙ l.fits in
-    let under = sub _ l (rw (c.get-receiver.ensures, c.as_slice.ensures) s) in
-    c.send.ensures.came S start k names size st e under (rw (c.get-receiver.ensures, c.as_slice.ensures) (begins _ _ k _ _ _ (shows-send c.args.code.now x.method x.name x.receiver x.args x.at x.is) a))
+    let under = sub _ l (rw (c.get-receiver.ensures, c.as_slice-args.ensures) s) in
+    let came = rw (c.sent.ensures.none c.in-None.is) at c.send.ensures.came in
+    came S start k names size st e under (rw (c.get-receiver.ensures, c.as_slice-args.ensures) (begins _ _ k _ _ _ (shows-send c.args.code.now x.method x.name x.receiver x.args x.at x.is) a))
 
 pub operate-returns-then-is_left-clause-came : goal.operate-returns-then-is_left-clause-came
 operate-returns-then-is_left-clause-came g m c = λ S start k names size st e l a.
