@@ -26,13 +26,13 @@ id_in v = record { thread = 0; serial = 0 }
 -- two ids are the same where they are equal
 same_id-Decides : (a b : Id) → Decides (same_id a b) (a ≡ b)
 same_id-Decides a b = (
-      λ e.
-        let p = and_parts (a.thread == b.thread) (a.serial == b.serial) e in
-        let t = (unsigned_Decides a.thread b.thread).0 p.0 in
-        let s = (unsigned_Decides a.serial b.serial).0 p.1 in
-        ap (λ x. record { thread = x; serial = a.serial }) t ∙ ap (λ y. record { thread = b.thread; serial = y }) s,
-      λ e. subst (λ (c : Id). same_id a c ≡ true) e (and_from (a.thread == a.thread) (a.serial == a.serial) ((unsigned_Decides a.thread a.thread).1 refl) ((unsigned_Decides a.serial a.serial).1 refl)),
-    )
+  λ e.
+      let p = and_parts (a.thread == b.thread) (a.serial == b.serial) e in
+      let t = (unsigned_Decides a.thread b.thread).0 p.0 in
+      let s = (unsigned_Decides a.serial b.serial).0 p.1 in
+      ap (λ x. record { thread = x; serial = a.serial }) t ∙ ap (λ y. record { thread = b.thread; serial = y }) s,
+  λ e. subst (λ (c : Id). same_id a c ≡ true) e (and_from (a.thread == a.thread) (a.serial == a.serial) ((unsigned_Decides a.thread a.thread).1 refl) ((unsigned_Decides a.serial a.serial).1 refl)),
+)
 
 same-Decides : (v w : Value) → Decides (same v w) (told v ≡ told w)
 same-Decides Nil Nil = (λ e. refl, λ e. refl)
