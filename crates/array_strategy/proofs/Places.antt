@@ -1,13 +1,16 @@
 -- Items at places of a list.
-use Rattle.std.proofs.Common.{◌≡◌, ℕ, zero, suc, ◌+◌, ◌-◌, ◌<◌, ◌≤◌, List, [], ◌∷◌, ◌++◌, map, length, take, drop, replicate, slice_get, slice_set, refl, ap, ◌∙◌, arith, append_assoc, append-nil, add-one}
-use Rattle.std.specs.Prelude.{ℤ, None, All, slice_index_or}
+use Rattle.std.proofs.Common.{◌≡◌, ℕ, zero, suc, ◌+◌, ◌-◌, ◌<◌, ◌≤◌, List, [], ◌∷◌, ◌++◌, map, length, take, drop, replicate, slice_get, slice_set, refl, ap, sym, ◌∙◌, subst, arith, append_assoc, append-nil, add-one}
+use Rattle.std.specs.Prelude.{ℤ, None, All, slice_index_or, Result, Ok, Err, OnErr}
 use Rattle.std.specs.List.{remove}
 use Rattle.std.proofs.lemmas.Grind.{common_steps}
 use Rattle.std.proofs.lemmas.List.{take-map, drop-map, map-set, map-append, length-replicate, take-append-le}
 use Rattle.std.proofs.lemmas.List.Edits.{sets-eq}
 use Rattle.std.proofs.lemmas.List.Elements.{All-map}
 use Rattle.std.proofs.lemmas.Option.{slice_get_past}
-use Rattle.array_strategy.specs.Elements.{IsIntegerBy, with_item}
+use Rattle.array_strategy.specs.declared.storage.Store.{Store}
+use Rattle.array_strategy.specs.declared.storage.Store.TheVariants as stores
+use Rattle.array_strategy.specs.Elements.{IsIntegerBy, IsRaw, with_item}
+use Rattle.array_strategy.specs.Storage.{stored}
 
 pub map-remove : {X Y : Type 0} (f : X → Y) (xs : List X) (i : ℕ) → map f (remove xs i) ≡ remove (map f xs) i
 map-remove f xs i = grind (arith, common_steps, take-map, drop-map)
@@ -51,3 +54,13 @@ with_item-end xs j v fill h =
     let none : j - length xs ≡ 0 = omega arith in
     let le : length xs ≤ j = omega arith in
     grind (arith, common_steps, with_item-beyond xs j v fill le, none)
+
+-- raw integers
+pub ints_raw : {V : Type 0} (int : ℤ → V) (store : Store V) (ints : _) → store ≡ stores.Ints ints → IsRaw int (stored int store)
+ints_raw int store ints is =
+    subst (λ (s : Store _). IsRaw int (stored int s)) (sym is) (record { strategy = refl; items = All-integers int ints.items })
+
+-- what holds anyway holds where there is an error
+pub always_err : {T E P : Type 0} (r : Result T E) → P → OnErr r P
+always_err (Ok x) p = tt
+always_err (Err e) p = p

@@ -1,6 +1,6 @@
 -- What a contract sees of an array: its items, and the storage strategy that they are held by.
-use Rattle.std.specs.Prelude.{◌≡◌, ◌≢◌, ℕ, suc, ◌-◌, ◌<◌, nat_lt, if◌then◌else◌, ℤ, pos, negsuc, List, [], ◌∷◌, ◌++◌, length, take, drop, replicate, slice_get, option_and_then, Option, None, Some, IsSomeAnd}
-use Rattle.std.specs.List.{remove}
+use Rattle.std.specs.Prelude.{◌≡◌, ◌≢◌, Bool, is_some, ℕ, suc, ◌-◌, ◌<◌, nat_lt, if◌then◌else◌, ℤ, pos, negsuc, List, [], ◌∷◌, ◌++◌, length, All, take, drop, replicate, slice_get, option_and_then, Option, None, Some, IsSomeAnd}
+use Rattle.std.specs.List.{list_all, remove}
 use Rattle.std.specs.Option.{option_map_or}
 use Rattle.array_strategy.specs.declared.storage.Strategy.{Strategy}
 use Rattle.array_strategy.specs.declared.storage.Strategy.TheVariants.{Empty, Ints, Anys}
@@ -28,9 +28,26 @@ module _ {V : Type 0} where
   abbrev pub IsIntegerBy : (ℤ → V) → V → Type 0
   IsIntegerBy int v = (n : ℤ) × (v ≡ int n)
 
+  -- an array that holds its items as raw integers
+  pub record IsRaw (int : ℤ → V) (array : Elements V) : Type 0 where
+    pub strategy : array.strategy ≡ Ints
+    pub items : All (IsIntegerBy int) array.items
+
   -- no items
   abbrev pub empty : Elements V
   empty = record { items = []; strategy = Empty }
+
+  -- whether all items stand for integers
+  abbrev pub all_integers : (V → Option ℤ) → List V → Bool
+  all_integers integer xs = list_all (λ v. is_some (integer v)) xs
+
+  -- the strategy of an array that is made of items: raw where all stand for integers
+  abbrev pub strategy_of : (V → Option ℤ) → List V → Strategy
+  strategy_of integer [] = Empty
+  strategy_of integer (v ∷ vs) = if all_integers integer (v ∷ vs) then Ints else Anys
+
+  abbrev pub of_items : (V → Option ℤ) → List V → Elements V
+  of_items integer xs = record { items = xs; strategy = strategy_of integer xs }
 
   -- the item at an index
   abbrev pub item_at : List V → ℤ → Option V

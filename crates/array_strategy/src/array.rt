@@ -1,7 +1,7 @@
 //! The array.
 
-ghost use Rattle.std.specs.Prelude.{◌≡◌, ◌≢◌, ◌<◌, ◌≤◌, ◌+◌, ◌-◌, ◌++◌, ◌∷◌, [], length, take, drop, slice_get, IsTrue, All, ◌↔◌, None, Some, IsSome, IsSomeAnd, IfSome, IfOk, OnOk, OnErr};
-ghost use Rattle.array_strategy.specs.Elements.{IsIntegerBy, item_at, without_item, place_of, empty, pushed, unshifted, put_at, MayNeedMemory};
+ghost use Rattle.std.specs.Prelude.{◌≡◌, ◌≢◌, ◌<◌, ◌≤◌, ◌+◌, ◌-◌, ◌++◌, ◌∷◌, [], length, take, drop, slice_get, IsTrue, All, ◌↔◌, None, Some, IsSome, IsSomeAnd, IfSome, IfOk, OnOk, OnErr, true};
+ghost use Rattle.array_strategy.specs.Elements.{IsIntegerBy, IsRaw, item_at, without_item, place_of, empty, of_items, pushed, unshifted, put_at, MayNeedMemory};
 
 use crate::fault::PutFault;
 use crate::place::place_at;
@@ -45,6 +45,28 @@ impl<V: Item> LocalArray<V> {
         }
     }
 
+    /// The array of these items. It holds them as raw integers where all stand for integers.
+    pub fn from_vec(alloc: Global, items: Vec<V>) -> Result<Self, PutFault>
+        ensures done { IfOk result (λ array. array ≡ of_items V.integer items.items) }
+        ensures too_long { (result ≡ Err PutFault.TooLong) ↔ (MAX_LEN < length items.items) }
+        ensures cause { result ≢ Err PutFault.TooSmall }
+    {
+        if items.len() > MAX_LEN {
+            return Err(PutFault::TooLong);
+        }
+        Ok(LocalArray {
+            store: Store::of_vec(alloc, items)?,
+            alloc,
+        })
+    }
+
+    /// A copy of each item.
+    pub fn to_vec(&self) -> Result<Vec<V>, AllocError>
+        ensures { IfOk result (λ items. items.items ≡ self.now.items) }
+    {
+        self.store.to_vec(self.alloc)
+    }
+
     /// How many items it has.
     pub fn len(&self) -> usize
         ensures exact { result ≡ length self.now.items }
@@ -74,6 +96,7 @@ impl<V: Item> LocalArray<V> {
         ensures found { IfOk result (λ found. found ≡ item_at self.now.items index) }
         ensures raw { self.now.strategy ≡ Strategy.Ints → IfOk result (λ found. IfSome found (λ item. IsSome (V.integer item))) }
         ensures refused { OnErr result ((self.now.strategy ≡ Strategy.Anys) × IsSome (item_at self.now.items index)) }
+        ensures counted { OnErr result (IsSomeAnd (item_at self.now.items index) (λ item. V.counted item ≡ true)) }
     {
         match place_at(index, self.len()) {
             Some(place) => self.store.get(place),
@@ -88,6 +111,7 @@ impl<V: Item> LocalArray<V> {
         ensures too_small { (result ≡ Err PutFault.TooSmall) ↔ (place_of index (length self.old.items) ≡ None) }
         ensures too_long { (result ≡ Err PutFault.TooLong) ↔ IsSomeAnd (place_of index (length self.old.items)) (λ j. MAX_LEN ≤ j) }
         ensures memory { result ≡ Err PutFault.Memory → MayNeedMemory V.integer self.old index item }
+        ensures raw { result ≡ Err PutFault.Memory → IsSomeAnd (place_of index (length self.old.items)) (λ j. j < length self.old.items → IsRaw V.int self.old) }
         ensures kept { OnErr result (self.new ≡ self.old) }
     {
         let len = self.len();
@@ -113,6 +137,7 @@ impl<V: Item> LocalArray<V> {
     pub fn push(&mut self, item: V) -> Result<(), PutFault>
         ensures done { OnOk result (self.new ≡ pushed V.integer self.old item) }
         ensures too_long { (result ≡ Err PutFault.TooLong) ↔ (length self.old.items ≡ MAX_LEN) }
+        ensures room { result ≢ Err PutFault.TooLong → length self.old.items < MAX_LEN }
         ensures cause { result ≢ Err PutFault.TooSmall }
         ensures kept { OnErr result (self.new ≡ self.old) }
     {
@@ -127,6 +152,7 @@ impl<V: Item> LocalArray<V> {
     pub fn unshift(&mut self, item: V) -> Result<(), PutFault>
         ensures done { OnOk result (self.new ≡ unshifted V.integer self.old item) }
         ensures too_long { (result ≡ Err PutFault.TooLong) ↔ (length self.old.items ≡ MAX_LEN) }
+        ensures room { result ≢ Err PutFault.TooLong → length self.old.items < MAX_LEN }
         ensures cause { result ≢ Err PutFault.TooSmall }
         ensures kept { OnErr result (self.new ≡ self.old) }
     {

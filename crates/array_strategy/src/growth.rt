@@ -2,6 +2,7 @@
 
 ghost use Rattle.std.specs.Prelude.{◌≡◌, ◌<◌, ◌≤◌, ◌+◌, ◌-◌, ◌^◌, ◌++◌, ◌∷◌, [], length, map, take, replicate, IfOk, OnOk, OnErr};
 ghost use Rattle.std.specs.VecDeque.{deque_len, deque_capacity};
+ghost use Rattle.array_strategy.specs.Elements.{all_integers};
 
 use std::alloc::{AllocError, Global};
 use std::collections::VecDeque;
@@ -58,4 +59,52 @@ pub(crate) fn widened<V: Item>(
         anys.push_back_reserved(V::of_int(*n));
     }
     Ok(anys)
+}
+
+/// Whether all items stand for integers.
+pub(crate) fn are_integers<V: Item>(items: &[V]) -> bool
+    ensures { result ≡ all_integers V.integer items.now }
+{
+    'items: for item in items {
+        if item.as_int().is_none() {
+            return false;
+        }
+    }
+    true
+}
+
+/// The integers that items stand for. Where one stands for none, that is told as want of memory.
+pub(crate) fn narrowed<V: Item>(alloc: Global, items: &[V]) -> Result<VecDeque<i64>, AllocError>
+    ensures { IfOk result (λ ints. map V.int ints.items ≡ items.now) }
+{
+    let mut ints = VecDeque::with_capacity(alloc, items.len())?;
+    'items: for item in items {
+        let Some(n) = item.as_int() else {
+            return Err(AllocError);
+        };
+        ints.push_back(n)?;
+    }
+    Ok(ints)
+}
+
+/// The items that raw integers stand for.
+pub(crate) fn told<V: Item>(alloc: Global, ints: &VecDeque<i64>) -> Result<Vec<V>, AllocError>
+    ensures { IfOk result (λ items. items.items ≡ map V.int ints.now.items) }
+{
+    let mut items = Vec::with_capacity(alloc, ints.len())?;
+    'ints: for n in ints {
+        items.push(V::of_int(*n))?;
+    }
+    Ok(items)
+}
+
+/// A copy of each item.
+pub(crate) fn copies<V: Item>(alloc: Global, anys: &VecDeque<V>) -> Result<Vec<V>, AllocError>
+    ensures { IfOk result (λ items. items.items ≡ anys.now.items) }
+{
+    let mut items = Vec::with_capacity(alloc, anys.len())?;
+    'anys: for item in anys {
+        items.push(item.copy()?)?;
+    }
+    Ok(items)
 }

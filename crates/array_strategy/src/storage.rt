@@ -1,9 +1,9 @@
 //! The storage of an array: nothing, raw integers or any items.
 
-ghost use Rattle.std.specs.Prelude.{◌≡◌, ◌≢◌, ◌<◌, ◌≤◌, ◌+◌, ◌-◌, ◌^◌, ◌++◌, ◌∷◌, [], length, map, take, drop, slice_get, All, IsSome, IfSome, IfOk, OnOk, OnErr};
+ghost use Rattle.std.specs.Prelude.{◌≡◌, ◌≢◌, ◌<◌, ◌≤◌, ◌+◌, ◌-◌, ◌^◌, ◌++◌, ◌∷◌, [], length, map, take, drop, slice_get, All, IsSome, IsSomeAnd, IfSome, IfOk, OnOk, OnErr, true};
 ghost use Rattle.std.specs.List.{remove};
 
-use crate::growth::{push_filled, widened};
+use crate::growth::{are_integers, copies, narrowed, push_filled, told, widened};
 use std::alloc::{AllocError, Global};
 use std::collections::VecDeque;
 use typed_location::Item;
@@ -29,7 +29,31 @@ pub enum Store<V> {
 
 impl<V: Item> Store<V> {
     ghost use Rattle.array_strategy.specs.Storage.{stored, replaced, filled};
-    ghost use Rattle.array_strategy.specs.Elements.{IsIntegerBy, strategy_with, empty, pushed, unshifted};
+    ghost use Rattle.array_strategy.specs.Elements.{IsIntegerBy, IsRaw, strategy_with, empty, of_items, pushed, unshifted};
+
+    /// The storage of these items.
+    pub(crate) fn of_vec(alloc: Global, items: Vec<V>) -> Result<Store<V>, AllocError>
+        ensures { IfOk result (λ store. stored V.int store ≡ of_items V.integer items.items) }
+    {
+        if items.is_empty() {
+            return Ok(Store::Empty);
+        }
+        if are_integers(items.as_slice()) {
+            return Ok(Store::Ints(narrowed(alloc, items.as_slice())?));
+        }
+        Ok(Store::Anys(VecDeque::from_vec(items)))
+    }
+
+    /// A copy of each item.
+    pub(crate) fn to_vec(&self, alloc: Global) -> Result<Vec<V>, AllocError>
+        ensures { IfOk result (λ items. items.items ≡ (stored V.int self.now).items) }
+    {
+        match self {
+            Store::Empty => Ok(Vec::new(alloc)),
+            Store::Ints(ints) => told(alloc, ints),
+            Store::Anys(anys) => copies(alloc, anys),
+        }
+    }
 
     /// How many items it holds.
     pub(crate) fn len(&self) -> usize
@@ -61,6 +85,7 @@ impl<V: Item> Store<V> {
         ensures raw { (stored V.int self.now).strategy ≡ Strategy.Ints → IfOk result (λ found. IfSome found (λ item. IsSome (V.integer item))) }
         ensures refused { OnErr result ((stored V.int self.now).strategy ≡ Strategy.Anys) }
         ensures at_item { OnErr result (place < length (stored V.int self.now).items) }
+        ensures counted { OnErr result (IsSomeAnd (slice_get (stored V.int self.now).items place) (λ item. V.counted item ≡ true)) }
     {
         match self {
             Store::Empty => Ok(None),
@@ -132,6 +157,7 @@ impl<V: Item> Store<V> {
         ensures done { OnOk result (stored V.int self.new ≡ replaced V.integer (stored V.int self.old) place item) }
         ensures kept { OnErr result (stored V.int self.new ≡ stored V.int self.old) }
         ensures refused { OnErr result (strategy_with (stored V.int self.old).strategy (V.integer item) ≢ (stored V.int self.old).strategy) }
+        ensures raw { OnErr result (IsRaw V.int (stored V.int self.old)) }
     {
         match self {
             Store::Empty => unreachable!(),

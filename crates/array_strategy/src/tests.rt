@@ -40,12 +40,14 @@ enum Value {
 use Value::{Int, Nil, Scarce};
 
 impl Item for Value {
-    ghost use Rattle.std.specs.Prelude.{ℤ, Some, None, refl};
+    ghost use Rattle.std.specs.Prelude.{ℤ, Some, None, true, false, refl};
     ghost use Rattle.array_strategy.specs.declared.tests.Value.TheVariants.{Nil, Int, Scarce};
 
     ghost int = { Int };
 
     ghost integer = { elim [ Nil ↦ None | Int n ↦ Some n | Scarce ↦ None ] };
+
+    ghost counted = { elim [ Nil ↦ false | Int n ↦ false | Scarce ↦ true ] };
 
     ghost known = { λ _ _. refl };
 
@@ -190,6 +192,26 @@ fn a_put_writes_fills_up_and_widens_or_leaves_the_array(rt: HostRuntime) -> Resu
             assert_eq!(rt; items_of(alloc, array)?.as_slice(), left, "{index}");
         }
     }
+    Ok(())
+}
+
+#[test]
+fn an_array_is_made_of_items_and_copied_back(rt: HostRuntime) -> Result<(), Fail> {
+    let alloc = rt.alloc();
+    for (items, strategy) in [
+        ([].as_slice(), Strategy::Empty),
+        ([Int(1), Int(2)].as_slice(), Strategy::Ints),
+        ([Int(1), Nil, Int(2)].as_slice(), Strategy::Anys),
+        ([Nil].as_slice(), Strategy::Anys),
+    ] {
+        let array = LocalArray::from_vec(alloc, Vec::from_slice(alloc, items)?)?;
+        assert_eq!(rt; array.strategy(), strategy);
+        assert_eq!(rt; array.to_vec()?.as_slice(), items);
+    }
+    let scarce = LocalArray::from_vec(alloc, Vec::from_slice(alloc, &[Int(1), Scarce])?)?;
+    assert!(rt; scarce.to_vec().is_err());
+    assert!(rt; scarce.at(1).is_err());
+    assert_eq!(rt; scarce.at(0)?, Some(Int(1)));
     Ok(())
 }
 

@@ -6,6 +6,7 @@ use Rattle.std.specs.Option.{option_map}
 use Rattle.rb_tree.specs.declared.span.NameId.{NameId}
 use Rattle.rb_model.specs.declared.value.Id.{Id}
 use Rattle.rb_model.specs.Things.{Thing, Field}
+use Rattle.rb_model.specs.Things as things
 use Rattle.rb_model.specs.Private.{Private, shape_held}
 use Rattle.shape_core.specs.declared.edge.Kind.{Kind}
 use Rattle.shape_core.specs.declared.edge.Kind.TheVariants.{IntLoc, AnyLoc}
@@ -14,12 +15,13 @@ use Rattle.shape_core.specs.Shape.{Shape}
 use Rattle.shape_core.proofs.Paths.{Found}
 use Rattle.local_heap.specs.declared.cells.Cell.{Cell}
 use Rattle.local_heap.specs.declared.cells.Cell.TheVariants as cell
+use Rattle.local_heap.specs.Contents.{listed}
 use Rattle.local_heap.specs.Agreement.{Agrees, AgreesWith, AgreesAt, is_wide}
 use Rattle.local_heap.specs.Slots.{Home, Standing, slot_at}
 use Rattle.local_heap.specs.Fields.{field_of, field_found, is_any}
 use Rattle.local_heap.specs.Cells.{private_by, still, thing_in, shape_in}
 use Rattle.local_heap.proofs.Laid.{named}
-use Rattle.local_heap.proofs.Cellwise.{held_cell, shaped_at}
+use Rattle.local_heap.proofs.Cellwise.{held_cell, shaped_at, shaped_there}
 
 module _ (home : Home) (path : Path) (slots : ℕ → Standing) where
   names_agree : (ns : List NameId) → map (λ (f : Field). f.name) (map (field_of home path slots) ns) ≡ ns
@@ -49,6 +51,14 @@ module _ (home : Home) (path : Path) (slots : ℕ → Standing) where
 cell_agrees : (thread : ℕ) (shapes : List Shape) (home : Home) (cells : List Cell) (id : Id) (c : Cell) (thing : Thing)
     → slice_get cells id.serial ≡ Some c → still shapes home c ≡ Some thing → AgreesWith (shape_held (private_by thread shapes home cells) id) thing
 cell_agrees thread shapes home cells id cell.Empty thing at is = absurd (cc)
+cell_agrees thread shapes home cells id (cell.List list) thing at is =
+    let same : listed list ≡ thing = cc in
+    subst (AgreesWith (shape_held (private_by thread shapes home cells) id)) same
+    (subst (λ (s : Option Shape). AgreesWith s (listed list)) (sym (shaped_there shapes cells id.serial (cell.List list) at)) refl)
+cell_agrees thread shapes home cells id (cell.Pairs pairs) thing at is =
+    let same : things.Pairs pairs.value ≡ thing = cc in
+    subst (AgreesWith (shape_held (private_by thread shapes home cells) id)) same
+    (subst (λ (s : Option Shape). AgreesWith s (things.Pairs pairs.value)) (sym (shaped_there shapes cells id.serial (cell.Pairs pairs) at)) refl)
 cell_agrees thread shapes home cells id (cell.Object o) thing at is =
     let same : thing_in shapes home o ≡ thing = cc in
     let path : Path = (shape_in shapes o).path in

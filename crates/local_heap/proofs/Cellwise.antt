@@ -26,6 +26,7 @@ use Rattle.typed_location.specs.declared.general_place.Any.TheVariants as any
 use Rattle.local_heap.specs.declared.object.Object.{Object}
 use Rattle.local_heap.specs.declared.cells.Cell.{Cell}
 use Rattle.local_heap.specs.declared.cells.Cell.TheVariants as cell
+use Rattle.local_heap.specs.Contents.{listed}
 use Rattle.local_heap.specs.Words.{any_of}
 use Rattle.local_heap.specs.Slots.{Home, Standing, IsWord, Stands, meaning, own, slot_at, thing_meaning, to_own}
 use Rattle.local_heap.specs.Fields.{AreWords, fields_of, field_of, field_found, value_by}
@@ -158,11 +159,15 @@ module _ (shapes shapes' : List Shape) (home home' : Home) (grown : Grows shapes
   known_keep [] are = tt
   known_keep (cell.Empty ∷ cells) are = (tt, known_keep cells are.1)
   known_keep (cell.Object o ∷ cells) are = (object_keeps o are.0, known_keep cells are.1)
+  known_keep (cell.List list ∷ cells) are = (tt, known_keep cells are.1)
+  known_keep (cell.Pairs pairs ∷ cells) are = (tt, known_keep cells are.1)
 
   pub sound_all : (cells : List Cell) → AreKnown shapes cells → AreSound shapes home cells → AreSound shapes' home' cells
   sound_all [] are sound = tt
   sound_all (cell.Empty ∷ cells) are sound = (tt, sound_all cells are.1 sound.1)
   sound_all (cell.Object o ∷ cells) are sound = (sound_keeps o are.0 sound.0, sound_all cells are.1 sound.1)
+  sound_all (cell.List list ∷ cells) are sound = (sound.0, sound_all cells are.1 sound.1)
+  sound_all (cell.Pairs pairs ∷ cells) are sound = (sound.0, sound_all cells are.1 sound.1)
 
   pub things_keep : (cells : List Cell) → AreKnown shapes cells → AreSound shapes home cells → map (still shapes' home') cells ≡ map (still shapes home) cells
   things_keep [] are sound = refl
@@ -171,6 +176,8 @@ module _ (shapes shapes' : List Shape) (home home' : Home) (grown : Grows shapes
       let one = thing_keeps o are.0 sound.0 in
       let rest = things_keep cells are.1 sound.1 in
       cc
+  things_keep (cell.List list ∷ cells) are sound = ap (λ ts. Some (listed list) ∷ ts) (things_keep cells are.1 sound.1)
+  things_keep (cell.Pairs pairs ∷ cells) are sound = ap (λ ts. Some (thing.Pairs pairs.value) ∷ ts) (things_keep cells are.1 sound.1)
 
   pub shaped_keep : (cells : List Cell) → AreKnown shapes cells → map (shaped_in shapes') cells ≡ map (shaped_in shapes) cells
   shaped_keep [] are = refl
@@ -179,6 +186,8 @@ module _ (shapes shapes' : List Shape) (home home' : Home) (grown : Grows shapes
       let one = (grown o.shape are.0.known).1 in
       let rest = shaped_keep cells are.1 in
       cc
+  shaped_keep (cell.List list ∷ cells) are = ap (λ ts. None ∷ ts) (shaped_keep cells are.1)
+  shaped_keep (cell.Pairs pairs ∷ cells) are = ap (λ ts. None ∷ ts) (shaped_keep cells are.1)
 
 -- ---- lists of cells
 
@@ -219,12 +228,17 @@ read_at cells i c d found read =
     let same : slice_get cells i ≡ Some c = slice_get_read cells (length cells) i c refl within read in
     cc
 
--- the shape of the object at a serial number
+-- the shape of the thing at a serial number
+pub shaped_there : (shapes : List Shape) (cells : List Cell) (i : ℕ) (c : Cell) → slice_get cells i ≡ Some c
+    → or_none (slice_get (map (shaped_in shapes) cells) i) ≡ shaped_in shapes c
+shaped_there shapes [] i c e = absurd (cc)
+shaped_there shapes (d ∷ cells) zero c e = let same : d ≡ c = cc in ap (λ (x : Cell). shaped_in shapes x) same
+shaped_there shapes (d ∷ cells) (suc i) c e = shaped_there shapes cells i c e
+
+-- that of an object
 pub shaped_at : (shapes : List Shape) (cells : List Cell) (i : ℕ) (o : Object) → slice_get cells i ≡ Some (cell.Object o)
     → or_none (slice_get (map (shaped_in shapes) cells) i) ≡ Some (shape_in shapes o)
-shaped_at shapes [] i o e = absurd (cc)
-shaped_at shapes (c ∷ cells) zero o e = let same : c ≡ cell.Object o = cc in ap (λ (x : Cell). shaped_in shapes x) same
-shaped_at shapes (c ∷ cells) (suc i) o e = shaped_at shapes cells i o e
+shaped_at shapes cells i o e = shaped_there shapes cells i (cell.Object o) e
 
 -- the classes of cells where the object at a number has another shape of its class
 pub classes_stay : (shaped : List (Option Shape)) (i : ℕ) (old new : Shape) → or_none (slice_get shaped i) ≡ Some old → new.class ≡ old.class

@@ -1,3 +1,6 @@
+pub mod Listing
+pub mod Writes
+pub mod Limits
 pub mod Inverse
 pub mod Slotted
 pub mod Named
@@ -7,6 +10,7 @@ pub mod Objects
 pub mod Writing
 pub mod Cellwise
 pub mod Acting
+pub mod Standing
 pub mod Callers
 pub mod Walking
 pub mod Agreeing

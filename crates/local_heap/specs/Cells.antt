@@ -1,10 +1,14 @@
 -- The private things as a heap keeps them.
-use Rattle.std.specs.Prelude.{◌≡◌, ℕ, ◌<◌, List, map, length, Option, Some, None}
+use Rattle.std.specs.Prelude.{◌≡◌, ℕ, ◌<◌, ◌==◌, if◌then◌else◌, slice_get, List, map, length, Option, Some, None, Result, IsErr, IsOkAnd}
 use Rattle.std.specs.Option.{option_map}
 use Rattle.std.specs.List.{AllByRecursion}
 use Rattle.rb_tree.specs.declared.span.NameId.{NameId}
+use Rattle.rb_model.specs.declared.value.Id.{Id}
 use Rattle.rb_model.specs.Values.{Value as Val}
-use Rattle.rb_model.specs.Acts.{Act, SetField}
+use Rattle.rb_model.specs.declared.act.Reply.{Reply as Answered}
+use Rattle.rb_model.specs.declared.fault.Fault.TheVariants.{NoMethod}
+use Rattle.rb_model.specs.Acts.{Act, SetField, Failed}
+use Rattle.rb_model.specs.Doing.{said}
 use Rattle.rb_model.specs.Things.{Thing, Field, becomes}
 use Rattle.rb_model.specs.Things as thing
 use Rattle.rb_model.specs.Paths.{shape_behind}
@@ -16,6 +20,8 @@ use Rattle.local_heap.specs.declared.slot.Whose.{Whose}
 use Rattle.local_heap.specs.declared.cells.Cell.{Cell}
 use Rattle.local_heap.specs.declared.cells.Cell.TheVariants as cell
 use Rattle.local_heap.specs.declared.cells.Cells.{Cells}
+use Rattle.local_heap.specs.Contents.{Does, listed}
+use Rattle.local_heap.specs.Limits.{IsWithin}
 use Rattle.local_heap.specs.Slots.{Home, IsOwnBy, slot_at}
 use Rattle.local_heap.specs.Fields.{AreWords, Wrote, fields_of}
 
@@ -64,13 +70,45 @@ pub record Acted (shapes : List Shape) (home : Home) (o : Object) (act : Act) (s
   pub thing : thing_in shapes' home o' ≡ becomes (thing_in shapes home o) act
   pub gains : Gains shapes (shape_in shapes' o') shapes'
 
+-- the thing that stands by itself in a cell: a list or a hash
+abbrev pub contents : Cell → Option Thing
+contents cell.Empty = None
+contents (cell.Object o) = None
+contents (cell.List list) = Some (listed list)
+contents (cell.Pairs pairs) = Some (thing.Pairs pairs.value)
+
+-- there is one, and it is no longer than it may be
+abbrev pub IsContents : Cell → Type 0
+IsContents cell.Empty = ⊥
+IsContents (cell.Object o) = ⊥
+IsContents (cell.List list) = IsWithin (listed list)
+IsContents (cell.Pairs pairs) = IsWithin (thing.Pairs pairs.value)
+
+-- what an act that is not of a field did to what a cell has
+abbrev pub DoesWithin : {E : Type 0} → Thing → Act → Result Answered E → Cell → Type 0
+DoesWithin thing act result now = (later : Thing) × (contents now ≡ Some later) × Does thing act result later
+
+abbrev pub CellDoes : {E : Type 0} → Cell → Act → Result Answered E → Cell → Type 0
+CellDoes cell.Empty act result now = (now ≡ cell.Empty) × IsErr result
+CellDoes (cell.Object o) act result now = (now ≡ cell.Object o) × IsOkAnd result (λ reply. said reply ≡ Failed NoMethod)
+CellDoes (cell.List list) act result now = DoesWithin (listed list) act result now
+CellDoes (cell.Pairs pairs) act result now = DoesWithin (thing.Pairs pairs.value) act result now
+
 abbrev pub still : List Shape → Home → Cell → Option Thing
 still shapes home cell.Empty = None
 still shapes home (cell.Object o) = Some (thing_in shapes home o)
+still shapes home (cell.List list) = Some (listed list)
+still shapes home (cell.Pairs pairs) = Some (thing.Pairs pairs.value)
 
 abbrev pub shaped_in : List Shape → Cell → Option Shape
 shaped_in shapes cell.Empty = None
 shaped_in shapes (cell.Object o) = Some (shape_in shapes o)
+shaped_in shapes (cell.List list) = None
+shaped_in shapes (cell.Pairs pairs) = None
+
+-- what stands at an id
+abbrev pub cell_at : ℕ → List Cell → Id → Option Cell
+cell_at thread cells id = if id.thread == thread then slice_get cells id.serial else None
 
 -- the classes of the objects of a heap
 abbrev pub classes_of : List (Option Shape) → List (Option ℕ)
@@ -85,6 +123,8 @@ home_of shapes cells = home_by cells.thread (map (shaped_in shapes) cells.items.
 abbrev pub IsKnown : List Shape → Cell → Type 0
 IsKnown shapes cell.Empty = Unit {0}
 IsKnown shapes (cell.Object o) = IsObject shapes o
+IsKnown shapes (cell.List list) = Unit {0}
+IsKnown shapes (cell.Pairs pairs) = Unit {0}
 
 abbrev pub AreKnown : List Shape → List Cell → Type 0
 AreKnown shapes cells = AllByRecursion (IsKnown shapes) cells
@@ -92,6 +132,8 @@ AreKnown shapes cells = AllByRecursion (IsKnown shapes) cells
 abbrev pub IsCell : List Shape → Home → Cell → Type 0
 IsCell shapes home cell.Empty = Unit {0}
 IsCell shapes home (cell.Object o) = IsSound shapes home o
+IsCell shapes home (cell.List list) = IsWithin (listed list)
+IsCell shapes home (cell.Pairs pairs) = IsWithin (thing.Pairs pairs.value)
 
 abbrev pub AreSound : List Shape → Home → List Cell → Type 0
 AreSound shapes home cells = AllByRecursion (IsCell shapes home) cells

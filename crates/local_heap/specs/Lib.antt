@@ -1,4 +1,6 @@
 pub mod Memory
+pub mod Limits
+pub mod Contents
 pub mod Agreement
 pub mod Words
 pub mod Slots

@@ -1,16 +1,12 @@
 -- Which acts may want memory.
-use Rattle.std.specs.Prelude.{◌≡◌, ◌==◌, ◌^◌, Bool, true, false, nat_lt, not, if◌then◌else◌, pos, negsuc, List, [], ◌∷◌, Option, Some, None}
+use Rattle.std.specs.Prelude.{◌≡◌, ◌==◌, ◌^◌, ◌&&◌, ◌||◌, ℕ, Bool, true, false, nat_lt, not, if◌then◌else◌, pos, negsuc, List, [], ◌∷◌, length, Option, Some, None}
+use Rattle.std.specs.List.{list_all}
 use Rattle.rb_tree.specs.declared.span.NameId.{NameId}
-use Rattle.rb_model.specs.Values.{Value as Val, Int, Str, To}
-use Rattle.rb_model.specs.Acts.{Act, GetField, SetField}
+use Rattle.rb_model.specs.Values.{Value as Val, Int, Str, To, is_text}
+use Rattle.rb_model.specs.Acts.{Act, GetField, SetField, At, Put, Push, Unshift, KGet, KPut, Copy}
 use Rattle.rb_model.specs.declared.value.Id.{Id}
 use Rattle.rb_model.specs.Private.{Private, held}
-use Rattle.rb_model.specs.Things.{Thing, Object, Field, field, is_integer}
-
--- a text: where as many own it as can be counted, no one more may
-abbrev pub is_text : Val → Bool
-is_text (Str bytes) = true
-is_text v = false
+use Rattle.rb_model.specs.Things.{Thing, Object, Elements, Pairs, Field, field, is_integer, element, index_of, has_key, has_room, max_elements, value_at}
 
 -- a value that is kept beside its word: a text, a reference, or an integer outside -2^60 to 2^60 - 1
 abbrev pub is_kept : Val → Bool
@@ -31,11 +27,26 @@ write_wants None v = true
 write_wants (Some false) v = not (is_integer v)
 write_wants (Some true) v = is_kept v
 
--- an act on an object that may want memory
+-- A write within a list wants memory only where the list has integers alone and the value is none. One behind the last element
+-- lengthens the list, where that may be.
+abbrev pub put_wants : List Val → Option ℕ → Val → Bool
+put_wants vs None v = false
+put_wants vs (Some n) v = nat_lt n max_elements && (not (nat_lt n (length vs)) || (not (is_integer v) && list_all is_integer vs))
+
+-- An act that may want memory. A read wants none but where as many own a text as can be counted. What takes out, counts or clears wants
+-- none, and neither does what is refused.
 abbrev pub may_want : Thing → Act → Bool
 may_want (Object class fs) (GetField name) = is_text (field name fs)
 may_want (Object class fs) (SetField name v) = write_wants (wide_on name fs) v
-may_want thing act = true
+may_want (Elements vs) (At i) = is_text (element vs (index_of (length vs) i))
+may_want (Elements vs) (Put i v) = put_wants vs (index_of (length vs) i) v
+may_want (Elements vs) (Push v) = has_room (length vs)
+may_want (Elements vs) (Unshift v) = has_room (length vs)
+may_want (Elements vs) Copy = true
+may_want (Pairs ps) (KGet k) = is_text (value_at k ps)
+may_want (Pairs ps) (KPut k v) = not (has_key k ps) && has_room (length ps)
+may_want (Pairs ps) Copy = true
+may_want thing act = false
 
 -- the same of the thing of an id
 abbrev pub MayWant : Private → Id → Act → Type 0

@@ -1,21 +1,29 @@
 // The things of a heap by serial number.
 
-ghost use Rattle.std.specs.Prelude.{◌≡◌, ◌<◌, length, IfOk, OnErr, true};
-ghost use Rattle.rb_model.specs.Values.{plain};
-ghost use Rattle.rb_model.specs.Things.{field};
-ghost use Rattle.local_heap.specs.Memory.{is_text};
+ghost use Rattle.std.specs.Prelude.{◌≡◌, ◌<◌, length, is_some, pos, IfSome, IsSomeAnd, IfOk, OnErr, true};
+ghost use Rattle.std.specs.Option.{option_copied};
+ghost use Rattle.rb_model.specs.Values.{Int, is_text, plain};
+ghost use Rattle.rb_model.specs.Acts.{At, Len};
+ghost use Rattle.rb_model.specs.Acts as answer;
+ghost use Rattle.rb_model.specs.Doing.{doing, said};
+ghost use Rattle.rb_model.specs.Things.{field, gives};
+ghost use Rattle.local_heap.specs.Memory.{may_want};
+ghost use Rattle.local_heap.specs.Contents.{has_length, is_list};
 ghost use Rattle.local_heap.specs.Slots.{IsOwnBy, IsWord, class_at, meaning, own, slot_at};
 ghost use Rattle.local_heap.specs.Words.{any_of};
 ghost use Rattle.local_heap.specs.Fields.{value_by};
-ghost use Rattle.local_heap.specs.Cells.{AreKnown, IsObject, IsSound, fields_in, home_of};
+ghost use Rattle.local_heap.specs.Cells.{AreKnown, CellDoes, IsObject, IsSound, cell_at, contents, fields_in, home_of};
 
+use crate::list::{self, List};
 use crate::object::Object;
+use crate::pairs;
 use crate::row::value_at;
 use crate::slot::Whose;
-use rb_model::{Id, Ref, Sort, Value};
+use ordered_pairs::OrderedPairs;
+use rb_model::{Act, Fault, Id, Ref, Reply, Sort, Value};
 use rb_tree::NameId;
 use shape_core::{Kind, Place, ShapeStore};
-use std::alloc::AllocError;
+use std::alloc::{AllocError, Global};
 use typed_location::{Any, from_any_word, from_int_word};
 
 /// What stands at a serial number.
@@ -24,7 +32,50 @@ pub enum Cell {
     /// No thing: number 0 is that of none.
     Empty,
     Object(Object),
+    List(List),
+    Pairs(Box<OrderedPairs>),
 }
+
+impl Cell {
+    /// Does what is asked of a thing, other than of its fields.
+    pub fn apply(&mut self, alloc: Global, act: Act) -> Result<Reply, AllocError>
+        ensures { CellDoes self.old (doing act) result self.new }
+    {
+        match self {
+            Cell::Empty => Err(AllocError),
+            Cell::Object(_) => Ok(Reply::Failed(Fault::NoMethod)),
+            Cell::List(list) => list::apply(list, act),
+            Cell::Pairs(pairs) => pairs::apply(pairs, alloc, act),
+        }
+    }
+
+    /// The element at an index, if this is a list.
+    pub fn element(&self, index: i64) -> Result<Option<Value>, AllocError>
+        ensures list { IfOk result (λ found. is_some found ≡ is_list (contents self.now)) }
+        ensures value { IfOk result (λ found. IfSome found (λ value. IsSomeAnd (contents self.now) (λ thing. answer.Value (plain value) ≡ gives thing (At index)))) }
+        ensures refused { OnErr result (IsSomeAnd (contents self.now) (λ thing. may_want thing (At index) ≡ true)) }
+    {
+        match self {
+            Cell::List(list) => Ok(Some(list::at(list, index)?)),
+            _ => Ok(None),
+        }
+    }
+
+    /// How many elements this list has, or pairs this hash, if it is one.
+    pub fn length(&self) -> Option<usize>
+        ensures held { is_some result ≡ has_length (contents self.now) }
+        ensures value { IfSome result (λ count. IsSomeAnd (contents self.now) (λ thing. answer.Value (Int (pos count)) ≡ gives thing Len)) }
+    {
+        match self {
+            Cell::List(list) => Some(list.len()),
+            Cell::Pairs(pairs) => Some(pairs.len()),
+            _ => None,
+        }
+    }
+}
+
+/// A cell has the size of an object and a tag.
+const _: () = prove!(size_of::<Cell>() == 80);
 
 /// The things that a thread made, by serial number.
 #[derive(Drop)]
@@ -34,6 +85,16 @@ pub struct Cells {
 }
 
 impl Cells {
+    /// What stands at an id.
+    pub fn cell(&self, id: Id) -> Option<&Cell>
+        ensures { option_copied result ≡ cell_at self.now.thread self.now.items.items id }
+    {
+        if id.thread != self.thread {
+            return None;
+        }
+        self.items.get(id.serial as usize)
+    }
+
     /// The class of the object at a serial number.
     fn class_of<S: ShapeStore>(&self, shapes: &S, serial: u64) -> Option<u32>
         requires { AreKnown (S.shapes shapes.now) self.now.items.items }
@@ -44,11 +105,14 @@ impl Cells {
             Some(cell) => match cell {
                 Cell::Empty => None,
                 Cell::Object(object) => Some(shapes.facts(object.shape).class),
+                Cell::List(_) => None,
+                Cell::Pairs(_) => None,
             },
         }
     }
 
     /// Where the thing of a value is, if the value is a reference.
+    #[inline(always)]
     pub fn whose<S: ShapeStore>(&self, shapes: &S, value: &Value) -> Whose
         requires { AreKnown (S.shapes shapes.now) self.now.items.items }
         ensures { IsOwnBy (home_of (S.shapes shapes.now) self.now) result (plain value.now) }
@@ -100,6 +164,7 @@ impl Cells {
     }
 
     /// The value of a field of an object; nil where the shape has no such name.
+    #[inline(always)]
     pub fn read<S: ShapeStore>(
         &self,
         shapes: &S,
@@ -118,7 +183,25 @@ impl Cells {
         }
     }
 
+    /// What an object answers to a read of a field.
+    #[inline(always)]
+    pub fn give<S: ShapeStore>(
+        &self,
+        shapes: &S,
+        object: &Object,
+        name: NameId,
+    ) -> Result<Reply, AllocError>
+        requires known { AreKnown (S.shapes shapes.now) self.now.items.items }
+        requires object { IsObject (S.shapes shapes.now) object.now }
+        requires sound { IsSound (S.shapes shapes.now) (home_of (S.shapes shapes.now) self.now) object.now }
+        ensures value { IfOk result (λ reply. said reply ≡ answer.Value (field name (fields_in (S.shapes shapes.now) (home_of (S.shapes shapes.now) self.now) object.now))) }
+        ensures refused { OnErr result (is_text (field name (fields_in (S.shapes shapes.now) (home_of (S.shapes shapes.now) self.now) object.now)) ≡ true) }
+    {
+        Ok(Reply::Value(self.read(shapes, object, name)?))
+    }
+
     /// The value at a place of this kind.
+    #[inline(always)]
     pub fn read_at<S: ShapeStore>(
         &self,
         shapes: &S,

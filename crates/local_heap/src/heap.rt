@@ -1,19 +1,21 @@
 // The private heap.
 
 ghost use Rattle.std.specs.Prelude.{◌≡◌, [], IsSome, is_some, Some, IfOk, OnOk, OnErr};
-ghost use Rattle.rb_model.specs.Values.{plain};
-ghost use Rattle.rb_model.specs.Acts.{Done, GetField, SetField};
 ghost use Rattle.rb_model.specs.Private.{Becomes, Gives, bare, entered, held, next_id};
 ghost use Rattle.rb_model.specs.Doing.{doing, said, made, seen, sort_of};
 ghost use Rattle.local_heap.specs.Memory.{MayWant};
 ghost use Rattle.local_heap.specs.Agreement.{AgreesAt};
+ghost use Rattle.local_heap.specs.Limits.{IsWithinAt};
+
+mod acts;
+mod makes;
+mod quick;
 
 use crate::cells::{Cell, Cells};
-use crate::object::Object;
-use rb_model::{Act, Id, Make, Ref, Reply, Sort, Thing, Value};
-use rb_tree::NameId;
+use crate::list::told as told_list;
+use crate::pairs::told as told_pairs;
+use rb_model::{Act, Id, Make, Ref, Reply, Thing};
 use shape_core::ShapeStore;
-use smallvec::SmallVec;
 use std::alloc::{AllocError, Global};
 use std::marker::Model;
 
@@ -70,6 +72,7 @@ impl<S: ShapeStore> LocalHeap<S> {
     }
 
     /// Whether the thing of an id is private here.
+    #[inline(always)]
     pub fn holds(&self, id: Id) -> bool
         ensures { result ≡ is_some (held self.now id) }
     {
@@ -79,6 +82,8 @@ impl<S: ShapeStore> LocalHeap<S> {
         match self.cells.items.get(id.serial as usize) {
             Some(cell) => match cell {
                 Cell::Object(_) => true,
+                Cell::List(_) => true,
+                Cell::Pairs(_) => true,
                 Cell::Empty => false,
             },
             None => false,
@@ -94,36 +99,13 @@ impl<S: ShapeStore> LocalHeap<S> {
     {
         match make {
             Make::Object(class) => self.make_object(class),
+            Make::Elements(values) => self.make_list(values),
+            Make::Pairs(given) => self.make_pairs(given),
         }
     }
 
-    /// Makes an object with no fields.
-    fn make_object(&mut self, class: u32) -> Result<Ref, AllocError>
-        ensures id { IfOk result (λ thing. thing.id ≡ next_id self.old) }
-        ensures sort { IfOk result (λ thing. thing.sort ≡ Sort.Object class) }
-        ensures private { OnOk result (self.new ≡ entered self.old (made (Make.Object class))) }
-        ensures err { OnErr result (self.new ≡ self.old) }
-    {
-        let serial = self.cells.items.len() as u64;
-        // Room comes first, so that nothing fails once the shape is there.
-        self.cells.items.reserve(1)?;
-        let shape = self.shapes.root(class)?;
-        self.cells.items.push_reserved(Cell::Object(Object {
-            shape,
-            words: SmallVec::new(self.alloc),
-            whole: Vec::new(self.alloc),
-        }));
-        let id = Id {
-            thread: self.cells.thread,
-            serial,
-        };
-        Ok(Ref {
-            sort: Sort::Object(class),
-            id,
-        })
-    }
-
     /// Does what is asked of a thing that is held.
+    #[inline(always)]
     pub fn apply(&mut self, id: Id, act: Act) -> Result<Reply, AllocError>
         requires { IsSome (held self.old id) }
         ensures reply { IfOk result (λ reply. Gives self.old id (doing act) (said reply)) }
@@ -132,44 +114,9 @@ impl<S: ShapeStore> LocalHeap<S> {
         ensures refused { OnErr result (MayWant self.old id (doing act)) }
     {
         match act {
-            Act::GetField(name) => {
-                let value = self.read(id, name)?;
-                Ok(Reply::Value(value))
-            }
-            Act::SetField(name, value) => {
-                self.write(id, name, value)?;
-                Ok(Reply::Done)
-            }
-        }
-    }
-
-    /// The value of a field.
-    fn read(&self, id: Id, name: NameId) -> Result<Value, AllocError>
-        requires { IsSome (held self.now id) }
-        ensures reply { IfOk result (λ value. Gives self.now id (GetField name) (said (Reply.Value value))) }
-        ensures private { OnOk result (Becomes self.now id (GetField name) self.now) }
-        ensures refused { OnErr result (MayWant self.now id (GetField name)) }
-    {
-        match &self.cells.items[id.serial as usize] {
-            // Never, as the thing is held.
-            Cell::Empty => Err(AllocError),
-            Cell::Object(object) => self.cells.read(&self.shapes, object, name),
-        }
-    }
-
-    /// Gives a field a value.
-    fn write(&mut self, id: Id, name: NameId, value: Value) -> Result<(), AllocError>
-        requires { IsSome (held self.old id) }
-        ensures reply { OnOk result (Gives self.old id (SetField name (plain value)) Done) }
-        ensures private { OnOk result (Becomes self.old id (SetField name (plain value)) self.new) }
-        ensures err { OnErr result (self.new ≡ self.old) }
-        ensures refused { OnErr result (MayWant self.old id (SetField name (plain value))) }
-    {
-        let whose = self.cells.whose(&self.shapes, &value);
-        match &mut self.cells.items[id.serial as usize] {
-            // Never, as the thing is held.
-            Cell::Empty => Err(AllocError),
-            Cell::Object(object) => object.write(&mut self.shapes, name, value, whose),
+            Act::GetField(name) => self.read(id, name),
+            Act::SetField(name, value) => self.write(id, name, value),
+            other => self.apply_within(id, other),
         }
     }
 
@@ -182,12 +129,21 @@ impl<S: ShapeStore> LocalHeap<S> {
             // Never, as the thing is held.
             Cell::Empty => Err(AllocError),
             Cell::Object(object) => self.cells.told(self.alloc, &self.shapes, object),
+            Cell::List(list) => told_list(list),
+            Cell::Pairs(pairs) => told_pairs(pairs, self.alloc),
         }
     }
 
     /// A law, which runs nothing: the shape of each object says of it what its fields say.
     pub fn shapes_agree(&self)
         ensures { (id : Id) → AgreesAt self.now id }
+    {
+        let _ = &self.cells;
+    }
+
+    /// A law, which runs nothing: no list has more elements, and no hash more pairs, than it may have.
+    pub fn things_are_within_limits(&self)
+        ensures { (id : Id) → IsWithinAt self.now id }
     {
         let _ = &self.cells;
     }

@@ -1,6 +1,8 @@
 // One object over a shape store.
 
-ghost use Rattle.std.specs.Prelude.{◌≡◌, ◌<◌, ◌++◌, ◌∷◌, [], length, map, Some, None, OnOk, OnErr, true, false};
+ghost use Rattle.std.specs.Prelude.{◌≡◌, ◌<◌, ◌++◌, ◌∷◌, [], length, map, Some, None, IfOk, OnOk, OnErr, true, false};
+ghost use Rattle.rb_model.specs.Acts.{Done};
+ghost use Rattle.rb_model.specs.Doing.{said};
 ghost use Rattle.rb_model.specs.Values.{plain};
 ghost use Rattle.rb_model.specs.Things.{is_integer};
 ghost use Rattle.shape_core.specs.Path.{MayFollow, find_on};
@@ -13,7 +15,7 @@ ghost use Rattle.local_heap.specs.Cells.{IsObject, Written, Unwritten};
 
 use crate::row::{Words, set_word, settle};
 use crate::slot::{Slot, Whose, slot_for};
-use rb_model::Value;
+use rb_model::{Reply, Value};
 use rb_tree::NameId;
 use shape_core::{Edge, Kind, Place, ShapeId, ShapeStore};
 use std::alloc::AllocError;
@@ -29,8 +31,28 @@ pub struct Object {
 }
 
 impl Object {
+    /// Does what a write to a field asks.
+    #[inline(always)]
+    pub fn set<S: ShapeStore>(
+        &mut self,
+        shapes: &mut S,
+        name: NameId,
+        value: Value,
+        whose: Whose,
+    ) -> Result<Reply, AllocError>
+        requires { IsObject (S.shapes shapes.old) self.old }
+        ensures done { IfOk result (λ reply. said reply ≡ Done) }
+        ensures written { OnOk result (Written (S.shapes shapes.old) self.old name (plain value) whose (S.shapes shapes.new) self.new) }
+        ensures err { OnErr result (Unwritten (S.shapes shapes.old) self.old (S.shapes shapes.new) self.new) }
+        ensures refused { OnErr result (write_wants (wide_in (path_at (S.shapes shapes.old) self.old.shape) name) (plain value) ≡ true) }
+    {
+        self.write(shapes, name, value, whose)?;
+        Ok(Reply::Done)
+    }
+
     /// Gives a field a value.
-    pub fn write<S: ShapeStore>(
+    #[inline(always)]
+    fn write<S: ShapeStore>(
         &mut self,
         shapes: &mut S,
         name: NameId,
@@ -73,6 +95,7 @@ impl Object {
     }
 
     /// Gives a field a value whose place holds integers alone.
+    #[inline(always)]
     fn put_at_integer<S: ShapeStore>(
         &mut self,
         shapes: &mut S,

@@ -1,8 +1,7 @@
 // The values of an object that words have no room for, by place, and its words.
 
 ghost use Rattle.std.specs.Prelude.{◌≡◌, ◌≢◌, ◌<◌, ◌≤◌, length, map, set, IfOk, OnOk, OnErr, true};
-ghost use Rattle.rb_model.specs.Values.{plain, Nil};
-ghost use Rattle.local_heap.specs.Memory.{is_text};
+ghost use Rattle.rb_model.specs.Values.{is_text, plain, Nil};
 ghost use Rattle.local_heap.specs.Slots.{Puts, Alike, whole_at};
 
 use rb_model::Value;
@@ -59,22 +58,6 @@ pub fn value_at(row: &[Value], at: usize) -> Result<Value, AllocError>
 {
     match row.get(at) {
         None => Ok(Value::Nil),
-        Some(value) => copy(value),
+        Some(value) => value.share(),
     }
-}
-
-/// A copy of a value. Only one of a text may be refused.
-fn copy(value: &Value) -> Result<Value, AllocError>
-    ensures value { IfOk result (λ copy. plain copy ≡ plain value.now) }
-    ensures refused { OnErr result (is_text (plain value.now) ≡ true) }
-{
-    Ok(match value {
-        Value::Nil => Value::Nil,
-        Value::False => Value::False,
-        Value::True => Value::True,
-        Value::Int(n) => Value::Int(*n),
-        Value::Sym(name) => Value::Sym(*name),
-        Value::Str(text) => Value::Str(text.share()?),
-        Value::Ref(thing) => Value::Ref(*thing),
-    })
 }

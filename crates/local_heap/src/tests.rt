@@ -5,6 +5,10 @@ ghost use Rattle.rb_model.specs.Values.{Int};
 ghost use Rattle.rb_model.specs.Things.{Object};
 ghost use Rattle.rb_model.specs.Private.{held};
 
+mod deeds;
+mod hashes;
+mod lists;
+
 use crate::LocalHeap;
 use crate::row::settle;
 use crate::slot::{Whose, slot_for};
@@ -101,10 +105,10 @@ fn ask(heap: &mut Heap, serial: u64, act: Act) -> Result<Option<Reply>, AllocErr
 
 /// Whether a field has the value of a row.
 fn has(heap: &mut Heap, serial: u64, name: u32, row: Row) -> Result<bool, AllocError> {
-    Ok(match ask(heap, serial, Act::GetField(NameId(name)))? {
-        Some(Reply::Value(found)) => is(&found, row),
-        Some(Reply::Done) => false,
-        None => false,
+    let answer = ask(heap, serial, Act::GetField(NameId(name)))?;
+    Ok(match &answer {
+        Some(Reply::Value(found)) => is(found, row),
+        _ => false,
     })
 }
 

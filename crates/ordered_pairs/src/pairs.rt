@@ -1,9 +1,9 @@
 // Pairs in the order of their keys.
 
-ghost use Rattle.std.specs.Prelude.{◌≡◌, ◌↔◌, [], length, map, true, false, IfOk, IsOk, OnOk, OnErr, Err};
+ghost use Rattle.std.specs.Prelude.{◌≡◌, ◌<◌, ◌^◌, ◌↔◌, [], length, map, true, false, IfOk, IsOk, OnOk, OnErr, Err};
 ghost use Rattle.std.specs.List.{IsDistinct};
 ghost use Rattle.std.specs.Map.{keys_of};
-ghost use Rattle.rb_model.specs.Values.{plain, same};
+ghost use Rattle.rb_model.specs.Values.{is_text, plain, same};
 ghost use Rattle.rb_model.specs.Things.{has_key, value_at, with_pair, without_key, may_put};
 ghost use Rattle.ordered_pairs.specs.Order.{pair_of};
 
@@ -79,7 +79,8 @@ impl OrderedPairs {
 
     /// How many pairs there are.
     pub fn len(&self) -> usize
-        ensures { result ≡ length self.now }
+        ensures exact { result ≡ length self.now }
+        ensures fits { result < 2 ^ 63 }
     {
         self.entries.len()
     }
@@ -101,7 +102,8 @@ impl OrderedPairs {
     /// The value of a key, nil where it is not there. No bytes are copied. Where as many own a text as can be counted, that is want of
     /// memory.
     pub fn get(&self, key: &Value) -> Result<Value, AllocError>
-        ensures { IfOk result (λ value. plain value ≡ value_at (plain key.now) self.now) }
+        ensures value { IfOk result (λ value. plain value ≡ value_at (plain key.now) self.now) }
+        ensures refused { OnErr result (is_text (value_at (plain key.now) self.now) ≡ true) }
     {
         are_distinct(&self.entries);
         match self.entries.peek(key) {

@@ -96,6 +96,14 @@ abbrev pub with_pair : Val → Val → List (Val × Val) → List (Val × Val)
 with_pair k v [] = (k, v) ∷ []
 with_pair k v (p ∷ ps) = if same p.0 k then (p.0, v) ∷ ps else p ∷ with_pair k v ps
 
+-- pairs as a literal gives them, from the left: a key that stands twice keeps its first place and has the last value
+abbrev pub gathered_onto : List (Val × Val) → List (Val × Val) → List (Val × Val)
+gathered_onto ps [] = ps
+gathered_onto ps (p ∷ more) = gathered_onto (with_pair p.0 p.1 ps) more
+
+abbrev pub gathered : List (Val × Val) → List (Val × Val)
+gathered ps = gathered_onto [] ps
+
 abbrev pub without_key : Val → List (Val × Val) → List (Val × Val)
 without_key k [] = []
 without_key k (p ∷ ps) = if same p.0 k then ps else p ∷ without_key k ps

@@ -39,6 +39,11 @@ truthy Nil = false
 truthy False = false
 truthy v = true
 
+-- a text: where as many own it as can be counted, no one more may
+abbrev pub is_text : Value → Bool
+is_text (Str bytes) = true
+is_text v = false
+
 abbrev pub truth : Bool → Value
 truth true = True
 truth false = False

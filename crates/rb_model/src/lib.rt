@@ -5,6 +5,7 @@
 mod act;
 mod call;
 mod fault;
+mod item;
 mod shared_text;
 mod store;
 #[cfg(test)]

@@ -16,4 +16,8 @@ pub struct Field {
 pub enum Thing {
     /// An object of the class of this number, with its fields in the order of their first writes.
     Object(u32, Vec<Field>),
+    /// A list with its elements.
+    Elements(Vec<Value>),
+    /// A hash with its pairs, in the order in which their keys came.
+    Pairs(Vec<(Value, Value)>),
 }

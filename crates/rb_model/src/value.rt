@@ -1,7 +1,7 @@
 // Values of the language.
 
-ghost use Rattle.std.specs.Prelude.{◌≡◌, IfOk};
-ghost use Rattle.rb_model.specs.Values.{plain};
+ghost use Rattle.std.specs.Prelude.{◌≡◌, IfOk, OnErr, true};
+ghost use Rattle.rb_model.specs.Values.{is_text, plain};
 
 use crate::shared_text::SharedText;
 use rb_tree::NameId;
@@ -49,7 +49,8 @@ pub enum Value {
 impl Value {
     /// The same value. No bytes are copied. Where as many own a text as can be counted, that is want of memory.
     pub fn share(&self) -> Result<Value, AllocError>
-        ensures { IfOk result (λ copy. plain copy ≡ plain self.now) }
+        ensures value { IfOk result (λ copy. plain copy ≡ plain self.now) }
+        ensures refused { OnErr result (is_text (plain self.now) ≡ true) }
     {
         Ok(match self {
             Value::Nil => Value::Nil,

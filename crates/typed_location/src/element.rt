@@ -1,6 +1,6 @@
 //! What a container has to know of its items to store integers raw.
 
-ghost use Rattle.std.specs.Prelude.{◌≡◌, ℤ, ◌↔◌, Option, None, Some, FitsSigned, IfOk, refl};
+ghost use Rattle.std.specs.Prelude.{◌≡◌, ℤ, ◌↔◌, Bool, true, false, Option, None, Some, FitsSigned, IfOk, OnErr, refl};
 ghost use Rattle.std.specs.Int.{w64};
 ghost use Rattle.std.proofs.lemmas.Option.{same_Some};
 
@@ -14,6 +14,9 @@ pub trait Item: Sized + Drop {
     // the integer that an item stands for, if any
     ghost integer: { Self → Option ℤ };
 
+    // whether owners of an item are counted, so that one more may be refused
+    ghost counted: { Self → Bool };
+
     /// The integer that the item stands for, if any.
     fn as_int(&self) -> Option<i64>
         ensures value { result ≡ integer self.now }
@@ -23,9 +26,10 @@ pub trait Item: Sized + Drop {
     fn of_int(n: i64) -> Self
         ensures { result ≡ int n };
 
-    /// A copy of the item, unless memory is refused.
+    /// A copy of the item. It can be refused only where owners are counted.
     fn copy(&self) -> Result<Self, AllocError>
-        ensures { IfOk result (λ copied. copied ≡ self.now) };
+        ensures same { IfOk result (λ copied. copied ≡ self.now) }
+        ensures refused { OnErr result (counted self.now ≡ true) };
 
     // each integer is the one that its item stands for
     ghost known: { (n : ℤ) → FitsSigned w64 n → integer (int n) ≡ Some n };
@@ -38,6 +42,8 @@ impl Item for i64 {
     ghost int = { λ n. n };
 
     ghost integer = { λ n. Some n };
+
+    ghost counted = { λ _. false };
 
     ghost known = { λ _ _. refl };
 

@@ -43,12 +43,14 @@ enum Value {
 }
 
 impl Item for Value {
-    ghost use Rattle.std.specs.Prelude.{ℤ, Some, None, refl};
+    ghost use Rattle.std.specs.Prelude.{ℤ, Some, None, false, refl};
     ghost use Rattle.typed_location.specs.declared.tests.Value.TheVariants.{Nil, Int};
 
     ghost int = { Int };
 
     ghost integer = { elim [ Nil ↦ None | Int n ↦ Some n ] };
+
+    ghost counted = { λ _. false };
 
     ghost known = { λ _ _. refl };
 

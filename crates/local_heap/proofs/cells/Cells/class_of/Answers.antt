@@ -18,3 +18,19 @@ returns-in-Object g c =
     let found : slice_get c.args.self.now.items.items c.args.serial ≡ Some c.in-Some.cell.now
     = cell_found c.args.self.now.items.items c.deref.result.now c.args.serial c.in-Some.cell.now c.deref.ensures.value within c.in-Some.ensures.lookup.1 in
     ap Some c.facts.ensures.class ∙ sym (class_found shapes c.args.self.now.items.items c.args.serial c.in-Some.cell.now found ∙ ap (class_in shapes) c.in-Object.is)
+
+pub returns-in-List : goal.returns-in-List
+returns-in-List g c =
+    let shapes = g.S.ShapeStore.shapes c.args.shapes.now in
+    let within : c.args.serial < length c.deref.result.now = search rules in
+    let found : slice_get c.args.self.now.items.items c.args.serial ≡ Some c.in-Some.cell.now
+    = cell_found c.args.self.now.items.items c.deref.result.now c.args.serial c.in-Some.cell.now c.deref.ensures.value within c.in-Some.ensures.lookup.1 in
+    sym (class_found shapes c.args.self.now.items.items c.args.serial c.in-Some.cell.now found ∙ ap (class_in shapes) c.in-List.is)
+
+pub returns-in-Pairs : goal.returns-in-Pairs
+returns-in-Pairs g c =
+    let shapes = g.S.ShapeStore.shapes c.args.shapes.now in
+    let within : c.args.serial < length c.deref.result.now = search rules in
+    let found : slice_get c.args.self.now.items.items c.args.serial ≡ Some c.in-Some.cell.now
+    = cell_found c.args.self.now.items.items c.deref.result.now c.args.serial c.in-Some.cell.now c.deref.ensures.value within c.in-Some.ensures.lookup.1 in
+    sym (class_found shapes c.args.self.now.items.items c.args.serial c.in-Some.cell.now found ∙ ap (class_in shapes) c.in-Pairs.is)

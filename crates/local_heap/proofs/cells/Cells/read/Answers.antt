@@ -2,7 +2,7 @@ use Rattle.std.proofs.Common.{◌∙◌, ap, sym, arith}
 use Rattle.std.proofs.lemmas.Result.{IfOk-weaker, on_err_weaker}
 use Rattle.shape_core.specs.Shape.{path_at}
 use Rattle.shape_core.proofs.Places.{below}
-use Rattle.local_heap.specs.Memory.{is_text}
+use Rattle.rb_model.specs.Values.{is_text}
 use Rattle.local_heap.specs.Slots.{slot_at}
 use Rattle.local_heap.proofs.Objects.{read_nil, read_slot}
 use Rattle.local_heap.proofs.cells.Cells.read.Goals as goal

@@ -11,7 +11,7 @@ pairs-init c =
 pub pairs-preserved : goal.pairs-preserved
 pairs-preserved c =
     rw c.in_ok-push.ensures.items
-    (one_more c.pairs.pairs.items _ _ c.in-Some.key.now c.in-Some.value.now _ _ c.args.self.now c.pairs.invariant c.in-Some.ensures.steps c.in_ok-share.ensures c.in_ok-share-2.ensures)
+    (one_more c.pairs.pairs.items _ _ c.in-Some.key.now c.in-Some.value.now _ _ c.args.self.now c.pairs.invariant c.in-Some.ensures.steps c.in_ok-share.ensures.value c.in_ok-share-2.ensures.value)
 
 pub returns : goal.returns
 returns c = sym (append-nil (map pair_of c.pairs.pairs.items)) ∙ (ap (λ l. map pair_of c.pairs.pairs.items ++ in_order l) (sym c.in-None.ensures.steps.0) ∙ c.pairs.invariant)

@@ -1,0 +1,155 @@
+// One list.
+
+ghost use Rattle.std.specs.Prelude.{◌≡◌, ◌≤◌, length, true, IfOk, OnErr};
+ghost use Rattle.std.specs.Option.{option_map};
+ghost use Rattle.rb_model.specs.Values.{or_nil as nil_or, plain};
+ghost use Rattle.rb_model.specs.Acts.{Clear, Copy, DeleteAt, Len, Pop, Push, Put, Shift, Unshift, At};
+ghost use Rattle.rb_model.specs.Acts as answer;
+ghost use Rattle.rb_model.specs.Doing.{doing, seen};
+ghost use Rattle.rb_model.specs.Things.{gives, max_elements};
+ghost use Rattle.local_heap.specs.Memory.{may_want};
+ghost use Rattle.local_heap.specs.Contents.{Does, Refuses, Tells, listed};
+
+use array_strategy::{LocalArray, PutFault};
+use rb_model::{Act, Fault, Reply, Thing, Value};
+use std::alloc::{AllocError, Global};
+
+/// The elements of a list.
+pub type List = LocalArray<Value>;
+
+/// The list of these elements. That there are more than a list may have is told as want of memory.
+pub fn made(alloc: Global, values: Vec<Value>) -> Result<List, AllocError>
+    ensures items { IfOk result (λ list. list.items ≡ values.items) }
+    ensures few { IfOk result (λ list. length list.items ≤ max_elements) }
+{
+    match LocalArray::from_vec(alloc, values) {
+        Ok(list) => Ok(list),
+        Err(_) => Err(AllocError),
+    }
+}
+
+/// Does what is asked of a list.
+pub fn apply(list: &mut List, act: Act) -> Result<Reply, AllocError>
+    ensures { Does (listed list.old) (doing act) result (listed list.new) }
+{
+    match act {
+        Act::At(index) => read(list, index),
+        Act::Put(index, value) => put(list, index, value),
+        Act::Push(value) => push(list, value),
+        Act::Unshift(value) => unshift(list, value),
+        Act::Pop => pop(list),
+        Act::Shift => shift(list),
+        Act::DeleteAt(index) => delete_at(list, index),
+        Act::Clear => clear(list),
+        Act::Len => len(list),
+        Act::Copy => copy(list),
+        _ => Ok(Reply::Failed(Fault::NoMethod)),
+    }
+}
+
+/// The element at an index.
+pub fn at(list: &List, index: i64) -> Result<Value, AllocError>
+    ensures value { IfOk result (λ value. answer.Value (plain value) ≡ gives (listed list.now) (At index)) }
+    ensures refused { OnErr result (may_want (listed list.now) (At index) ≡ true) }
+{
+    Ok(or_nil(list.at(index)?))
+}
+
+/// A value where there is one, and else nil.
+fn or_nil(found: Option<Value>) -> Value
+    ensures { plain result ≡ nil_or (option_map plain found) }
+{
+    match found {
+        Some(value) => value,
+        None => Value::Nil,
+    }
+}
+
+fn read(list: &List, index: i64) -> Result<Reply, AllocError>
+    ensures { Does (listed list.now) (At index) result (listed list.now) }
+{
+    Ok(Reply::Value(at(list, index)?))
+}
+
+fn put(list: &mut List, index: i64, value: Value) -> Result<Reply, AllocError>
+    ensures { Does (listed list.old) (Put index (plain value)) result (listed list.new) }
+{
+    answered(list.put(index, value, Value::Nil))
+}
+
+fn push(list: &mut List, value: Value) -> Result<Reply, AllocError>
+    ensures { Does (listed list.old) (Push (plain value)) result (listed list.new) }
+{
+    answered(list.push(value))
+}
+
+fn unshift(list: &mut List, value: Value) -> Result<Reply, AllocError>
+    ensures { Does (listed list.old) (Unshift (plain value)) result (listed list.new) }
+{
+    answered(list.unshift(value))
+}
+
+/// What a list answers to a write.
+fn answered(done: Result<(), PutFault>) -> Result<Reply, AllocError>
+    ensures { Tells done result }
+{
+    match done {
+        Ok(()) => Ok(Reply::Done),
+        Err(fault) => refused(fault),
+    }
+}
+
+/// What a list answers to a write that it refused.
+fn refused(fault: PutFault) -> Result<Reply, AllocError>
+    ensures { Refuses fault result }
+{
+    match fault {
+        PutFault::TooSmall => Ok(Reply::Failed(Fault::IndexTooSmall)),
+        PutFault::TooLong => Ok(Reply::Failed(Fault::ArrayTooLong)),
+        PutFault::Memory => Err(AllocError),
+    }
+}
+
+fn pop(list: &mut List) -> Result<Reply, AllocError>
+    ensures { Does (listed list.old) Pop result (listed list.new) }
+{
+    Ok(Reply::Value(or_nil(list.pop())))
+}
+
+fn shift(list: &mut List) -> Result<Reply, AllocError>
+    ensures { Does (listed list.old) Shift result (listed list.new) }
+{
+    Ok(Reply::Value(or_nil(list.shift())))
+}
+
+fn delete_at(list: &mut List, index: i64) -> Result<Reply, AllocError>
+    ensures { Does (listed list.old) (DeleteAt index) result (listed list.new) }
+{
+    Ok(Reply::Value(or_nil(list.delete_at(index))))
+}
+
+fn clear(list: &mut List) -> Result<Reply, AllocError>
+    ensures { Does (listed list.old) Clear result (listed list.new) }
+{
+    list.clear();
+    Ok(Reply::Done)
+}
+
+fn len(list: &List) -> Result<Reply, AllocError>
+    ensures { Does (listed list.now) Len result (listed list.now) }
+{
+    Ok(Reply::Value(Value::Int(list.len() as i64)))
+}
+
+fn copy(list: &List) -> Result<Reply, AllocError>
+    ensures { Does (listed list.now) Copy result (listed list.now) }
+{
+    Ok(Reply::Elements(list.to_vec()?))
+}
+
+/// A copy of a list.
+pub fn told(list: &List) -> Result<Thing, AllocError>
+    ensures { IfOk result (λ thing. seen thing ≡ listed list.now) }
+{
+    Ok(Thing::Elements(list.to_vec()?))
+}
