@@ -47,6 +47,7 @@ impl Index {
     }
 
     /// The newest of the first places that was given to the name.
+    #[inline(never)]
     pub fn find(&self, slots: &[Slot], places: usize, name: NameId) -> Option<(Place, Kind)>
         requires index { IsIndex slots.now self.now }
         requires within { places ≤ length slots.now }

@@ -1,6 +1,7 @@
 //! A store of shapes in memory: `Tree`, in which a look at a name walks no path, and a chain of shapes shares one table.
 #![tactic(auto)]
 
+mod guesses;
 mod index;
 mod key;
 mod rows;

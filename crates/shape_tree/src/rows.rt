@@ -1,6 +1,6 @@
 // The rows of a tree, over the parts of it.
 
-ghost use Rattle.std.specs.Prelude.{◌≡◌, ◌<◌, IfOk, None};
+ghost use Rattle.std.specs.Prelude.{◌≡◌, ◌<◌, IfOk, IfSome, None, length};
 ghost use Rattle.indexmap.specs.IndexMap.{keys, values, index_map_len};
 ghost use Rattle.shape_core.specs.Path.{MayFollow};
 ghost use Rattle.shape_core.specs.Shape.{child_of, path_at, shape_at};
@@ -17,6 +17,7 @@ use std::alloc::AllocError;
 pub type Nodes = IndexMap<Key, Row>;
 
 /// The row of a shape.
+#[inline(always)]
 pub fn row_of(nodes: &Nodes, shape: ShapeId) -> Row
     requires { shape.0 < index_map_len nodes.now }
     ensures { result ≡ row_at (values nodes.now) shape.0 }
@@ -30,6 +31,15 @@ pub fn key_of(nodes: &Nodes, shape: ShapeId) -> Key
     ensures { result ≡ key_at (keys nodes.now) shape.0 }
 {
     *nodes.get_index(shape.0 as usize).unwrap().0
+}
+
+/// The shape of a key, where the guess is right.
+#[inline(always)]
+pub fn guessed(nodes: &Nodes, guess: ShapeId, key: Key) -> Option<ShapeId>
+    ensures { IfSome result (λ id. (id.0 < length (keys nodes.now)) × (key_at (keys nodes.now) id.0 ≡ key)) }
+{
+    let found = nodes.get_index(guess.0 as usize)?;
+    if *found.0 == key { Some(guess) } else { None }
 }
 
 /// The layout of a shape once it is settled: one with no slot of its own.

@@ -97,6 +97,7 @@ impl Table {
     }
 
     /// The newest of the first places that was given to the name.
+    #[inline(always)]
     pub fn find(&self, places: usize, name: NameId) -> Option<(Place, Kind)>
         requires { places ≤ length self.now }
         ensures { result ≡ found_below self.now name places }
@@ -109,6 +110,7 @@ impl Table {
 }
 
 /// The newest of the first places that was given to the name, by a look through them.
+#[inline(always)]
 fn newest(slots: &[Slot], places: usize, name: NameId) -> Option<(Place, Kind)>
     requires within { places ≤ length slots.now }
     requires short { places ≤ SHORT }

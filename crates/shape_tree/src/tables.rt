@@ -51,6 +51,7 @@ impl Tables {
     }
 
     /// The place of a name in a layout, and what it holds.
+    #[inline(always)]
     pub fn find(&self, layout: Layout, name: NameId) -> Option<(Place, Kind)>
         requires { Fits self.now layout }
         ensures { result ≡ latest (slots_of self.now layout) name }

@@ -3,8 +3,9 @@
 ghost use Rattle.std.specs.Prelude.{◌≡◌, [], length, IfOk};
 ghost use Rattle.shape_tree.specs.Keys.{first_ids};
 
+use crate::guesses::Guesses;
 use crate::key::{Key, Row};
-use crate::rows::{Nodes, grow, key_of, row_of};
+use crate::rows::{Nodes, grow, guessed, key_of, row_of};
 use crate::tables::Tables;
 use indexmap::IndexMap;
 use shape_core::{Edge, Kind, NameId, Place, ShapeFacts, ShapeId, ShapeStore};
@@ -16,6 +17,7 @@ use std::marker::Model;
 pub struct Tree {
     nodes: Nodes,
     tables: Tables,
+    guesses: Guesses,
 }
 
 impl Model for Tree {
@@ -39,6 +41,7 @@ impl Tree {
         Ok(Tree {
             nodes: IndexMap::new(alloc),
             tables: Tables::new(alloc)?,
+            guesses: Guesses::new(),
         })
     }
 
@@ -68,7 +71,11 @@ impl ShapeStore for Tree {
 
     fn root(&mut self, class: u32) -> Result<ShapeId, AllocError> {
         let key = Key::Root(class);
+        if let Some(known) = guessed(&self.nodes, self.guesses.root(class), key) {
+            return Ok(known);
+        }
         if let Some(at) = self.nodes.get_index_of(&key) {
+            self.guesses.tell_root(class, ShapeId(at as u64));
             return Ok(ShapeId(at as u64));
         }
         let id = ShapeId(self.nodes.len() as u64);
@@ -84,7 +91,11 @@ impl ShapeStore for Tree {
 
     fn follow(&mut self, shape: ShapeId, edge: Edge) -> Result<ShapeId, AllocError> {
         let key = Key::Child(shape, edge);
+        if let Some(known) = guessed(&self.nodes, self.guesses.child(shape), key) {
+            return Ok(known);
+        }
         if let Some(at) = self.nodes.get_index_of(&key) {
+            self.guesses.tell_child(shape, ShapeId(at as u64));
             return Ok(ShapeId(at as u64));
         }
         let row = grow(&mut self.nodes, &mut self.tables, shape, edge)?;
@@ -93,6 +104,7 @@ impl ShapeStore for Tree {
         Ok(id)
     }
 
+    #[inline(always)]
     fn find(&self, shape: ShapeId, name: NameId) -> Option<(Place, Kind)> {
         let row = row_of(&self.nodes, shape);
         self.tables.find(row.layout, name)

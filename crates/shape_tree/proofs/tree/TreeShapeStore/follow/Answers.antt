@@ -13,16 +13,30 @@ use Rattle.shape_tree.proofs.tree.TreeShapeStore.follow.Goals as goal
 pub returns-in-Some-clause-answer : goal.returns-in-Some-clause-answer
 returns-in-Some-clause-answer c =
     let key : Key = Child c.args.shape c.args.edge in
-    let at = found_at (keys c.self.inside.nodes) key c.in-Some.at c.in-Some.ensures.index in
-    subst (λ (s : List Shape). Has s (record { 0 = c.in-Some.at }) (shape_of s key)) c.self.view_is
-    (has_shape (keys c.self.inside.nodes) (values c.self.inside.nodes) c.self.inside.tables c.self.invariant key c.in-Some.at at.0 at.1)
+    let at = c.in-Some.ensures in
+    subst (λ (s : List Shape). Has s c.in-Some.known (shape_of s key)) c.self.view_is
+    (has_shape (keys c.self.inside.nodes) (values c.self.inside.nodes) c.self.inside.tables c.self.invariant key c.in-Some.known.0 at.0 at.1)
 
 pub returns-in-Some-clause-made : goal.returns-in-Some-clause-made
 returns-in-Some-clause-made c =
     let key : Key = Child c.args.shape c.args.edge in
-    let at = found_at (keys c.self.inside.nodes) key c.in-Some.at c.in-Some.ensures.index in
+    let at = c.in-Some.ensures in
     subst (λ (s : List Shape). Gains s (shape_of s key) s) c.self.view_is
-    (gains_none (keys c.self.inside.nodes) (values c.self.inside.nodes) c.self.inside.tables c.self.invariant key c.in-Some.at at.0 at.1)
+    (gains_none (keys c.self.inside.nodes) (values c.self.inside.nodes) c.self.inside.tables c.self.invariant key c.in-Some.known.0 at.0 at.1)
+
+pub returns-in-Some-get_index_of-clause-answer : goal.returns-in-Some-get_index_of-clause-answer
+returns-in-Some-get_index_of-clause-answer c =
+    let key : Key = Child c.args.shape c.args.edge in
+    let at = found_at (keys c.self.inside.nodes) key c.in-Some-get_index_of.at c.in-Some-get_index_of.ensures.index in
+    subst (λ (s : List Shape). Has (shapes_of (keys c.self.inside.nodes)) (record { 0 = c.in-Some-get_index_of.at }) (shape_of s key)) c.self.view_is
+    (has_shape (keys c.self.inside.nodes) (values c.self.inside.nodes) c.self.inside.tables c.self.invariant key c.in-Some-get_index_of.at at.0 at.1)
+
+pub returns-in-Some-get_index_of-clause-made : goal.returns-in-Some-get_index_of-clause-made
+returns-in-Some-get_index_of-clause-made c =
+    let key : Key = Child c.args.shape c.args.edge in
+    let at = found_at (keys c.self.inside.nodes) key c.in-Some-get_index_of.at c.in-Some-get_index_of.ensures.index in
+    subst (λ (s : List Shape). Gains s (shape_of s key) (shapes_of (keys c.self.inside.nodes))) c.self.view_is
+    (gains_none (keys c.self.inside.nodes) (values c.self.inside.nodes) c.self.inside.tables c.self.invariant key c.in-Some-get_index_of.at at.0 at.1)
 
 -- the tree with the shape more
 it_grew : (c : goal.In_ok-insert)
@@ -33,7 +47,7 @@ it_grew c =
     let kept : keys c.self.inside.nodes ≡ keys c.grow.new.nodes = sym c.in_ok-row.ensures.keys in
     let seen : shapes_of (keys c.grow.new.nodes) ≡ c.args.self.now = ap shapes_of (sym kept) ∙ c.self.view_is in
     let new : Contains (keys c.grow.new.nodes) key → ⊥
-    = subst (λ (k : List Key). Contains k key → ⊥) kept (not_there c.self.inside.nodes key c.in_default.ensures.found) in
+    = subst (λ (k : List Key). Contains k key → ⊥) kept (not_there c.self.inside.nodes key c.in_default-get_index_of.ensures.found) in
     let valid = subst IsStore c.self.view_is c.self.invariant.store in
     grown c.grow.new.nodes c.insert.new.self c.grow.new.tables key c.in_ok-row.row c.args.self.now
     c.in_ok-row.ensures.tree seen new c.requires.known
@@ -57,10 +71,10 @@ pub returns-in_err-row-clause-there : goal.returns-in_err-row-clause-there
 returns-in_err-row-clause-there c = λ there.
     absurd (not_fresh (keys c.self.inside.nodes) (values c.self.inside.nodes) c.self.inside.tables c.args.self.now (Child c.args.shape c.args.edge)
     c.self.invariant c.self.view_is c.requires.known
-    (not_there c.self.inside.nodes (Child c.args.shape c.args.edge) c.in_default.ensures.found) there)
+    (not_there c.self.inside.nodes (Child c.args.shape c.args.edge) c.in_default-get_index_of.ensures.found) there)
 
 pub returns-in_err-insert-clause-there : goal.returns-in_err-insert-clause-there
 returns-in_err-insert-clause-there c = λ there.
     absurd (not_fresh (keys c.self.inside.nodes) (values c.self.inside.nodes) c.self.inside.tables c.args.self.now (Child c.args.shape c.args.edge)
     c.self.invariant c.self.view_is c.requires.known
-    (not_there c.self.inside.nodes (Child c.args.shape c.args.edge) c.in_default.ensures.found) there)
+    (not_there c.self.inside.nodes (Child c.args.shape c.args.edge) c.in_default-get_index_of.ensures.found) there)
