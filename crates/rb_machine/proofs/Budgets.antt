@@ -1,12 +1,13 @@
 -- A run with a budget of steps is the front of one with a greater budget.
 use Rattle.std.proofs.Common.{◌≡◌, ◌≤◌, ◌⊎◌, inl, inr, ℕ, zero, suc, ◌+◌, ◌-◌, Bool, true, false, cond, List, [], ◌∷◌, ◌++◌, Some, refl, sym, ap, ◌∙◌, subst, arith}
-use Rattle.std.specs.Prelude.{nat_lt, int_lt}
+use Rattle.std.specs.Prelude.{nat_lt, int_lt, pos, ◌+ℤ◌}
+use Rattle.rb_tree.specs.declared.span.Span.{Span}
 use Rattle.rb_tree.specs.declared.node.Node.{Node, out-Node}
 use Rattle.rb_tree.specs.declared.node.Block.{Block}
 use Rattle.rb_tree.specs.declared.node.Piece.{out-Piece}
 use Rattle.rb_tree.specs.Place.{place}
 use Rattle.rb_model.specs.declared.fault.Fault.TheVariants.{TooDeep}
-use Rattle.rb_model.specs.Values.{To, Reference}
+use Rattle.rb_model.specs.Values.{Value, Int, To, Reference}
 use Rattle.rb_model.specs.Acts.{Act, Done}
 use Rattle.rb_model.specs.Acts as reply
 use Rattle.rb_model.specs.Ends.{End, Steps}
@@ -14,13 +15,17 @@ use Rattle.rb_model.specs.Ends
 use Rattle.rb_model.specs.Things.{Thing, gives}
 use Rattle.rb_model.specs.Private.{Private, held, entered, acted}
 use Rattle.rb_machine.specs.Scopes.{Script, Scope}
-use Rattle.rb_machine.specs.Control.{State, On, Cont, Under, Turns, Counting, Eval, Give, Leave, Following, Looping, Turning, Passing, Joining, Making, Calling, Showing, Ended}
-use Rattle.rb_machine.specs.Call.{ended, raised}
+use Rattle.rb_machine.specs.Control.{State, On, Cont, Then, Under, Turns, Counting, Walking, EachPair, WithElement, Eval, Give, Leave, Following, Looping, Turning, Passing, Joining, Drafting, Making, Calling, Reading, Showing, Ended, max_depth}
+use Rattle.rb_machine.specs.Drafts.{Needs, Goes, Finished, Element, Copies, Asks, needs}
+use Rattle.rb_machine.specs.Call.{ended, raised, start_element, drafted}
+use Rattle.rb_machine.specs.Give.{give}
+use Rattle.rb_machine.specs.Turns.{start_turn, turn, with_element, holding, given}
 use Rattle.rb_machine.specs.Follows.{next_thing}
-use Rattle.rb_machine.specs.Move.{Next, Go, Make, Ask, Show, Stop, move, replied, left_in, turn, start_node, start_turn, max_depth}
+use Rattle.rb_machine.specs.Move.{Next, Go, Make, Ask, Show, Stop, move, replied, left_in, start_node}
 use Rattle.rb_machine.specs.Alone.{Runs, begins, goes, makes, acts, shows, Alone}
-use Rattle.rb_machine.specs.Laws.{MoreStepsChangeNothing, MoreStepsShowMore, FewerStepsEndEarly}
-use Rattle.rb_machine.proofs.Uniform.{longer, either, begin_uniform, give_uniform, leave_uniform, perform_uniform, piece_uniform, replied_longer}
+use Rattle.rb_machine.specs.Laws.{comes_to_element, MoreStepsChangeNothing, MoreStepsShowMore, FewerStepsEndEarly}
+use Rattle.rb_machine.proofs.Uniform.{longer, either, begin_uniform, give_uniform, leave_uniform, perform_uniform, piece_uniform, drafted_uniform, replied_longer}
+use Rattle.rb_machine.proofs.Measure.{begins_turn_at}
 use Rattle.rb_machine.proofs.Once.{Begins, front, has_one_run}
 
 -- what comes next, with more steps left
@@ -32,23 +37,33 @@ next_longer j want = want
 abbrev pub spent : State
 spent = ended Steps zero
 
--- a node or an iteration is to begin, and no step is left
-abbrev pub Lacks : State → Type 0
-Lacks (On (Eval n) k sc d left) = left ≡ 0
-Lacks (On (Turning (Counting next last answer) block) k sc d left) = (left ≡ 0) × (int_lt next last ≡ true)
-Lacks s = ⊥
-
 module _ (S : Script) where
+  -- a node, an iteration, or an element or a pair in a text is to begin, and no step is left
+  abbrev pub Lacks : State → Type 0
+  Lacks (On (Eval n) k sc d left) = left ≡ 0
+  Lacks (On (Turning (Counting next last answer) block) k sc d left) = (left ≡ 0) × (int_lt next last ≡ true)
+  Lacks (On (Turning (EachPair (p ∷ ps) answer) block) k sc d left) = left ≡ 0
+  Lacks (On (Give v) (Then (WithElement array next walk block at) ∷ k) sc d left) = left ≡ 0
+  Lacks (On (Drafting t at) k sc d left) = (left ≡ 0) × (comes_to_element (needs S.program t) ≡ true)
+  Lacks s = ⊥
+
+  element_spent : (need : Needs) (at : Span) (k : List Cont) (sc : Scope) (d : ℕ) → comes_to_element need ≡ true → drafted S need at k sc d 0 ≡ spent
+  element_spent (Element t) at k sc d e = refl
+  element_spent need at k sc d e = absurd (cc)
+
   lacks_spent : (s : State) → Lacks s → move S s ≡ Go spent
   lacks_spent (On (Eval n) k sc d left) h = ap (λ l. Go (start_node S n k sc d l)) h
   lacks_spent (On (Turning (Counting next last answer) block) k sc d left) h =
       ap (λ l. Go (turn S (Counting next last answer) block k sc d l)) h.0 ∙ ap (λ b. Go (cond b spent (On (Give answer) k sc d 0))) h.1
+  lacks_spent (On (Turning (EachPair (p ∷ ps) answer) block) k sc d left) h = ap (λ l. Go (turn S (EachPair (p ∷ ps) answer) block k sc d l)) h
+  lacks_spent (On (Give v) (Then (WithElement array next walk block at) ∷ k) sc d left) h = ap (λ l. Go (with_element S v array next walk block at k sc d l)) h
+  lacks_spent (On (Drafting t at) k sc d left) h = ap (λ l. Go (drafted S (needs S.program t) at k sc d l)) h.0 ∙ ap Go (element_spent (needs S.program t) at k sc d h.1)
   lacks_spent other h = absurd h
 
 module _ (S : Script) (j : ℕ) where
   -- a state goes on as it does with more steps, or it lacks one
   abbrev pub Keeps : State → Next → Type 0
-  Keeps s next = (move S (longer j s) ≡ next_longer j next) ⊎ Lacks s
+  Keeps s next = (move S (longer j s) ≡ next_longer j next) ⊎ Lacks S s
 
   one_step : (left : ℕ) → suc left + j ≡ suc (left + j)
   one_step left = omega arith
@@ -62,15 +77,20 @@ module _ (S : Script) (j : ℕ) where
   node_keeps n k sc d zero = inr refl
   node_keeps n k sc d (suc left) = inl (ap Go (node_started n k sc d left))
 
-  turn_started : (turns : Turns) (block : Block) (k : List Cont) (sc : Scope) (d left : ℕ) → start_turn S turns block k sc d (suc left + j) ≡ longer j (start_turn S turns block k sc d (suc left))
-  turn_started turns block k sc d left = ap (start_turn S turns block k sc d) (one_step left)
+  turn_started : (later : Turns) (values : List Value) (block : Block) (k : List Cont) (sc : Scope) (d left : ℕ) → start_turn S later values block k sc d (suc left + j) ≡ longer j (start_turn S later values block k sc d (suc left))
+  turn_started later values block k sc d left = ap (start_turn S later values block k sc d) (one_step left)
+
+  starts_or_lacks : (later : Turns) (values : List Value) (block : Block) (k : List Cont) (sc : Scope) (d left : ℕ)
+      → (start_turn S later values block k sc d (left + j) ≡ longer j (start_turn S later values block k sc d left)) ⊎ (left ≡ 0)
+  starts_or_lacks later values block k sc d zero = inr refl
+  starts_or_lacks later values block k sc d (suc left) = inl (turn_started later values block k sc d left)
 
   -- another iteration, where one begins
-  another : (b : Bool) (turns : Turns) (block : Block) (answer : State) (k : List Cont) (sc : Scope) (d left : ℕ)
-      → (cond b (start_turn S turns block k sc d (left + j)) (longer j answer) ≡ longer j (cond b (start_turn S turns block k sc d left) answer)) ⊎ ((left ≡ 0) × (b ≡ true))
-  another false turns block answer k sc d left = inl refl
-  another true turns block answer k sc d zero = inr (refl, refl)
-  another true turns block answer k sc d (suc left) = inl (turn_started turns block k sc d left)
+  another : (b : Bool) (later : Turns) (values : List Value) (block : Block) (answer : State) (k : List Cont) (sc : Scope) (d left : ℕ)
+      → (cond b (start_turn S later values block k sc d (left + j)) (longer j answer) ≡ longer j (cond b (start_turn S later values block k sc d left) answer)) ⊎ ((left ≡ 0) × (b ≡ true))
+  another false later values block answer k sc d left = inl refl
+  another true later values block answer k sc d zero = inr (refl, refl)
+  another true later values block answer k sc d (suc left) = inl (turn_started later values block k sc d left)
 
   lifted : {X : Type 0} (s t : State) → (s ≡ longer j t) ⊎ X → (Go s ≡ next_longer j (Go t)) ⊎ X
   lifted s t (inl e) = inl (ap Go e)
@@ -78,12 +98,33 @@ module _ (S : Script) (j : ℕ) where
 
   turn_keeps : (turns : Turns) (block : Block) (k : List Cont) (sc : Scope) (d left : ℕ) → Keeps (On (Turning turns block) k sc d left) (Go (turn S turns block k sc d left))
   turn_keeps (Counting next last answer) block k sc d left =
-      lifted _ _ (another (int_lt next last) (Counting next last answer) block (On (Give answer) k sc d left) k sc d left)
+      lifted _ _ (another (int_lt next last) (Counting (next +ℤ pos 1) last answer) (Int next ∷ []) block (On (Give answer) k sc d left) k sc d left)
+  turn_keeps (Walking array next walk at) block k sc d left = inl refl
+  turn_keeps (EachPair [] answer) block k sc d left = inl refl
+  turn_keeps (EachPair (p ∷ ps) answer) block k sc d left = lifted _ _ (starts_or_lacks (EachPair ps answer) (p.0 ∷ p.1 ∷ []) block k sc d left)
+
+  element_keeps : (v : Value) (c : Cont) (k : List Cont) (sc : Scope) (d left : ℕ) → begins_turn_at S c ≡ true → Keeps (On (Give v) (c ∷ k) sc d left) (Go (give S v c k sc d left))
+  element_keeps v (Then (WithElement array next walk block at)) k sc d left e =
+      lifted _ _ (starts_or_lacks (Walking array (suc next) (holding v walk) at) (given v next walk) block k sc d left)
+  element_keeps v c k sc d left e = absurd (cc)
+
+  given_keeps : (v : Value) (c : Cont) (k : List Cont) (sc : Scope) (d left : ℕ) (b : Bool) → begins_turn_at S c ≡ b → Keeps (On (Give v) (c ∷ k) sc d left) (Go (give S v c k sc d left))
+  given_keeps v c k sc d left true e = element_keeps v c k sc d left e
+  given_keeps v c k sc d left false e = inl (ap Go (give_uniform S v c k sc d e j left))
+
+  drafted_keeps : (need : Needs) (at : Span) (k : List Cont) (sc : Scope) (d left : ℕ)
+      → (drafted S need at k sc d (left + j) ≡ longer j (drafted S need at k sc d left)) ⊎ ((left ≡ 0) × (comes_to_element need ≡ true))
+  drafted_keeps (Element t) at k sc d zero = inr (refl, refl)
+  drafted_keeps (Element t) at k sc d (suc left) = inl (ap (start_element t at k sc d) (one_step left))
+  drafted_keeps (Goes t) at k sc d left = inl (drafted_uniform S (Goes t) at k sc d refl j left)
+  drafted_keeps (Finished text) at k sc d left = inl (drafted_uniform S (Finished text) at k sc d refl j left)
+  drafted_keeps (Copies thing t) at k sc d left = inl (drafted_uniform S (Copies thing t) at k sc d refl j left)
+  drafted_keeps (Asks v t) at k sc d left = inl (drafted_uniform S (Asks v t) at k sc d refl j left)
 
   pub keeps : (s : State) → Keeps s (move S s)
   keeps (On (Eval n) k sc d left) = node_keeps n k sc d left
   keeps (On (Give v) [] sc d left) = inl refl
-  keeps (On (Give v) (c ∷ k) sc d left) = inl (ap Go (give_uniform S v c k sc d j left))
+  keeps (On (Give v) (c ∷ k) sc d left) = given_keeps v c k sc d left (begins_turn_at S c) refl
   keeps (On (Leave e) [] sc d left) = inl refl
   keeps (On (Leave e) (c ∷ k) sc d left) = inl (ap Go (leave_uniform e c k sc d j left))
   keeps (On (Following v []) k sc d left) = inl refl
@@ -94,8 +135,10 @@ module _ (S : Script) (j : ℕ) where
   keeps (On (Passing aim done (n ∷ ns) at) k sc d left) = inl refl
   keeps (On (Joining bytes [] at) k sc d left) = inl refl
   keeps (On (Joining bytes (p ∷ ps) at) k sc d left) = inl (ap Go (piece_uniform S (out-Piece p) bytes ps at k sc d j left))
+  keeps (On (Drafting t at) k sc d left) = lifted _ _ (drafted_keeps (needs S.program t) at k sc d left)
   keeps (On (Making thing) k sc d left) = inl refl
   keeps (On (Calling thing act at) k sc d left) = inl refl
+  keeps (On (Reading thing purpose at) k sc d left) = inl refl
   keeps (On (Showing bytes) k sc d left) = inl refl
   keeps (On (Ended how) k sc d left) = inl refl
 

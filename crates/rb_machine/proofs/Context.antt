@@ -1,6 +1,7 @@
 -- What the machine does is the same whatever waits behind what it is at.
 use Rattle.std.proofs.Common.{◌≡◌, ℕ, Bool, true, false, cond, List, [], ◌∷◌, ◌++◌, Option, Some, None, length, refl}
-use Rattle.std.specs.Prelude.{nat_lt, nat_eq, codes}
+use Rattle.std.specs.Prelude.{zero, suc, ◌+◌, pos, negsuc, int_lt, nat_lt, nat_le, nat_eq, codes}
+use Rattle.std.specs.List.{list_any}
 use Rattle.std.specs.Str.{bytes_eq}
 use Rattle.rb_tree.specs.declared.span.Span.{Span}
 use Rattle.rb_tree.specs.declared.span.NameId.{NameId}
@@ -14,17 +15,21 @@ use Rattle.rb_tree.specs.declared.node.Method.{Method}
 use Rattle.rb_tree.specs.declared.node.Node.TheOpen.{Piece-F, Target-F}
 use Rattle.rb_tree.specs.declared.node.Node.TheOpen as node
 use Rattle.rb_tree.specs.Layer.{NodeLayer}
-use Rattle.rb_model.specs.Values.{Value, Nil, False, True, Int, Sym, Str, To, truthy}
+use Rattle.rb_model.specs.Values.{Value, Nil, False, True, Int, Sym, Str, To, Reference, truthy}
+use Rattle.rb_model.specs.Things.{max_elements}
 use Rattle.rb_model.specs.Acts.{Act, GetField, SetField, Reply}
 use Rattle.rb_model.specs.Acts as reply
 use Rattle.rb_model.specs.Ends as ending
 use Rattle.rb_machine.specs.Scopes.{Script, Text, Scope, text_of}
-use Rattle.rb_machine.specs.Control.{State, On, Cont, Then, Under, Test, Again, Turn, Frame, Step, AssignTo, FieldTo, GlobalTo, Rest, Choose, RightOfAnd, RightOfOr, Negate, ReturnOf, ReceiverOf, ReceiverToStore, Argument, Instead, Create, Initialize, PieceOf, JoinTo, WriteBehind, TextOf, IndexedBy, MemberOf, IndexOf, ReadOf, RightOf, WriteTo}
-use Rattle.rb_machine.specs.Control.{Eval, Give, Leave, Following, Looping, Turning, Passing, Joining, Making, Calling, Showing, Ended, Exit, Break, Next, Return, Aim, OnReceiver, ByName, Storing, Creating, Place, OfLocal, OfField, OfGlobal, OfElement, OfAttribute, Style, Lines, Plain}
-use Rattle.rb_machine.specs.Methods.{Answer, Gives, Raises, Loops, deed}
-use Rattle.rb_machine.specs.Texts.{max_bytes, styled, p_text}
-use Rattle.rb_machine.specs.Call.{ask_of, named, texted, methods_of, params_of, invoked, top_level, own, last_value, enter, answered, invoke, operator, show, value_of_p, text_by, own_text, give_text, bytes_of, write, write_behind, put_lines, print, perform, read_place, decide, write_place, create, class_from, initialized}
+use Rattle.rb_machine.specs.Control.{State, On, Cont, Then, Under, Test, Again, Turn, Frame, Step, AssignTo, FieldTo, GlobalTo, Rest, Choose, RightOfAnd, RightOfOr, Negate, ReturnOf, ReceiverOf, ReceiverToStore, Argument, Instead, Create, Initialize, PieceOf, JoinTo, WriteBehind, LinesBehind, LineOf, TextOf, IsZero, ElementBelow, WithElement, IndexedBy, MemberOf, IndexOf, ReadOf, RightOf, WriteTo}
+use Rattle.rb_machine.specs.Control.{Eval, Give, Leave, Following, Looping, Turning, Passing, Joining, Drafting, Making, Calling, Reading, Showing, Ended, Exit, Break, Next, Return, Aim, OnReceiver, ByName, Storing, Creating, Listing, Pairing, Place, OfLocal, OfField, OfGlobal, OfElement, OfAttribute, Walk, Each, WithIndex, Map, Select, Turns, Counting, Walking, EachPair, Style, Lines, Plain, Inspecting, Draft, Use, Keys, Values, ForEach, ForText, max_depth}
+use Rattle.rb_machine.specs.Methods.{Answer, Gives, Raises, Loops, LoopsOver, Asks, Reads, EachPairOf, Inspects, deed}
+use Rattle.rb_machine.specs.Texts.{max_bytes, styled}
+use Rattle.rb_machine.specs.Drafts.{Needs, Goes, Finished, Element, Copies, with_line, opened, is_collection, is_array}
+use Rattle.rb_machine.specs.Drafts as draft
+use Rattle.rb_machine.specs.Call.{ask_of, going, start_element, drafted, named, texted, methods_of, params_of, invoked, top_level, own, last_value, enter, answered, invoke, operator, show, value_of, text_by, own_text, give_text, give_inspected, give_line, give_styled, bytes_of, write, write_behind, write_lines, put_lines, print, perform, read_place, decide, write_place, fill, new_array, new_hash, create_builtin, create, class_from, initialized, pair_up, pairs_of}
 use Rattle.rb_machine.specs.Begin.{begin, begin_call, begin_target, begin_return}
+use Rattle.rb_machine.specs.Turns.{is_below, next_element, finish, start_turn, turn, holding, given}
 use Rattle.rb_machine.specs.Give.{join, give_step, give, leave}
 use Rattle.rb_machine.specs.Move.{join_piece}
 use Rattle.rb_machine.specs.Move as move
@@ -47,7 +52,34 @@ ask_of_local (Int n) act at r k sc d left = refl
 ask_of_local (Sym name) act at r k sc d left = refl
 ask_of_local (Str bytes) act at r k sc d left = refl
 
+pub going_local : (o : Option Draft) (at : Span) (r k : List Cont) (sc : Scope) (d left : ℕ) → going o at (k ++ r) sc d left ≡ onto r (going o at k sc d left)
+going_local (Some t) at r k sc d left = refl
+going_local None at r k sc d left = refl
+
+element_local : (t : Draft) (at : Span) (r k : List Cont) (sc : Scope) (d left : ℕ) → start_element t at (k ++ r) sc d left ≡ onto r (start_element t at k sc d left)
+element_local t at r k sc d zero = refl
+element_local t at r k sc d (suc left) = refl
+
+finish_local : (array : Reference) (walk : Walk) (r k : List Cont) (sc : Scope) (d left : ℕ) → finish array walk (k ++ r) sc d left ≡ onto r (finish array walk k sc d left)
+finish_local array Each r k sc d left = refl
+finish_local array WithIndex r k sc d left = refl
+finish_local array (Map values) r k sc d left = refl
+finish_local array (Select kept current) r k sc d left = refl
+
+next_element_local : (v : Value) (array : Reference) (next : ℕ) (walk : Walk) (block : Block) (at : Span) (r k : List Cont) (sc : Scope) (d left : ℕ) → next_element v array next walk block at (k ++ r) sc d left ≡ onto r (next_element v array next walk block at k sc d left)
+next_element_local v array next walk block at r k sc d left = either (is_below next v) r _ _ _ _ refl (finish_local array walk r k sc d left)
+
 module _ (S : Script) where
+  turn_started : (later : Turns) (values : List Value) (block : Block) (r k : List Cont) (sc : Scope) (d left : ℕ) → start_turn S later values block (k ++ r) sc d left ≡ onto r (start_turn S later values block k sc d left)
+  turn_started later values block r k sc d zero = refl
+  turn_started later values block r k sc d (suc left) = refl
+
+  pub turn_local : (turns : Turns) (block : Block) (r k : List Cont) (sc : Scope) (d left : ℕ) → turn S turns block (k ++ r) sc d left ≡ onto r (turn S turns block k sc d left)
+  turn_local (Counting next last answer) block r k sc d left = either (int_lt next last) r _ _ _ _ (turn_started _ _ block r k sc d left) refl
+  turn_local (Walking array next walk at) block r k sc d left = refl
+  turn_local (EachPair [] answer) block r k sc d left = refl
+  turn_local (EachPair (p ∷ ps) answer) block r k sc d left = turn_started _ _ block r k sc d left
+
   enter_local : (m : Method) (me : Value) (args : List Value) (at : Span) (r k : List Cont) (sc : Scope) (d left : ℕ) → enter S m me args at (k ++ r) sc d left ≡ onto r (enter S m me args at k sc d left)
   enter_local m me args at r k sc d left = either (nat_eq (length args) (length m.params)) r _ _ _ _ refl refl
 
@@ -56,6 +88,14 @@ module _ (S : Script) where
   answered_local (Raises fault) block at r k sc d left = refl
   answered_local (Loops turns) (Some block) at r k sc d left = refl
   answered_local (Loops turns) None at r k sc d left = refl
+  answered_local (LoopsOver array walk) (Some block) at r k sc d left = refl
+  answered_local (LoopsOver array walk) None at r k sc d left = refl
+  answered_local (Asks thing act None) block at r k sc d left = refl
+  answered_local (Asks thing act (Some step)) block at r k sc d left = refl
+  answered_local (Reads thing purpose) block at r k sc d left = refl
+  answered_local (EachPairOf hash) (Some block) at r k sc d left = refl
+  answered_local (EachPairOf hash) None at r k sc d left = refl
+  answered_local (Inspects collection) block at r k sc d left = refl
 
   invoked_local : (m : Option Method) (v : Value) (name : Text) (args : List Value) (block : Option Block) (at : Span) (r k : List Cont) (sc : Scope) (d left : ℕ) → invoked S m v name args block at (k ++ r) sc d left ≡ onto r (invoked S m v name args block at k sc d left)
   invoked_local (Some m) v name args None at r k sc d left = enter_local m v args at r k sc d left
@@ -71,18 +111,39 @@ module _ (S : Script) where
 
   text_by_local : (m : Option Method) (v : Value) (at : Span) (r k : List Cont) (sc : Scope) (d left : ℕ) → text_by S m v at (k ++ r) sc d left ≡ onto r (text_by S m v at k sc d left)
   text_by_local (Some m) v at r k sc d left = enter_local m v [] at r (Then (TextOf v) ∷ k) sc d left
-  text_by_local None v at r k sc d left = refl
+  text_by_local None v at r k sc d left = either (is_collection v) r _ _ _ _ refl refl
 
   give_text_local : (v : Value) (at : Span) (r k : List Cont) (sc : Scope) (d left : ℕ) → give_text S v at (k ++ r) sc d left ≡ onto r (give_text S v at k sc d left)
   give_text_local v at r k sc d left = text_by_local (own_text S v) v at r k sc d left
 
+  inspected_local : (v : Value) (at : Span) (r k : List Cont) (sc : Scope) (d left : ℕ) → give_inspected S v at (k ++ r) sc d left ≡ onto r (give_inspected S v at k sc d left)
+  inspected_local v at r k sc d left = either (is_collection v) r _ _ _ _ refl refl
+
+  pub drafted_local : (need : Needs) (at : Span) (r k : List Cont) (sc : Scope) (d left : ℕ) → drafted S need at (k ++ r) sc d left ≡ onto r (drafted S need at k sc d left)
+  drafted_local (Goes t) at r k sc d left = going_local t at r k sc d left
+  drafted_local (Finished text) at r k sc d left = refl
+  drafted_local (Element t) at r k sc d left = element_local t at r k sc d left
+  drafted_local (Copies thing t) at r k sc d left = either (nat_lt (d + length t.begun) max_depth) r _ _ _ _ refl refl
+  drafted_local (draft.Asks v t) at r k sc d left = give_text_local v at r (Under d ∷ Then (LineOf t at) ∷ k) sc (d + length t.begun) left
+
+  line_local : (v : Value) (bytes : List ℕ) (vs : List Value) (at : Span) (r k : List Cont) (sc : Scope) (d left : ℕ) → give_line S v bytes vs at (k ++ r) sc d left ≡ onto r (give_line S v bytes vs at k sc d left)
+  line_local v bytes vs at r k sc d left = either (is_array v) r _ _ _ _ refl (give_text_local v at r (Then (WriteBehind Lines bytes vs at) ∷ k) sc d left)
+
+  styled_local : (style : Style) (v : Value) (bytes : List ℕ) (vs : List Value) (at : Span) (r k : List Cont) (sc : Scope) (d left : ℕ) → give_styled S style v bytes vs at (k ++ r) sc d left ≡ onto r (give_styled S style v bytes vs at k sc d left)
+  styled_local Lines v bytes vs at r k sc d left = line_local v bytes vs at r k sc d left
+  styled_local Plain v bytes vs at r k sc d left = give_text_local v at r (Then (WriteBehind Plain bytes vs at) ∷ k) sc d left
+  styled_local (Inspecting args) v bytes vs at r k sc d left = inspected_local v at r (Then (WriteBehind (Inspecting args) bytes vs at) ∷ k) sc d left
+
   written_local : (style : Style) (bytes : List ℕ) (vs : List Value) (at : Span) (r k : List Cont) (sc : Scope) (d left : ℕ) → write S style bytes vs at (k ++ r) sc d left ≡ onto r (write S style bytes vs at k sc d left)
-  written_local style bytes [] at r k sc d left = show_local bytes (Instead Nil) at r k sc d left
-  written_local style bytes (v ∷ vs) at r k sc d left = give_text_local v at r (Then (WriteBehind style bytes vs at) ∷ k) sc d left
+  written_local style bytes [] at r k sc d left = show_local bytes (value_of S style) at r k sc d left
+  written_local style bytes (v ∷ vs) at r k sc d left = styled_local style v bytes vs at r k sc d left
 
   behind_local : (style : Style) (bytes : List ℕ) (text : Text) (vs : List Value) (at : Span) (r k : List Cont) (sc : Scope) (d left : ℕ) → write_behind S style bytes text vs at (k ++ r) sc d left ≡ onto r (write_behind S style bytes text vs at k sc d left)
   behind_local style bytes text vs at r k sc d left =
       either (nat_lt max_bytes (length (bytes ++ styled style text))) r _ _ _ _ refl (written_local style (bytes ++ styled style text) vs at r k sc d left)
+
+  array_lines_local : (bytes : List ℕ) (text : Text) (vs : List Value) (at : Span) (r k : List Cont) (sc : Scope) (d left : ℕ) → write_lines S bytes text vs at (k ++ r) sc d left ≡ onto r (write_lines S bytes text vs at k sc d left)
+  array_lines_local bytes text vs at r k sc d left = either (nat_lt max_bytes (length (bytes ++ text))) r _ _ _ _ refl (written_local Lines (bytes ++ text) vs at r k sc d left)
 
   lines_local : (args : List Value) (at : Span) (r k : List Cont) (sc : Scope) (d left : ℕ) → put_lines S args at (k ++ r) sc d left ≡ onto r (put_lines S args at k sc d left)
   lines_local [] at r k sc d left = show_local (10 ∷ []) (Instead Nil) at r k sc d left
@@ -92,7 +153,7 @@ module _ (S : Script) where
   print_local name args at r k sc d left =
       either (bytes_eq name (codes "puts")) r _ _ _ _ (lines_local args at r k sc d left)
       (either (bytes_eq name (codes "print")) r _ _ _ _ (written_local Plain [] args at r k sc d left)
-      (either (bytes_eq name (codes "p")) r _ _ _ _ (show_local (p_text S.program args) (value_of_p S args) at r k sc d left) refl))
+      (either (bytes_eq name (codes "p")) r _ _ _ _ (written_local (Inspecting args) [] args at r k sc d left) refl))
 
   top_level_local : (m : Option Method) (name : NameId) (args : List Value) (at : Span) (r k : List Cont) (sc : Scope) (d left : ℕ) → top_level S m name args at (k ++ r) sc d left ≡ onto r (top_level S m name args at k sc d left)
   top_level_local (Some m) name args at r k sc d left = enter_local m Nil args at r k sc d left
@@ -102,9 +163,31 @@ module _ (S : Script) where
   own_local (Some m) name args at r k sc d left = enter_local m sc.me args at r k sc d left
   own_local None name args at r k sc d left = top_level_local (named S name S.program.functions) name args at r k sc d left
 
-  create_local : (class : Option ℕ) (args : List Value) (at : Span) (r k : List Cont) (sc : Scope) (d left : ℕ) → create S class args at (k ++ r) sc d left ≡ onto r (create S class args at k sc d left)
-  create_local (Some class) args at r k sc d left = refl
-  create_local None args at r k sc d left = refl
+  fill_local : (count v : Value) (at : Span) (r k : List Cont) (sc : Scope) (d left : ℕ) → fill S count v at (k ++ r) sc d left ≡ onto r (fill S count v at k sc d left)
+  fill_local (Int (pos n)) v at r k sc d left = either (nat_le n max_elements) r _ _ _ _ refl refl
+  fill_local (Int (negsuc n)) v at r k sc d left = refl
+  fill_local count v at r k sc d left = refl
+
+  array_local : (args : List Value) (at : Span) (r k : List Cont) (sc : Scope) (d left : ℕ) → new_array S args at (k ++ r) sc d left ≡ onto r (new_array S args at k sc d left)
+  array_local [] at r k sc d left = refl
+  array_local (count ∷ []) at r k sc d left = fill_local count Nil at r k sc d left
+  array_local (count ∷ v ∷ []) at r k sc d left = fill_local count v at r k sc d left
+  array_local (count ∷ v ∷ w ∷ vs) at r k sc d left = refl
+
+  hash_local : (args : List Value) (at : Span) (r k : List Cont) (sc : Scope) (d left : ℕ) → new_hash S args at (k ++ r) sc d left ≡ onto r (new_hash S args at k sc d left)
+  hash_local [] at r k sc d left = refl
+  hash_local (v ∷ vs) at r k sc d left = refl
+
+  builtin_local : (name : Text) (args : List Value) (at : Span) (r k : List Cont) (sc : Scope) (d left : ℕ) → create_builtin S name args at (k ++ r) sc d left ≡ onto r (create_builtin S name args at k sc d left)
+  builtin_local name args at r k sc d left =
+      either (bytes_eq name (codes "Array")) r _ _ _ _ (array_local args at r k sc d left) (either (bytes_eq name (codes "Hash")) r _ _ _ _ (hash_local args at r k sc d left) refl)
+
+  create_local : (class : Option ℕ) (name : NameId) (args : List Value) (at : Span) (r k : List Cont) (sc : Scope) (d left : ℕ) → create S class name args at (k ++ r) sc d left ≡ onto r (create S class name args at k sc d left)
+  create_local (Some class) name args at r k sc d left = refl
+  create_local None name args at r k sc d left = builtin_local (text_of S name) args at r k sc d left
+
+  pair_local : (ps : List (Value × Value)) (at : Span) (r k : List Cont) (sc : Scope) (d left : ℕ) → pair_up S ps at (k ++ r) sc d left ≡ onto r (pair_up S ps at k sc d left)
+  pair_local ps at r k sc d left = either (list_any (λ (p : Value × Value). is_collection p.0) ps) r _ _ _ _ refl refl
 
   initialized_local : (m : Option Method) (object : Value) (args : List Value) (at : Span) (r k : List Cont) (sc : Scope) (d left : ℕ) → initialized S m object args at (k ++ r) sc d left ≡ onto r (initialized S m object args at k sc d left)
   initialized_local (Some m) object args at r k sc d left = enter_local m object args at r (Then (Instead object) ∷ k) sc d left
@@ -115,7 +198,9 @@ module _ (S : Script) where
   perform_local (OnReceiver v name block) args at r k sc d left = invoke_local v name args block at r k sc d left
   perform_local (ByName name) args at r k sc d left = own_local (texted S (text_of S name) (methods_of S sc.me)) name args at r k sc d left
   perform_local (Storing v name) args at r k sc d left = invoke_local v name args None at r (Then (Instead (last_value S args)) ∷ k) sc d left
-  perform_local (Creating class) args at r k sc d left = create_local (class_from S 0 class S.program.classes) args at r k sc d left
+  perform_local (Creating class) args at r k sc d left = create_local (class_from S 0 class S.program.classes) class args at r k sc d left
+  perform_local Listing args at r k sc d left = refl
+  perform_local Pairing args at r k sc d left = pair_local (pairs_of S args) at r k sc d left
 
   read_local : (place : Place) (o : AssignOp) (value : Node) (at : Span) (r k : List Cont) (sc : Scope) (d left : ℕ) → read_place S place o value at (k ++ r) sc d left ≡ onto r (read_place S place o value at k sc d left)
   read_local (OfLocal name) o value at r k sc d left = refl
@@ -166,6 +251,11 @@ module _ (S : Script) where
   give_step_local v (PieceOf bytes pieces at) r k sc d left = give_text_local v at r (Then (JoinTo bytes pieces at) ∷ k) sc d left
   give_step_local v (JoinTo bytes pieces at) r k sc d left = join_local bytes (bytes_of S v) pieces at r k sc d left
   give_step_local v (WriteBehind style bytes values at) r k sc d left = behind_local style bytes (bytes_of S v) values at r k sc d left
+  give_step_local v (LinesBehind bytes values at) r k sc d left = array_lines_local bytes (bytes_of S v) values at r k sc d left
+  give_step_local v (LineOf t at) r k sc d left = going_local (with_line t (bytes_of S v)) at r k sc d left
+  give_step_local v IsZero r k sc d left = refl
+  give_step_local v (ElementBelow array next walk block at) r k sc d left = next_element_local v array next walk block at r k sc d left
+  give_step_local v (WithElement array next walk block at) r k sc d left = turn_started (Walking array (suc next) (holding v walk) at) (given v next walk) block r k sc d left
   give_step_local v (TextOf object) r k sc d left = refl
   give_step_local v (IndexedBy index o value at) r k sc d left = refl
   give_step_local v (MemberOf name o value at) r k sc d left = read_local (OfAttribute v name) o value at r k sc d left
@@ -233,11 +323,21 @@ answer_local (reply.Ended ending.Sink) at r k sc d left = refl
 answer_local (reply.Ended ending.Memory) at r k sc d left = refl
 answer_local (reply.Failed f) at r k sc d left = refl
 
+used_local : (purpose : Use) (thing : Reference) (a : Reply) (at : Span) (r k : List Cont) (sc : Scope) (d left : ℕ) → move.used purpose thing a at (k ++ r) sc d left ≡ onto r (move.used purpose thing a at k sc d left)
+used_local Keys thing (reply.Pairs ps) at r k sc d left = refl
+used_local Values thing (reply.Pairs ps) at r k sc d left = refl
+used_local (ForEach answer block) thing (reply.Pairs ps) at r k sc d left = refl
+used_local (ForText t) thing (reply.Elements vs) at r k sc d left = going_local (opened t thing (reply.Elements vs)) at r k sc d left
+used_local (ForText t) thing (reply.Pairs ps) at r k sc d left = going_local (opened t thing (reply.Pairs ps)) at r k sc d left
+used_local purpose thing a at r k sc d left = answer_local a at r k sc d left
+
 -- a reply is taken in the same way
 pub replied_local : (s : State) (a : Reply) (r : List Cont) → move.replied (onto r s) a ≡ onto r (move.replied s a)
 replied_local (On (Making thing) k sc d left) a r = answer_local a _ r k sc d left
 replied_local (On (Calling thing act at) k sc d left) a r = answer_local a at r k sc d left
+replied_local (On (Reading thing purpose at) k sc d left) a r = used_local purpose thing a at r k sc d left
 replied_local (On (Showing bytes) k sc d left) a r = refl
+replied_local (On (Drafting t at) k sc d left) a r = refl
 replied_local (On (Ended how) k sc d left) a r = refl
 replied_local (On (Eval n) k sc d left) a r = refl
 replied_local (On (Give v) k sc d left) a r = refl

@@ -1,6 +1,6 @@
 -- Each silent move takes a step, or makes the work that is left less; so every state comes to a want.
 use Rattle.std.proofs.Common.{◌≡◌, ◌<◌, ◌≤◌, ◌⊎◌, inl, inr, ℕ, zero, suc, ◌+◌, ◌*◌, Bool, true, false, cond, List, [], ◌∷◌, Option, Some, None, length, refl, sym, ◌∙◌, subst, arith}
-use Rattle.std.specs.Prelude.{nat_lt, int_lt}
+use Rattle.std.specs.Prelude.{nat_lt, nat_le, int_lt, pos, ◌+ℤ◌, ◌++◌, codes}
 use Rattle.rb_tree.specs.declared.span.Span.{Span}
 use Rattle.rb_tree.specs.declared.span.NameId.{NameId}
 use Rattle.rb_tree.specs.declared.node.AssignOp.{AssignOp}
@@ -13,14 +13,20 @@ use Rattle.rb_tree.specs.declared.node.Node.TheOpen as node
 use Rattle.rb_tree.specs.Layer.{NodeLayer}
 use Rattle.rb_tree.specs.Place.{place}
 use Rattle.rb_model.specs.declared.fault.Fault.TheVariants.{TooDeep}
+use Rattle.rb_model.specs.Values.{Value, Int, To, Reference}
 use Rattle.rb_model.specs.Acts.{GetField}
-use Rattle.rb_machine.specs.Scopes.{Script, Scope}
-use Rattle.rb_machine.specs.Control.{State, On, Cont, Under, Turns, Counting, OfField, Eval, Give, Leave, Following, Looping, Turning, Passing, Joining, Making, Calling, Showing, Ended}
-use Rattle.rb_machine.specs.Call.{raised}
+use Rattle.rb_machine.specs.Scopes.{Script, Scope, Text}
+use Rattle.rb_machine.specs.Control.{State, On, Cont, Then, Under, Turns, Counting, Walking, EachPair, OfField, Form, Inspected, Lined, Open, OfArray, OfHash, Coming, Between, OfValue, OfPair, Draft, LineOf, WithElement, Eval, Give, Leave, Following, Looping, Turning, Passing, Joining, Drafting, Making, Calling, Reading, Showing, Ended, max_depth}
+use Rattle.rb_machine.specs.Texts.{max_bytes, inspected}
+use Rattle.rb_machine.specs.Drafts.{Needs, Goes, Finished, Element, Copies, Asks, joined, needs, inspects, lines, collection, is_open, again, closing, is_collection_sort, is_list_sort}
+use Rattle.rb_machine.specs.Call.{raised, drafted}
 use Rattle.rb_machine.specs.Begin.{begin, begin_call, begin_target, begin_return}
-use Rattle.rb_machine.specs.Move.{Next, Go, Make, Ask, Show, Stop, move, left_in, turn, start_node, start_turn, join_piece, max_depth, IsWant}
+use Rattle.rb_machine.specs.Give.{give}
+use Rattle.rb_machine.specs.Turns.{start_turn, turn}
+use Rattle.rb_machine.specs.Move.{Next, Go, Make, Ask, Show, Stop, move, left_in, start_node, join_piece, IsWant}
 use Rattle.rb_machine.specs.Laws.{Quiet, stays, moves, IsNeverStuck}
-use Rattle.rb_machine.proofs.Measure.{size, weight, weights, Within, ask_of_within, join_within, read_within, give_within, leave_within, perform_within}
+use Rattle.rb_machine.proofs.Weights.{size, weight, weights, coming_weight, draft_weight}
+use Rattle.rb_machine.proofs.Measure.{Within, wider, begins_turn_at, ask_of_within, going_within, give_text_within, join_within, read_within, give_within, leave_within, perform_within}
 
 module _ (S : Script) where
   target_left : (f : Target-F Node Piece Target Block) (o : AssignOp) (value : Node) (at : Span) (k : List Cont) (sc : Scope) (d left : ℕ) → left_in (begin_target S f o value at k sc d left) ≡ left
@@ -67,35 +73,112 @@ module _ (S : Script) where
       (let e = begin_left (out-Node n) (Under d ∷ k) sc (d + 1) left in inl (omega (arith, e)))
       (inr (refl, omega arith))
 
-  turn_started : (turns : Turns) (b : Block) (k : List Cont) (sc : Scope) (d left : ℕ) → Less (start_turn S turns b k sc d left) (On (Turning turns b) k sc d left)
-  turn_started turns b k sc d zero = inr (refl, omega arith)
-  turn_started turns b k sc d (suc left) = inl (omega arith)
+  turn_started : (later : Turns) (values : List Value) (b : Block) (k : List Cont) (sc : Scope) (d left : ℕ) (s : State) → left_in s ≡ left → 0 < size s → Less (start_turn S later values b k sc d left) s
+  turn_started later values b k sc d zero s e h = inr (sym e, h)
+  turn_started later values b k sc d (suc left) s e h = inl (omega (arith, e))
 
   turn_less : (turns : Turns) (b : Block) (k : List Cont) (sc : Scope) (d left : ℕ) → Less (turn S turns b k sc d left) (On (Turning turns b) k sc d left)
-  turn_less (Counting next last answer) b k sc d left = one_less (int_lt next last) (On (Turning (Counting next last answer) b) k sc d left) (start_turn S (Counting next last answer) b k sc d left) (On (Give answer) k sc d left) (turn_started (Counting next last answer) b k sc d left) (inr (refl, omega arith))
+  turn_less (Counting next last answer) b k sc d left =
+      one_less (int_lt next last) (On (Turning (Counting next last answer) b) k sc d left) (start_turn S (Counting (next +ℤ pos 1) last answer) (Int next ∷ []) b k sc d left) (On (Give answer) k sc d left)
+      (turn_started _ _ b k sc d left (On (Turning (Counting next last answer) b) k sc d left) refl (omega arith)) (inr (refl, omega arith))
+  turn_less (Walking array next walk at) b k sc d left = inr (refl, omega arith)
+  turn_less (EachPair [] answer) b k sc d left = inr (refl, omega arith)
+  turn_less (EachPair (p ∷ ps) answer) b k sc d left = turn_started (EachPair ps answer) (p.0 ∷ p.1 ∷ []) b k sc d left (On (Turning (EachPair (p ∷ ps) answer) b) k sc d left) refl (omega arith)
+
+  element_given : (v : Value) (c : Cont) (k : List Cont) (sc : Scope) (d left : ℕ) → begins_turn_at S c ≡ true → Less (give S v c k sc d left) (On (Give v) (c ∷ k) sc d left)
+  element_given v (Then (WithElement array next walk block at)) k sc d left e =
+      turn_started _ _ block k sc d left (On (Give v) (Then (WithElement array next walk block at) ∷ k) sc d left) refl (omega arith)
+  element_given v c k sc d left e = absurd (cc)
+
+  given_less : (v : Value) (c : Cont) (k : List Cont) (sc : Scope) (d left : ℕ) (b : Bool) → begins_turn_at S c ≡ b → Less (give S v c k sc d left) (On (Give v) (c ∷ k) sc d left)
+  given_less v c k sc d left true e = element_given v c k sc d left e
+  given_less v c k sc d left false e = within_less left (1 + weight c + weights k) (On (Give v) (c ∷ k) sc d left) (give S v c k sc d left) refl (omega arith) (give_within S v c k sc d left e)
 
   piece_less : (f : Piece-F Node Piece Target Block) (bytes : List ℕ) (p : Piece) (ps : List Piece) (at : Span) (k : List Cont) (sc : Scope) (d left : ℕ)
       → Less (join_piece S f bytes ps at k sc d left) (On (Joining bytes (p ∷ ps) at) k sc d left)
   piece_less (node.Text more) bytes p ps at k sc d left = within_less left (3 + length ps + weights k) (On (Joining bytes (p ∷ ps) at) k sc d left) _ refl (omega arith) (join_within S bytes more ps at k sc d left)
   piece_less (node.Code code) bytes p ps at k sc d left = inr (refl, omega arith)
 
+  -- ---- texts in the making
+
+  abbrev a_draft : Form → Coming → Text → List Open → Draft
+  a_draft form coming bytes begun = record { form = form; coming = coming; bytes = bytes; begun = begun }
+
+  -- what is needed of a text that has so much to do leaves less
+  abbrev NeedsLess : ℕ → Needs → Type 0
+  NeedsLess work need = (at : Span) (k : List Cont) (sc : Scope) (d left : ℕ) (s : State) → left_in s ≡ left → size s ≡ 3 + work + weights k → Less (drafted S need at k sc d left) s
+
+  goes_less : (work : ℕ) (fits : Bool) (t : Draft) → draft_weight t < work → NeedsLess work (Goes (cond fits (Some t) None))
+  goes_less work fits t h at k sc d left s e f = within_less left (3 + draft_weight t + weights k) s _ e (omega (arith, h, f)) (going_within fits t at k sc d left)
+
+  element_less : (work : ℕ) (t : Draft) → NeedsLess work (Element t)
+  element_less work t at k sc d zero s e f = inr (sym e, omega (arith, f))
+  element_less work t at k sc d (suc left) s e f = inl (omega (arith, e))
+
+  copies_less : (work : ℕ) (thing : Reference) (t : Draft) → 5 + length t.begun < work → NeedsLess work (Copies thing t)
+  copies_less work thing t h at k sc d left s e f =
+      one_less (nat_lt (d + length t.begun) max_depth) s _ _ (inr (sym e, omega (arith, h, f))) (inr (sym e, omega (arith, f)))
+
+  asks_less : (work : ℕ) (v : Value) (t : Draft) → 9 + length t.begun < work → NeedsLess work (Asks v t)
+  asks_less work v t h at k sc d left s e f =
+      within_less left (12 + length t.begun + weights k) s _ e (omega (arith, h, f))
+      (wider left _ _ _ (omega arith) (give_text_within S v at (Under d ∷ Then (LineOf t at) ∷ k) sc (d + length t.begun) left))
+
+  needs_if : (work : ℕ) (b : Bool) (m n : Needs) → NeedsLess work m → NeedsLess work n → NeedsLess work (cond b m n)
+  needs_if work true m n p q = p
+  needs_if work false m n p q = q
+
+  joined_less : (work : ℕ) (t : Draft) (more : Text) (coming : Coming) (begun : List Open) → coming_weight t.form coming + length begun < work → NeedsLess work (Goes (joined t more coming begun))
+  joined_less work t more coming begun h = goes_less work (nat_le (length (t.bytes ++ more)) max_bytes) (a_draft t.form coming (t.bytes ++ more) begun) h
+
+  finished_less : (work : ℕ) (text : Text) → NeedsLess work (Finished text)
+  finished_less work text at k sc d left s e f = inr (sym e, omega (arith, f))
+
+  between_less : (form : Form) (bytes : Text) (begun : List Open) → NeedsLess (0 + length begun) (needs S.program (a_draft form Between bytes begun))
+  between_less form bytes [] = finished_less (0 + 0) bytes
+  between_less form bytes (OfArray array lead [] ∷ begun) = joined_less _ (a_draft form Between bytes (OfArray array lead [] ∷ begun)) (closing form) Between begun (omega arith)
+  between_less form bytes (OfArray array lead (v ∷ vs) ∷ begun) = element_less _ _
+  between_less form bytes (OfHash hash lead [] ∷ begun) = joined_less _ (a_draft form Between bytes (OfHash hash lead [] ∷ begun)) (codes "}") Between begun (omega arith)
+  between_less form bytes (OfHash hash lead (p ∷ ps) ∷ begun) = element_less _ _
+
+  collection_less : (work : ℕ) (t : Draft) (lead : Text) (thing : Reference) → 5 + length t.begun < work → NeedsLess work (collection t lead thing)
+  collection_less work t lead thing h =
+      needs_if work (is_open thing t.begun) _ _ (joined_less work t (lead ++ again t.form thing.sort) Between t.begun (omega (arith, h))) (copies_less work thing t h)
+
+  inspects_less : (work : ℕ) (t : Draft) (lead : Text) (v : Value) → 5 + length t.begun < work → NeedsLess work (inspects S.program t lead v)
+  inspects_less work t lead (To thing) h =
+      needs_if work (is_collection_sort thing.sort) _ _ (collection_less work t lead thing h) (joined_less work t (lead ++ inspected S.program (To thing)) Between t.begun (omega (arith, h)))
+  inspects_less work t lead v h = joined_less work t (lead ++ inspected S.program v) Between t.begun (omega (arith, h))
+
+  lines_less : (work : ℕ) (t : Draft) (lead : Text) (v : Value) → 9 + length t.begun < work → NeedsLess work (lines S.program t lead v)
+  lines_less work t lead (To thing) h = needs_if work (is_list_sort thing.sort) _ _ (collection_less work t lead thing (omega (arith, h))) (asks_less work (To thing) t h)
+  lines_less work t lead v h = asks_less work v t h
+
+  needs_less : (form : Form) (coming : Coming) (bytes : Text) (begun : List Open) → NeedsLess (coming_weight form coming + length begun) (needs S.program (a_draft form coming bytes begun))
+  needs_less form Between bytes begun = between_less form bytes begun
+  needs_less Inspected (OfValue lead v) bytes begun = inspects_less _ (a_draft Inspected (OfValue lead v) bytes begun) lead v (omega arith)
+  needs_less Lined (OfValue lead v) bytes begun = lines_less _ (a_draft Lined (OfValue lead v) bytes begun) lead v (omega arith)
+  needs_less form (OfPair lead k v) bytes begun = joined_less _ (a_draft form (OfPair lead k v) bytes begun) (lead ++ inspected S.program k ++ codes "=>") (OfValue [] v) begun (omega arith)
+
   -- each silent move goes down
   pub down : (s : State) → Down s (move S s)
   down (On (Eval n) k sc d left) = node_less n k sc d left
   down (On (Give v) [] sc d left) = inr (refl, omega arith)
-  down (On (Give v) (c ∷ k) sc d left) = within_less left (1 + weight c + weights k) (On (Give v) (c ∷ k) sc d left) _ refl (omega arith) (give_within S v c k sc d left)
+  down (On (Give v) (c ∷ k) sc d left) = given_less v c k sc d left (begins_turn_at S c) refl
   down (On (Leave e) [] sc d left) = inr (refl, omega arith)
   down (On (Leave e) (c ∷ k) sc d left) = within_less left (1 + weight c + weights k) (On (Leave e) (c ∷ k) sc d left) _ refl (omega arith) (leave_within S e c k sc d left)
   down (On (Following v []) k sc d left) = inr (refl, omega arith)
   down (On (Following v (n ∷ ns)) k sc d left) = inr (refl, omega arith)
   down (On (Looping condition body) k sc d left) = inr (refl, omega arith)
   down (On (Turning turns block) k sc d left) = turn_less turns block k sc d left
-  down (On (Passing aim done [] at) k sc d left) = within_less left (7 + 4 * length done + weights k) (On (Passing aim done [] at) k sc d left) _ refl (omega arith) (perform_within S aim done at k sc d left)
+  down (On (Passing aim done [] at) k sc d left) = within_less left (10 + 12 * length done + weights k) (On (Passing aim done [] at) k sc d left) _ refl (omega arith) (perform_within S aim done at k sc d left)
   down (On (Passing aim done (n ∷ ns) at) k sc d left) = inr (refl, omega arith)
   down (On (Joining bytes [] at) k sc d left) = inr (refl, omega arith)
   down (On (Joining bytes (p ∷ ps) at) k sc d left) = piece_less (out-Piece p) bytes p ps at k sc d left
+  down (On (Drafting t at) k sc d left) = needs_less t.form t.coming t.bytes t.begun at k sc d left (On (Drafting t at) k sc d left) refl (omega arith)
   down (On (Making thing) k sc d left) = tt
   down (On (Calling thing act at) k sc d left) = tt
+  down (On (Reading thing purpose at) k sc d left) = tt
   down (On (Showing bytes) k sc d left) = tt
   down (On (Ended how) k sc d left) = tt
 

@@ -1,24 +1,26 @@
 -- As many steps as a run took are enough for it.
 use Rattle.std.proofs.Common.{◌≡◌, ◌≤◌, ◌⊎◌, inl, inr, ℕ, zero, suc, ◌+◌, ◌-◌, Bool, true, false, cond, List, ◌∷◌, ◌++◌, Some, refl, sym, ap, ◌∙◌, subst, arith}
-use Rattle.std.specs.Prelude.{nat_lt, int_lt}
+use Rattle.std.specs.Prelude.{[], nat_lt, int_lt, pos, ◌+ℤ◌}
 use Rattle.rb_tree.specs.declared.span.Span.{Span}
 use Rattle.rb_tree.specs.declared.node.Node.{out-Node}
 use Rattle.rb_tree.specs.Place.{place}
 use Rattle.rb_model.specs.declared.fault.Fault.TheVariants.{TooDeep}
-use Rattle.rb_model.specs.Values.{To, Reference}
+use Rattle.rb_model.specs.Values.{Int, To, Reference}
 use Rattle.rb_model.specs.Acts.{Act, Reply, Done}
 use Rattle.rb_model.specs.Acts as reply
 use Rattle.rb_model.specs.Ends.{End, Raised}
 use Rattle.rb_model.specs.Things.{Thing, gives}
 use Rattle.rb_model.specs.Private.{Private, held, entered, acted}
-use Rattle.rb_machine.specs.Scopes.{Script}
-use Rattle.rb_machine.specs.Control.{State, On, Under, Counting, Eval, Give, Turning}
-use Rattle.rb_machine.specs.Call.{raised}
+use Rattle.rb_machine.specs.Scopes.{Script, Scope}
+use Rattle.rb_machine.specs.Control.{State, On, Cont, Then, Under, Counting, EachPair, WithElement, Eval, Give, Turning, Drafting, max_depth}
+use Rattle.rb_machine.specs.Drafts.{Needs, Element, needs}
+use Rattle.rb_machine.specs.Call.{raised, drafted}
+use Rattle.rb_machine.specs.Turns.{start_turn, turn, with_element}
 use Rattle.rb_machine.specs.Begin.{begin}
 use Rattle.rb_machine.specs.Follows.{next_thing}
-use Rattle.rb_machine.specs.Move.{Next, Go, Make, Ask, Show, Stop, move, replied, left_in, turn, start_node, start_turn, max_depth}
+use Rattle.rb_machine.specs.Move.{Next, Go, Make, Ask, Show, Stop, move, replied, left_in, start_node}
 use Rattle.rb_machine.specs.Alone.{Runs, begins, goes, makes, acts, shows, opening, Alone}
-use Rattle.rb_machine.specs.Laws.{StepsTakenAreEnough, one_more_if, begins_step}
+use Rattle.rb_machine.specs.Laws.{StepsTakenAreEnough, one_more_if, begins_step, comes_to_element}
 use Rattle.rb_machine.proofs.Uniform.{longer, replied_longer}
 use Rattle.rb_machine.proofs.Down.{begin_left}
 use Rattle.rb_machine.proofs.Counts.{counted_move, replies_are_free}
@@ -36,7 +38,7 @@ IsWanted want = Unit {0}
 module _ (S : Script) where
   left_within : {N : ℕ} {b : List ℕ} {h : Private} {s : State} → Runs S N b h s → left_in s ≤ N
   left_within begins = omega arith
-  left_within (goes b h s t run e) = omega (arith, left_within run, not_fewer (begins_step s) (left_in s) (left_in t) (counted_move S s t e))
+  left_within (goes b h s t run e) = omega (arith, left_within run, not_fewer (begins_step S s) (left_in s) (left_in t) (counted_move S s t e))
   left_within (makes b h s thing run e) = omega (arith, left_within run, replies_are_free s (reply.Value (To (next_thing h thing))))
   left_within (acts b h s r act thing run e f) = omega (arith, left_within run, replies_are_free s (gives thing act))
   left_within (shows b h s bytes run e) = omega (arith, left_within run, replies_are_free s Done)
@@ -64,19 +66,36 @@ module _ (S : Script) (j : ℕ) where
   at_more : (left : ℕ) → left ≡ 0 → left + suc j ≡ suc j
   at_more left h = omega (arith, h)
 
+  stepped : (s t : State) → s ≡ t → left_in s ≡ j → suc j ≤ left_in t → ⊥
+  stepped s t e h k = let same = ap left_in e in omega (arith, same, h, k)
+
+  element_takes : (need : Needs) (at : Span) (k : List Cont) (sc : Scope) (d : ℕ) → comes_to_element need ≡ true → left_in (drafted S need at k sc d (suc j)) ≡ j
+  element_takes (Element t) at k sc d e = refl
+  element_takes need at k sc d e = absurd (cc)
+
   -- where a state lacks a step and has more in another run, it takes one there, or is too deep
-  lacks_ends : (s t : State) → Lacks s → move S (longer (suc j) s) ≡ Go t → suc j ≤ left_in t → IsTooDeep S t
+  lacks_ends : (s t : State) → Lacks S s → move S (longer (suc j) s) ≡ Go t → suc j ≤ left_in t → IsTooDeep S t
   lacks_ends (On (Eval n) k sc d left) t h e small =
       too_deep_or (nat_lt d max_depth) (place (out-Node n)) (begin S (out-Node n) (Under d ∷ k) sc (d + 1) j) t
       (go_is _ t (ap (λ l. Go (start_node S n k sc d l)) (sym (at_more left h)) ∙ e)) (begin_left S (out-Node n) (Under d ∷ k) sc (d + 1) j) small
   lacks_ends (On (Turning (Counting next last answer) block) k sc d left) t h e small =
-      absurd (took_one (int_lt next last) (start_turn S (Counting next last answer) block k sc d (suc j)) (On (Give answer) k sc d (suc j)) t h.1
+      absurd (took_one (int_lt next last) (start_turn S (Counting (next +ℤ pos 1) last answer) (Int next ∷ []) block k sc d (suc j)) (On (Give answer) k sc d (suc j)) t h.1
       (go_is _ t (ap (λ l. Go (turn S (Counting next last answer) block k sc d l)) (sym (at_more left h.0)) ∙ e)) refl small)
+  lacks_ends (On (Turning (EachPair (p ∷ ps) answer) block) k sc d left) t h e small =
+      absurd (stepped (turn S (EachPair (p ∷ ps) answer) block k sc d (suc j)) t (go_is _ t (ap (λ l. Go (turn S (EachPair (p ∷ ps) answer) block k sc d l)) (sym (at_more left h)) ∙ e)) refl small)
+  lacks_ends (On (Give v) (Then (WithElement array next walk block at) ∷ k) sc d left) t h e small =
+      absurd (stepped (with_element S v array next walk block at k sc d (suc j)) t (go_is _ t (ap (λ l. Go (with_element S v array next walk block at k sc d l)) (sym (at_more left h)) ∙ e)) refl small)
+  lacks_ends (On (Drafting draft at) k sc d left) t h e small =
+      let need = needs S.program draft in
+      absurd (stepped (drafted S need at k sc d (suc j)) t (go_is _ t (ap (λ l. Go (drafted S need at k sc d l)) (sym (at_more left h.0)) ∙ e)) (element_takes need at k sc d h.1) small)
   lacks_ends other t h e small = absurd h
 
-  lacks_goes : (s : State) (want : Next) → Lacks s → move S (longer (suc j) s) ≡ want → IsWanted want → ⊥
+  lacks_goes : (s : State) (want : Next) → Lacks S s → move S (longer (suc j) s) ≡ want → IsWanted want → ⊥
   lacks_goes (On (Eval n) k sc d left) want h e w = subst IsWanted (sym e) w
   lacks_goes (On (Turning (Counting next last answer) block) k sc d left) want h e w = subst IsWanted (sym e) w
+  lacks_goes (On (Turning (EachPair (p ∷ ps) answer) block) k sc d left) want h e w = subst IsWanted (sym e) w
+  lacks_goes (On (Give v) (Then (WithElement array next walk block at) ∷ k) sc d left) want h e w = subst IsWanted (sym e) w
+  lacks_goes (On (Drafting draft at) k sc d left) want h e w = subst IsWanted (sym e) w
   lacks_goes other want h e w = absurd h
 
   -- a want is the same with fewer steps
@@ -138,7 +157,7 @@ module _ (S : Script) (n j : ℕ) where
   runs_shorter : {b : List ℕ} {h : Private} {s : State} → Runs S (n + suc j) b h s → suc j ≤ left_in s → Shorter b h s
   runs_shorter begins small = inl (opening S n, refl, begins)
   runs_shorter (goes b h s t run e) small =
-      goes_shorter b h s t e small (runs_shorter run (omega (arith, small, not_fewer (begins_step s) (left_in s) (left_in t) (counted_move S s t e))))
+      goes_shorter b h s t e small (runs_shorter run (omega (arith, small, not_fewer (begins_step S s) (left_in s) (left_in t) (counted_move S s t e))))
   runs_shorter (makes b h s thing run e) small =
       makes_shorter b h s thing e (runs_shorter run (omega (arith, small, replies_are_free s (reply.Value (To (next_thing h thing))))))
   runs_shorter (acts b h s r act thing run e f) small = acts_shorter b h s r act thing e f (runs_shorter run (omega (arith, small, replies_are_free s (gives thing act))))

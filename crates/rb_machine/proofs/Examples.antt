@@ -11,7 +11,7 @@ use Rattle.rb_model.specs.Values.{Value, Nil, False, True, Int, Str, To}
 use Rattle.rb_model.specs.Things.{Elements}
 use Rattle.rb_machine.specs.Scopes.{Script, Scope}
 use Rattle.rb_machine.specs.Control.{On, Cont, Then, Test, Again, Give, Following, Showing, Instead, Create, Break, Counting}
-use Rattle.rb_machine.specs.Texts.{escaped, line_of, shown, inspected, p_text}
+use Rattle.rb_machine.specs.Texts.{escaped, line_of, shown, inspected}
 use Rattle.rb_machine.specs.Methods.{Gives, Raises, Loops, deed, quotient, modulo}
 use Rattle.rb_machine.specs.Call.{print}
 use Rattle.rb_machine.specs.Give.{give, leave}
@@ -60,8 +60,8 @@ lines = (refl, refl, refl)
 things : (P : Program) (id : Id) → (shown P (To (record { sort = sort.Thread; id = id })) ≡ codes "#<Thread>") × (inspected P (To (record { sort = sort.Mutex; id = id })) ≡ codes "#<Mutex>")
 things P id = (refl, refl)
 
-inspections : (P : Program) → p_text P (Str (codes "a\"b") ∷ Nil ∷ False ∷ []) ≡ codes "\"a\\\"b\"\nnil\nfalse\n"
-inspections P = refl
+inspections : (P : Program) → (inspected P (Str (codes "a\"b")) ≡ codes "\"a\\\"b\"") × (inspected P Nil ≡ codes "nil") × (inspected P False ≡ codes "false")
+inspections P = (refl, refl, refl)
 
 -- `length` counts characters, and not bytes
 lengths : (P : Program) → deed P (Str (195 ∷ 164 ∷ 98 ∷ [])) (codes "length") [] None ≡ Gives (Int (pos 2))
@@ -78,11 +78,11 @@ module _ (S : Script) (at : Span) (k : List Cont) (sc : Scope) (d left : ℕ) wh
       × Quiet S (print S (codes "print") (Nil ∷ Str [] ∷ []) at k sc d left) (On (Give Nil) (Then (Instead Nil) ∷ k) sc d left)
   prints = (moves _ _ _ refl (moves _ _ _ refl (stays _)), moves _ _ _ refl (moves _ _ _ refl (stays _)))
 
-  -- `p` answers its value, and two values as an array
+  -- `p` writes the inspected form of each value and a line feed; it answers nil, its value, or its values as an array
   answers : (print S (codes "p") [] at k sc d left ≡ On (Give Nil) (Then (Instead Nil) ∷ k) sc d left)
-      × (print S (codes "p") (True ∷ []) at k sc d left ≡ On (Showing (codes "true\n")) (Then (Instead True) ∷ k) sc d left)
-      × (print S (codes "p") (True ∷ Nil ∷ []) at k sc d left ≡ On (Showing (codes "true\nnil\n")) (Then (Create (Elements (True ∷ Nil ∷ []))) ∷ k) sc d left)
-  answers = (refl, refl, refl)
+      × Quiet S (print S (codes "p") (Str (codes "a\n") ∷ []) at k sc d left) (On (Showing (codes "\"a\\n\"\n")) (Then (Instead (Str (codes "a\n"))) ∷ k) sc d left)
+      × Quiet S (print S (codes "p") (True ∷ Nil ∷ []) at k sc d left) (On (Showing (codes "true\nnil\n")) (Then (Create (Elements (True ∷ Nil ∷ []))) ∷ k) sc d left)
+  answers = (refl, moves _ _ _ refl (stays _), moves _ _ _ refl (moves _ _ _ refl (stays _)))
 
   -- `break` in a condition ends the loop, as it does in the body
   breaks : (condition : Node) (body : List Node) → (leave Break (Test condition body) k sc d left ≡ On (Give Nil) k sc d left)

@@ -1,6 +1,7 @@
 -- The names in scope follow the text of the script; and an end for want of steps has none left.
 use Rattle.std.proofs.Common.{◌≡◌, ℕ, zero, suc, ◌+◌, Bool, true, false, cond, List, [], ◌∷◌, ◌++◌, take, Option, Some, None, length, refl, sym, ap, ◌∙◌, subst}
-use Rattle.std.specs.Prelude.{nat_lt, nat_eq, int_lt, codes, ◌==◌}
+use Rattle.std.specs.Prelude.{pos, negsuc, nat_lt, nat_le, nat_eq, int_lt, codes, ◌==◌}
+use Rattle.std.specs.List.{list_any}
 use Rattle.std.specs.Option.{is_some}
 use Rattle.std.specs.Str.{bytes_eq}
 use Rattle.std.proofs.lemmas.List.{map-append, take-map, length-map}
@@ -20,18 +21,22 @@ use Rattle.rb_tree.specs.Layer.{NodeLayer}
 use Rattle.rb_tree.specs.Place.{place}
 use Rattle.rb_model.specs.declared.fault.Fault.{Fault}
 use Rattle.rb_model.specs.declared.fault.Fault.TheVariants.{TooDeep}
-use Rattle.rb_model.specs.Values.{Value, Nil, False, True, Int, Sym, Str, To, truthy}
+use Rattle.rb_model.specs.Values.{Value, Nil, False, True, Int, Sym, Str, To, Reference, truthy}
+use Rattle.rb_model.specs.Things.{max_elements}
 use Rattle.rb_model.specs.Acts.{Act, GetField, SetField}
 use Rattle.rb_model.specs.Ends.{Steps}
 use Rattle.rb_machine.specs.Scopes.{Script, Text, Scope, Locals, text_of, found, assign, fresh, with_locals}
-use Rattle.rb_machine.specs.Control.{State, On, Cont, Then, Under, Test, Again, Turn, Frame, Step, AssignTo, FieldTo, GlobalTo, Rest, Choose, RightOfAnd, RightOfOr, Negate, ReturnOf, ReceiverOf, ReceiverToStore, Argument, Instead, Create, Initialize, PieceOf, JoinTo, WriteBehind, TextOf, IndexedBy, MemberOf, IndexOf, ReadOf, RightOf, WriteTo}
-use Rattle.rb_machine.specs.Control.{Ended, Exit, Break, Next, Return, Aim, OnReceiver, ByName, Storing, Creating, Place, OfLocal, OfField, OfGlobal, OfElement, OfAttribute, Turns, Counting, Style, Lines, Plain}
-use Rattle.rb_machine.specs.Methods.{Answer, Gives, Raises, Loops, deed}
-use Rattle.rb_machine.specs.Texts.{max_bytes, styled, p_text}
-use Rattle.rb_machine.specs.Call.{raised, ask_of, named, texted, methods_of, params_of, invoked, top_level, own, last_value, enter, answered, invoke, operator, show, value_of_p, text_by, own_text, give_text, bytes_of, write, write_behind, put_lines, print, perform, read_place, decide, write_place, create, class_from, initialized}
+use Rattle.rb_machine.specs.Control.{State, On, Cont, Then, Under, Test, Again, Turn, Frame, Step, AssignTo, FieldTo, GlobalTo, Rest, Choose, RightOfAnd, RightOfOr, Negate, ReturnOf, ReceiverOf, ReceiverToStore, Argument, Instead, Create, Initialize, PieceOf, JoinTo, WriteBehind, LinesBehind, LineOf, TextOf, IsZero, ElementBelow, WithElement, IndexedBy, MemberOf, IndexOf, ReadOf, RightOf, WriteTo}
+use Rattle.rb_machine.specs.Control.{Ended, Exit, Break, Next, Return, Aim, OnReceiver, ByName, Storing, Creating, Listing, Pairing, Place, OfLocal, OfField, OfGlobal, OfElement, OfAttribute, Walk, Each, WithIndex, Map, Select, Turns, Counting, Walking, EachPair, Style, Lines, Plain, Inspecting, Draft, max_depth}
+use Rattle.rb_machine.specs.Methods.{Answer, Gives, Raises, Loops, LoopsOver, Asks, Reads, EachPairOf, Inspects, deed}
+use Rattle.rb_machine.specs.Texts.{max_bytes, styled}
+use Rattle.rb_machine.specs.Drafts.{Needs, Goes, Finished, Element, Copies, with_line, opened, is_collection, is_array}
+use Rattle.rb_machine.specs.Drafts as draft
+use Rattle.rb_machine.specs.Call.{raised, ask_of, going, start_element, drafted, named, texted, methods_of, params_of, invoked, top_level, own, last_value, enter, answered, invoke, operator, show, value_of, text_by, own_text, give_text, give_inspected, give_line, give_styled, bytes_of, write, write_behind, write_lines, put_lines, print, perform, read_place, decide, write_place, fill, new_array, new_hash, create_builtin, create, class_from, initialized, pair_up, pairs_of}
 use Rattle.rb_machine.specs.Begin.{begin, begin_call, begin_target, begin_return}
+use Rattle.rb_machine.specs.Turns.{is_below, next_element, finish, start_turn, turn, holding, given}
 use Rattle.rb_machine.specs.Give.{back, join, give_step, give, leave}
-use Rattle.rb_machine.specs.Move.{start_node, start_turn, turn, join_piece, max_depth, first_of_turn}
+use Rattle.rb_machine.specs.Move.{start_node, join_piece}
 use Rattle.rb_machine.specs.Laws.{names_in, AreInScope}
 
 -- ---- names
@@ -81,6 +86,39 @@ module _ (S : Script) where
   ask_of_sound (Sym name) act at k sc d left h = raised_sound _ at left
   ask_of_sound (Str bytes) act at k sc d left h = raised_sound _ at left
 
+  pub going_sound : (o : Option Draft) (at : Span) (k : List Cont) (sc : Scope) (d left : ℕ) → Inside k sc → Sound (going o at k sc d left)
+  going_sound (Some t) at k sc d left h = h
+  going_sound None at k sc d left h = raised_sound _ at left
+
+  element_sound : (t : Draft) (at : Span) (k : List Cont) (sc : Scope) (d left : ℕ) → Inside k sc → Sound (start_element t at k sc d left)
+  element_sound t at k sc d zero h = λ e. refl
+  element_sound t at k sc d (suc left) h = h
+
+  finish_sound : (array : Reference) (walk : Walk) (k : List Cont) (sc : Scope) (d left : ℕ) → Inside k sc → Sound (finish array walk k sc d left)
+  finish_sound array Each k sc d left h = h
+  finish_sound array WithIndex k sc d left h = h
+  finish_sound array (Map values) k sc d left h = h
+  finish_sound array (Select kept current) k sc d left h = h
+
+  next_element_sound : (v : Value) (array : Reference) (next : ℕ) (walk : Walk) (block : Block) (at : Span) (k : List Cont) (sc : Scope) (d left : ℕ) → Inside k sc → Sound (next_element v array next walk block at k sc d left)
+  next_element_sound v array next walk block at k sc d left h = either_sound (is_below next v) _ _ h (finish_sound array walk k sc d left h)
+
+  turn_started : (later : Turns) (values : List Value) (block : Block) (k : List Cont) (sc : Scope) (d left : ℕ) → Inside k sc → Sound (start_turn S later values block k sc d left)
+  turn_started later values block k sc d zero h = λ e. refl
+  turn_started later values block k sc d (suc left) h =
+      let own_locals = fresh (S.block_names block.at) (take (length block.params) values) in (
+        names_in sc.locals,
+        map-append (λ (b : NameId × Value). b.0) sc.locals own_locals ∙ ap (λ l. names_in sc.locals ++ l) (names_in-fresh (S.block_names block.at) _),
+        sym (length-map sc.locals (λ (b : NameId × Value). b.0)),
+        h,
+      )
+
+  pub turn_sound : (turns : Turns) (block : Block) (k : List Cont) (sc : Scope) (d left : ℕ) → Inside k sc → Sound (turn S turns block k sc d left)
+  turn_sound (Counting next last answer) block k sc d left h = either_sound (int_lt next last) _ _ (turn_started _ _ block k sc d left h) h
+  turn_sound (Walking array next walk at) block k sc d left h = h
+  turn_sound (EachPair [] answer) block k sc d left h = h
+  turn_sound (EachPair (p ∷ ps) answer) block k sc d left h = turn_started _ _ block k sc d left h
+
   enter_sound : (m : Method) (me : Value) (args : List Value) (at : Span) (k : List Cont) (sc : Scope) (d left : ℕ) → Inside k sc → Sound (enter S m me args at k sc d left)
   enter_sound m me args at k sc d left h = either_sound (nat_eq (length args) (length m.params)) _ _ (m, names_in-fresh (S.method_names m) args, h) (raised_sound _ at left)
 
@@ -89,6 +127,14 @@ module _ (S : Script) where
   answered_sound (Raises fault) block at k sc d left h = raised_sound fault at left
   answered_sound (Loops turns) (Some block) at k sc d left h = h
   answered_sound (Loops turns) None at k sc d left h = raised_sound _ at left
+  answered_sound (LoopsOver array walk) (Some block) at k sc d left h = h
+  answered_sound (LoopsOver array walk) None at k sc d left h = raised_sound _ at left
+  answered_sound (Asks thing act None) block at k sc d left h = h
+  answered_sound (Asks thing act (Some step)) block at k sc d left h = h
+  answered_sound (Reads thing purpose) block at k sc d left h = h
+  answered_sound (EachPairOf hash) (Some block) at k sc d left h = h
+  answered_sound (EachPairOf hash) None at k sc d left h = raised_sound _ at left
+  answered_sound (Inspects collection) block at k sc d left h = h
 
   invoked_sound : (m : Option Method) (v : Value) (name : Text) (args : List Value) (block : Option Block) (at : Span) (k : List Cont) (sc : Scope) (d left : ℕ) → Inside k sc → Sound (invoked S m v name args block at k sc d left)
   invoked_sound (Some m) v name args None at k sc d left h = enter_sound m v args at k sc d left h
@@ -104,18 +150,39 @@ module _ (S : Script) where
 
   text_by_sound : (m : Option Method) (v : Value) (at : Span) (k : List Cont) (sc : Scope) (d left : ℕ) → Inside k sc → Sound (text_by S m v at k sc d left)
   text_by_sound (Some m) v at k sc d left h = enter_sound m v [] at (Then (TextOf v) ∷ k) sc d left h
-  text_by_sound None v at k sc d left h = h
+  text_by_sound None v at k sc d left h = either_sound (is_collection v) _ _ h h
 
   give_text_sound : (v : Value) (at : Span) (k : List Cont) (sc : Scope) (d left : ℕ) → Inside k sc → Sound (give_text S v at k sc d left)
   give_text_sound v at k sc d left h = text_by_sound (own_text S v) v at k sc d left h
 
+  inspected_sound : (v : Value) (at : Span) (k : List Cont) (sc : Scope) (d left : ℕ) → Inside k sc → Sound (give_inspected S v at k sc d left)
+  inspected_sound v at k sc d left h = either_sound (is_collection v) _ _ h h
+
+  pub drafted_sound : (need : Needs) (at : Span) (k : List Cont) (sc : Scope) (d left : ℕ) → Inside k sc → Sound (drafted S need at k sc d left)
+  drafted_sound (Goes t) at k sc d left h = going_sound t at k sc d left h
+  drafted_sound (Finished text) at k sc d left h = h
+  drafted_sound (Element t) at k sc d left h = element_sound t at k sc d left h
+  drafted_sound (Copies thing t) at k sc d left h = either_sound (nat_lt (d + length t.begun) max_depth) _ _ h (raised_sound _ at left)
+  drafted_sound (draft.Asks v t) at k sc d left h = give_text_sound v at (Under d ∷ Then (LineOf t at) ∷ k) sc (d + length t.begun) left h
+
+  line_sound : (v : Value) (bytes : List ℕ) (vs : List Value) (at : Span) (k : List Cont) (sc : Scope) (d left : ℕ) → Inside k sc → Sound (give_line S v bytes vs at k sc d left)
+  line_sound v bytes vs at k sc d left h = either_sound (is_array v) _ _ h (give_text_sound v at (Then (WriteBehind Lines bytes vs at) ∷ k) sc d left h)
+
+  styled_sound : (style : Style) (v : Value) (bytes : List ℕ) (vs : List Value) (at : Span) (k : List Cont) (sc : Scope) (d left : ℕ) → Inside k sc → Sound (give_styled S style v bytes vs at k sc d left)
+  styled_sound Lines v bytes vs at k sc d left h = line_sound v bytes vs at k sc d left h
+  styled_sound Plain v bytes vs at k sc d left h = give_text_sound v at (Then (WriteBehind Plain bytes vs at) ∷ k) sc d left h
+  styled_sound (Inspecting args) v bytes vs at k sc d left h = inspected_sound v at (Then (WriteBehind (Inspecting args) bytes vs at) ∷ k) sc d left h
+
   written_sound : (style : Style) (bytes : List ℕ) (vs : List Value) (at : Span) (k : List Cont) (sc : Scope) (d left : ℕ) → Inside k sc → Sound (write S style bytes vs at k sc d left)
-  written_sound style bytes [] at k sc d left h = show_sound bytes (Instead Nil) at k sc d left h
-  written_sound style bytes (v ∷ vs) at k sc d left h = give_text_sound v at (Then (WriteBehind style bytes vs at) ∷ k) sc d left h
+  written_sound style bytes [] at k sc d left h = show_sound bytes (value_of S style) at k sc d left h
+  written_sound style bytes (v ∷ vs) at k sc d left h = styled_sound style v bytes vs at k sc d left h
 
   behind_sound : (style : Style) (bytes : List ℕ) (text : Text) (vs : List Value) (at : Span) (k : List Cont) (sc : Scope) (d left : ℕ) → Inside k sc → Sound (write_behind S style bytes text vs at k sc d left)
   behind_sound style bytes text vs at k sc d left h =
       either_sound (nat_lt max_bytes (length (bytes ++ styled style text))) _ _ (raised_sound _ at left) (written_sound style (bytes ++ styled style text) vs at k sc d left h)
+
+  array_lines_sound : (bytes : List ℕ) (text : Text) (vs : List Value) (at : Span) (k : List Cont) (sc : Scope) (d left : ℕ) → Inside k sc → Sound (write_lines S bytes text vs at k sc d left)
+  array_lines_sound bytes text vs at k sc d left h = either_sound (nat_lt max_bytes (length (bytes ++ text))) _ _ (raised_sound _ at left) (written_sound Lines (bytes ++ text) vs at k sc d left h)
 
   lines_sound : (args : List Value) (at : Span) (k : List Cont) (sc : Scope) (d left : ℕ) → Inside k sc → Sound (put_lines S args at k sc d left)
   lines_sound [] at k sc d left h = show_sound (10 ∷ []) (Instead Nil) at k sc d left h
@@ -125,7 +192,7 @@ module _ (S : Script) where
   print_sound name args at k sc d left h =
       either_sound (bytes_eq name (codes "puts")) _ _ (lines_sound args at k sc d left h)
       (either_sound (bytes_eq name (codes "print")) _ _ (written_sound Plain [] args at k sc d left h)
-      (either_sound (bytes_eq name (codes "p")) _ _ (show_sound (p_text S.program args) (value_of_p S args) at k sc d left h) (raised_sound _ at left)))
+      (either_sound (bytes_eq name (codes "p")) _ _ (written_sound (Inspecting args) [] args at k sc d left h) (raised_sound _ at left)))
 
   top_level_sound : (m : Option Method) (name : NameId) (args : List Value) (at : Span) (k : List Cont) (sc : Scope) (d left : ℕ) → Inside k sc → Sound (top_level S m name args at k sc d left)
   top_level_sound (Some m) name args at k sc d left h = enter_sound m Nil args at k sc d left h
@@ -135,9 +202,32 @@ module _ (S : Script) where
   own_sound (Some m) name args at k sc d left h = enter_sound m sc.me args at k sc d left h
   own_sound None name args at k sc d left h = top_level_sound (named S name S.program.functions) name args at k sc d left h
 
-  create_sound : (class : Option ℕ) (args : List Value) (at : Span) (k : List Cont) (sc : Scope) (d left : ℕ) → Inside k sc → Sound (create S class args at k sc d left)
-  create_sound (Some class) args at k sc d left h = h
-  create_sound None args at k sc d left h = raised_sound _ at left
+  fill_sound : (count v : Value) (at : Span) (k : List Cont) (sc : Scope) (d left : ℕ) → Inside k sc → Sound (fill S count v at k sc d left)
+  fill_sound (Int (pos n)) v at k sc d left h = either_sound (nat_le n max_elements) _ _ h (raised_sound _ at left)
+  fill_sound (Int (negsuc n)) v at k sc d left h = raised_sound _ at left
+  fill_sound count v at k sc d left h = raised_sound _ at left
+
+  array_sound : (args : List Value) (at : Span) (k : List Cont) (sc : Scope) (d left : ℕ) → Inside k sc → Sound (new_array S args at k sc d left)
+  array_sound [] at k sc d left h = h
+  array_sound (count ∷ []) at k sc d left h = fill_sound count Nil at k sc d left h
+  array_sound (count ∷ v ∷ []) at k sc d left h = fill_sound count v at k sc d left h
+  array_sound (count ∷ v ∷ w ∷ vs) at k sc d left h = raised_sound _ at left
+
+  hash_sound : (args : List Value) (at : Span) (k : List Cont) (sc : Scope) (d left : ℕ) → Inside k sc → Sound (new_hash S args at k sc d left)
+  hash_sound [] at k sc d left h = h
+  hash_sound (v ∷ vs) at k sc d left h = raised_sound _ at left
+
+  builtin_sound : (name : Text) (args : List Value) (at : Span) (k : List Cont) (sc : Scope) (d left : ℕ) → Inside k sc → Sound (create_builtin S name args at k sc d left)
+  builtin_sound name args at k sc d left h =
+      either_sound (bytes_eq name (codes "Array")) _ _ (array_sound args at k sc d left h)
+      (either_sound (bytes_eq name (codes "Hash")) _ _ (hash_sound args at k sc d left h) (raised_sound _ at left))
+
+  create_sound : (class : Option ℕ) (name : NameId) (args : List Value) (at : Span) (k : List Cont) (sc : Scope) (d left : ℕ) → Inside k sc → Sound (create S class name args at k sc d left)
+  create_sound (Some class) name args at k sc d left h = h
+  create_sound None name args at k sc d left h = builtin_sound (text_of S name) args at k sc d left h
+
+  pair_sound : (ps : List (Value × Value)) (at : Span) (k : List Cont) (sc : Scope) (d left : ℕ) → Inside k sc → Sound (pair_up S ps at k sc d left)
+  pair_sound ps at k sc d left h = either_sound (list_any (λ (p : Value × Value). is_collection p.0) ps) _ _ (raised_sound _ at left) h
 
   initialized_sound : (m : Option Method) (object : Value) (args : List Value) (at : Span) (k : List Cont) (sc : Scope) (d left : ℕ) → Inside k sc → Sound (initialized S m object args at k sc d left)
   initialized_sound (Some m) object args at k sc d left h = enter_sound m object args at (Then (Instead object) ∷ k) sc d left h
@@ -148,7 +238,9 @@ module _ (S : Script) where
   perform_sound (OnReceiver v name block) args at k sc d left h = invoke_sound v name args block at k sc d left h
   perform_sound (ByName name) args at k sc d left h = own_sound (texted S (text_of S name) (methods_of S sc.me)) name args at k sc d left h
   perform_sound (Storing v name) args at k sc d left h = invoke_sound v name args None at (Then (Instead (last_value S args)) ∷ k) sc d left h
-  perform_sound (Creating class) args at k sc d left h = create_sound (class_from S 0 class S.program.classes) args at k sc d left h
+  perform_sound (Creating class) args at k sc d left h = create_sound (class_from S 0 class S.program.classes) class args at k sc d left h
+  perform_sound Listing args at k sc d left h = h
+  perform_sound Pairing args at k sc d left h = pair_sound (pairs_of S args) at k sc d left h
 
   read_sound : (place : Place) (o : AssignOp) (value : Node) (at : Span) (k : List Cont) (sc : Scope) (d left : ℕ) → Inside k sc → Sound (read_place S place o value at k sc d left)
   read_sound (OfLocal name) o value at k sc d left h = h
@@ -202,6 +294,11 @@ module _ (S : Script) where
   give_step_sound v (PieceOf bytes pieces at) k sc d left h = give_text_sound v at (Then (JoinTo bytes pieces at) ∷ k) sc d left h
   give_step_sound v (JoinTo bytes pieces at) k sc d left h = join_sound bytes (bytes_of S v) pieces at k sc d left h
   give_step_sound v (WriteBehind style bytes values at) k sc d left h = behind_sound style bytes (bytes_of S v) values at k sc d left h
+  give_step_sound v (LinesBehind bytes values at) k sc d left h = array_lines_sound bytes (bytes_of S v) values at k sc d left h
+  give_step_sound v (LineOf t at) k sc d left h = going_sound (with_line t (bytes_of S v)) at k sc d left h
+  give_step_sound v IsZero k sc d left h = h
+  give_step_sound v (ElementBelow array next walk block at) k sc d left h = next_element_sound v array next walk block at k sc d left h
+  give_step_sound v (WithElement array next walk block at) k sc d left h = turn_started (Walking array (suc next) (holding v walk) at) (given v next walk) block k sc d left h
   give_step_sound v (TextOf object) k sc d left h = h
   give_step_sound v (IndexedBy index o value at) k sc d left h = h
   give_step_sound v (MemberOf name o value at) k sc d left h = read_sound (OfAttribute v name) o value at k sc d left h
@@ -258,8 +355,6 @@ module _ (S : Script) where
   begin_sound (node.OpAssign target o value at) k sc d left h = begin_target_sound (out-Target target) o value at k sc d left h
   begin_sound (node.Call receiver name args block at) k sc d left h = begin_call_sound receiver name args block at k sc d left h
   begin_sound (node.Return value at) k sc d left h = begin_return_sound value k sc d left h
-  begin_sound (node.Array items at) k sc d left h = raised_sound _ at left
-  begin_sound (node.Hash pairs at) k sc d left h = raised_sound _ at left
   begin_sound (node.ThreadNew args body at) k sc d left h = raised_sound _ at left
   begin_sound other k sc d left h = h
 
@@ -267,16 +362,3 @@ module _ (S : Script) where
   node_sound n k sc d zero h = λ e. refl
   node_sound n k sc d (suc left) h =
       either_sound (nat_lt d max_depth) _ _ (begin_sound (out-Node n) (Under d ∷ k) sc (d + 1) left h) (raised_sound TooDeep (place (out-Node n)) (suc left))
-
-  turn_started : (turns : Turns) (block : Block) (k : List Cont) (sc : Scope) (d left : ℕ) → Inside k sc → Sound (start_turn S turns block k sc d left)
-  turn_started turns block k sc d zero h = λ e. refl
-  turn_started turns block k sc d (suc left) h =
-      let own_locals = fresh (S.block_names block.at) (take (length block.params) (first_of_turn turns)) in (
-        names_in sc.locals,
-        map-append (λ (b : NameId × Value). b.0) sc.locals own_locals ∙ ap (λ l. names_in sc.locals ++ l) (names_in-fresh (S.block_names block.at) _),
-        sym (length-map sc.locals (λ (b : NameId × Value). b.0)),
-        h,
-      )
-
-  pub turn_sound : (turns : Turns) (block : Block) (k : List Cont) (sc : Scope) (d left : ℕ) → Inside k sc → Sound (turn S turns block k sc d left)
-  turn_sound (Counting next last answer) block k sc d left h = either_sound (int_lt next last) _ _ (turn_started (Counting next last answer) block k sc d left h) h

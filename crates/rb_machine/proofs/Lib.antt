@@ -1,3 +1,5 @@
+pub mod Weights
+pub mod Light
 pub mod Measure
 pub mod Down
 pub mod Counts
@@ -19,3 +21,5 @@ pub mod Examples
 pub mod Making
 pub mod Telling
 pub mod Printing
+pub mod Collections
+pub mod CollectionExamples

@@ -1,6 +1,6 @@
 -- The locals of blocks and of what is round them.
 use Rattle.std.proofs.Common.{◌≡◌, ◌<◌, ◌≤◌, ◌⊎◌, inl, inr, ℕ, zero, suc, Bool, true, false, cond, List, [], ◌∷◌, ◌++◌, take, length, Option, Some, None, refl, sym, ap, ◌∙◌, arith}
-use Rattle.std.specs.Prelude.{◌==◌, slice_get}
+use Rattle.std.specs.Prelude.{◌==◌, slice_get, pos, ◌+ℤ◌}
 use Rattle.std.specs.Option.{is_some}
 use Rattle.std.proofs.lemmas.Bool.{eq-eqb}
 use Rattle.std.proofs.lemmas.Bool.Decides.{nat_tests}
@@ -10,7 +10,8 @@ use Rattle.rb_tree.specs.declared.span.NameId.{NameId}
 use Rattle.rb_model.specs.Values.{Value, Nil, Int, or_nil}
 use Rattle.rb_machine.specs.Scopes.{Locals, or_else, found, look, assign, fresh}
 use Rattle.rb_machine.specs.Control.{On, Give, Counting}
-use Rattle.rb_machine.specs.Move.{Go, start_turn}
+use Rattle.rb_machine.specs.Turns.{start_turn}
+use Rattle.rb_machine.specs.Move.{Go}
 use Rattle.rb_machine.specs.Laws.{own_at, OwnLocalsAreNew, ParametersAreGiven, AssignsOutside, AssignsOwn, AssignsOne, OwnLocalsGo}
 
 -- ---- what is found
@@ -156,7 +157,7 @@ given param names (suc count) v some h =
 
 pub own_locals_are_new : OwnLocalsAreNew
 own_locals_are_new S next last answer block k sc d left e = (
-  ap (λ t. Go (cond t (start_turn S (Counting next last answer) block k sc d (suc left)) (On (Give answer) k sc d (suc left)))) e,
+  ap (λ t. Go (cond t (start_turn S (Counting (next +ℤ pos 1) last answer) (Int next ∷ []) block k sc d (suc left)) (On (Give answer) k sc d (suc left)))) e,
   λ i name h at. look_inner name Nil sc.locals (own_at S block (Int next ∷ []))
       (nil_behind name (S.block_names block.at) (take (length block.params) (Int next ∷ [])) i at (few (length block.params) i (Int next ∷ []) h)),
 )

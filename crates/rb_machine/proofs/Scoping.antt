@@ -5,7 +5,7 @@ use Rattle.std.proofs.lemmas.List.{drop-map, length-map, take-append-drop}
 use Rattle.std.proofs.Math.Seq.{drop-append_seam}
 use Rattle.rb_tree.specs.declared.span.Span.{Span}
 use Rattle.rb_tree.specs.declared.span.NameId.{NameId}
-use Rattle.rb_model.specs.Values.{Value}
+use Rattle.rb_model.specs.Values.{Value, Reference}
 use Rattle.rb_tree.specs.declared.node.Piece.{out-Piece}
 use Rattle.rb_model.specs.Acts.{Act, Reply, Done}
 use Rattle.rb_model.specs.Acts as reply
@@ -13,11 +13,12 @@ use Rattle.rb_model.specs.Ends.{Steps}
 use Rattle.rb_model.specs.Things.{Thing, Object, Elements, Pairs, Mutex, gives, put_reply, index_of, has_room, may_put, max_elements}
 use Rattle.rb_model.specs.Private.{Private}
 use Rattle.rb_machine.specs.Scopes.{Script, Scope, Locals}
-use Rattle.rb_machine.specs.Control.{State, On, Cont, Eval, Give, Leave, Following, Looping, Turning, Passing, Joining, Making, Calling, Showing, Ended}
-use Rattle.rb_machine.specs.Move.{Next, Go, Stop, move, replied, answered, left_in}
+use Rattle.rb_machine.specs.Control.{State, On, Cont, Use, Keys, Values, ForEach, ForText, Eval, Give, Leave, Following, Looping, Turning, Passing, Joining, Drafting, Making, Calling, Reading, Showing, Ended}
+use Rattle.rb_machine.specs.Drafts.{needs, opened}
+use Rattle.rb_machine.specs.Move.{Next, Go, Stop, move, replied, answered, used, left_in}
 use Rattle.rb_machine.specs.Alone.{Runs, begins, goes, makes, acts, shows}
 use Rattle.rb_machine.specs.Laws.{KeepsScopes, ScopesFollowTheText, IterationsLeaveTheRest, StepsAreUsedUp, AreInScope, names_in}
-use Rattle.rb_machine.proofs.Kept.{Sound, names_in-fresh, names_in-take, raised_sound, perform_sound, piece_sound, give_sound, leave_sound, node_sound, turn_sound}
+use Rattle.rb_machine.proofs.Kept.{Sound, names_in-fresh, names_in-take, raised_sound, perform_sound, piece_sound, give_sound, leave_sound, node_sound, turn_sound, going_sound, drafted_sound}
 
 -- no act ends a thread
 abbrev IsNoEnd : Reply → Type 0
@@ -60,8 +61,10 @@ module _ (S : Script) where
   moved (On (Passing aim done (n ∷ ns) at) k sc d left) h = h
   moved (On (Joining bytes [] at) k sc d left) h = h
   moved (On (Joining bytes (p ∷ ps) at) k sc d left) h = piece_sound S (out-Piece p) bytes ps at k sc d left h
+  moved (On (Drafting t at) k sc d left) h = drafted_sound S (needs S.program t) at k sc d left h
   moved (On (Making thing) k sc d left) h = tt
   moved (On (Calling thing act at) k sc d left) h = tt
+  moved (On (Reading thing purpose at) k sc d left) h = tt
   moved (On (Showing bytes) k sc d left) h = tt
   moved (On (Ended how) k sc d left) h = tt
 
@@ -73,10 +76,21 @@ module _ (S : Script) where
   answered_sound (reply.Ended how) at k sc d left plain h = absurd plain
   answered_sound (reply.Failed f) at k sc d left plain h = raised_sound S f at left
 
+  used_sound : (purpose : Use) (thing : Reference) (r : Reply) (at : Span) (k : List Cont) (sc : Scope) (d left : ℕ) → IsNoEnd r → AreInScope S k (names_in sc.locals)
+      → Sound S (used purpose thing r at k sc d left)
+  used_sound Keys thing (reply.Pairs ps) at k sc d left plain h = h
+  used_sound Values thing (reply.Pairs ps) at k sc d left plain h = h
+  used_sound (ForEach answer block) thing (reply.Pairs ps) at k sc d left plain h = h
+  used_sound (ForText t) thing (reply.Elements vs) at k sc d left plain h = going_sound S (opened t thing (reply.Elements vs)) at k sc d left h
+  used_sound (ForText t) thing (reply.Pairs ps) at k sc d left plain h = going_sound S (opened t thing (reply.Pairs ps)) at k sc d left h
+  used_sound purpose thing r at k sc d left plain h = answered_sound r at k sc d left plain h
+
   reply_sound : (s : State) (r : Reply) → IsNoEnd r → Sound S s → Sound S (replied s r)
   reply_sound (On (Making thing) k sc d left) r plain h = answered_sound r _ k sc d left plain h
   reply_sound (On (Calling thing act at) k sc d left) r plain h = answered_sound r at k sc d left plain h
+  reply_sound (On (Reading thing purpose at) k sc d left) r plain h = used_sound purpose thing r at k sc d left plain h
   reply_sound (On (Showing bytes) k sc d left) r plain h = h
+  reply_sound (On (Drafting t at) k sc d left) r plain h = h
   reply_sound (On (Ended how) k sc d left) r plain h = h
   reply_sound (On (Eval n) k sc d left) r plain h = h
   reply_sound (On (Give v) k sc d left) r plain h = h
@@ -98,7 +112,9 @@ module _ (S : Script) where
   in_scope (On (Ended how) k sc d left) h = tt
   in_scope (On (Making thing) k sc d left) h = h
   in_scope (On (Calling thing act at) k sc d left) h = h
+  in_scope (On (Reading thing purpose at) k sc d left) h = h
   in_scope (On (Showing bytes) k sc d left) h = h
+  in_scope (On (Drafting t at) k sc d left) h = h
   in_scope (On (Eval n) k sc d left) h = h
   in_scope (On (Give v) k sc d left) h = h
   in_scope (On (Leave e) k sc d left) h = h
@@ -131,7 +147,9 @@ module _ (S : Script) where
   used_up (On (Joining bytes (p ∷ ps) at) k sc d left) h = tt
   used_up (On (Making thing) k sc d left) h = tt
   used_up (On (Calling thing act at) k sc d left) h = tt
+  used_up (On (Reading thing purpose at) k sc d left) h = tt
   used_up (On (Showing bytes) k sc d left) h = tt
+  used_up (On (Drafting t at) k sc d left) h = tt
 
 pub scopes_follow_the_text : ScopesFollowTheText
 scopes_follow_the_text S N b h s run = in_scope S s (runs_sound S run)

@@ -7,13 +7,14 @@ use Rattle.rb_tree.specs.declared.node.Method.{Method}
 use Rattle.rb_model.specs.declared.value.Sort.TheVariants as sort
 use Rattle.rb_model.specs.Values.{Value, Nil, False, True, Int, Sym, Str, To, Reference}
 use Rattle.rb_machine.specs.Scopes.{Script}
-use Rattle.rb_machine.specs.Control.{On, Give}
+use Rattle.rb_machine.specs.Control.{On, Give, Drafting, Inspected}
+use Rattle.rb_machine.specs.Drafts.{is_collection_sort, draft_of}
 use Rattle.rb_machine.specs.Texts.{max_bytes, line_of, class_text, told, shown}
 use Rattle.rb_machine.specs.Call.{text_answered, without_parameters, text_by}
 use Rattle.rb_machine.specs.Laws.{TextsAreWanted, ToSIsAsked, StringsAreTexts, OthersAreTold, name_told, is_string}
 
 pub texts_are_wanted : TextsAreWanted
-texts_are_wanted S v vs bytes pieces at k sc d left = (refl, refl, refl)
+texts_are_wanted S v vs bytes pieces at k sc d left = (refl, λ no_array. rw no_array refl, refl)
 
 pub to_s_is_asked : ToSIsAsked
 to_s_is_asked S object m at k sc d left some none =
@@ -51,11 +52,19 @@ with_parameters S m some = let more : nat_eq (length m.params) 0 ≡ false = gri
 pub others_are_told : OthersAreTold
 others_are_told S object number class at k sc d left e f = (
   λ v no_string. ap (λ w. On (Give w) k sc d left) (not_answered S (To object) v no_string) ∙ ap (λ t. On (Give (Str t)) k sc d left) named,
-  λ none. ap (λ m. text_by S (without_parameters S m) (To object) at k sc d left) none ∙ ap (λ t. On (Give (Str t)) k sc d left) named,
+  λ none. ap (λ m. text_by S (without_parameters S m) (To object) at k sc d left) none ∙ told_at_once,
   λ m some params.
       ap (λ m. text_by S (without_parameters S m) (To object) at k sc d left) some
-      ∙ (ap (λ m. text_by S m (To object) at k sc d left) (with_parameters S m params) ∙ ap (λ t. On (Give (Str t)) k sc d left) named),
+      ∙ (ap (λ m. text_by S m (To object) at k sc d left) (with_parameters S m params) ∙ told_at_once),
 )
   where
     named : shown S.program (To object) ≡ name_told S class
     named = told_is S object number class e f
+
+    no_collection : is_collection_sort object.sort ≡ false
+    no_collection = ap is_collection_sort e
+
+    told_at_once : text_by S None (To object) at k sc d left ≡ On (Give (Str (name_told S class))) k sc d left
+    told_at_once =
+        ap (λ t. cond t (On (Drafting (draft_of Inspected (To object)) at) k sc d left) (On (Give (Str (shown S.program (To object)))) k sc d left)) no_collection
+        ∙ ap (λ t. On (Give (Str t)) k sc d left) named

@@ -1,16 +1,16 @@
 -- The same way behind anything that waits.
 use Rattle.std.proofs.Common.{◌≡◌, ◌⊎◌, inl, inr, ℕ, List, [], ◌∷◌, ◌++◌, refl, sym, ap, subst}
-use Rattle.std.specs.Prelude.{nat_lt, int_lt, zero, suc, ◌+◌}
+use Rattle.std.specs.Prelude.{nat_lt, zero, suc, ◌+◌}
 use Rattle.rb_tree.specs.declared.node.Node.{Node, out-Node}
-use Rattle.rb_tree.specs.declared.node.Block.{Block}
 use Rattle.rb_tree.specs.declared.node.Piece.{out-Piece}
 use Rattle.rb_model.specs.Values.{Nil}
 use Rattle.rb_model.specs.Ends as ending
 use Rattle.rb_machine.specs.Scopes.{Script, Scope}
-use Rattle.rb_machine.specs.Control.{Control, State, On, Cont, Under, Turns, Counting, Eval, Give, Leave, Following, Looping, Turning, Passing, Joining, Making, Calling, Showing, Ended}
-use Rattle.rb_machine.specs.Move.{Next, Go, Make, Ask, Show, Stop, move, turn, start_node, start_turn, max_depth}
+use Rattle.rb_machine.specs.Control.{Control, State, On, Cont, Under, Eval, Give, Leave, Following, Looping, Turning, Passing, Joining, Drafting, Making, Calling, Reading, Showing, Ended, max_depth}
+use Rattle.rb_machine.specs.Drafts.{needs}
+use Rattle.rb_machine.specs.Move.{Next, Go, Make, Ask, Show, Stop, move, start_node}
 use Rattle.rb_machine.specs.Laws.{Way, arrives, goes, gets, IsAsked, IsAlive, ContextChangesNothing}
-use Rattle.rb_machine.proofs.Context.{onto, either, begin_local, give_local, leave_local, perform_local, piece_local, replied_local}
+use Rattle.rb_machine.proofs.Context.{onto, either, begin_local, give_local, leave_local, perform_local, piece_local, turn_local, drafted_local, replied_local}
 
 abbrev next_onto : List Cont → Next → Next
 next_onto r (Go s) = Go (onto r s)
@@ -30,13 +30,6 @@ module _ (S : Script) (r : List Cont) where
   node_keeps n k sc d zero = refl
   node_keeps n k sc d (suc left) = either (nat_lt d max_depth) r _ _ _ _ (begin_local S (out-Node n) r (Under d ∷ k) sc (d + 1) left) refl
 
-  turn_started : (turns : Turns) (block : Block) (k : List Cont) (sc : Scope) (d left : ℕ) → start_turn S turns block (k ++ r) sc d left ≡ onto r (start_turn S turns block k sc d left)
-  turn_started turns block k sc d zero = refl
-  turn_started turns block k sc d (suc left) = refl
-
-  turn_keeps : (turns : Turns) (block : Block) (k : List Cont) (sc : Scope) (d left : ℕ) → turn S turns block (k ++ r) sc d left ≡ onto r (turn S turns block k sc d left)
-  turn_keeps (Counting next last answer) block k sc d left = either (int_lt next last) r _ _ _ _ (turn_started (Counting next last answer) block k sc d left) refl
-
   keeps : (s : State) → Keeps s (move S s)
   keeps (On (Eval n) k sc d left) = inl (ap Go (node_keeps n k sc d left))
   keeps (On (Give v) [] sc d left) = inr tt
@@ -46,13 +39,15 @@ module _ (S : Script) (r : List Cont) where
   keeps (On (Following v []) k sc d left) = inl refl
   keeps (On (Following v (n ∷ ns)) k sc d left) = inl refl
   keeps (On (Looping condition body) k sc d left) = inl refl
-  keeps (On (Turning turns block) k sc d left) = inl (ap Go (turn_keeps turns block k sc d left))
+  keeps (On (Turning turns block) k sc d left) = inl (ap Go (turn_local S turns block r k sc d left))
   keeps (On (Passing aim done [] at) k sc d left) = inl (ap Go (perform_local S aim done at r k sc d left))
   keeps (On (Passing aim done (n ∷ ns) at) k sc d left) = inl refl
   keeps (On (Joining bytes [] at) k sc d left) = inl refl
   keeps (On (Joining bytes (p ∷ ps) at) k sc d left) = inl (ap Go (piece_local S (out-Piece p) bytes ps at r k sc d left))
+  keeps (On (Drafting t at) k sc d left) = inl (ap Go (drafted_local S (needs S.program t) at r k sc d left))
   keeps (On (Making thing) k sc d left) = inl refl
   keeps (On (Calling thing act at) k sc d left) = inl refl
+  keeps (On (Reading thing purpose at) k sc d left) = inl refl
   keeps (On (Showing bytes) k sc d left) = inl refl
   keeps (On (Ended how) k sc d left) = inl refl
 

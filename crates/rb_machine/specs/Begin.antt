@@ -13,8 +13,13 @@ use Rattle.rb_tree.specs.Layer.{NodeLayer}
 use Rattle.rb_model.specs.Values.{Nil, False, True, Int, Sym}
 use Rattle.rb_model.specs.Acts.{GetField}
 use Rattle.rb_machine.specs.Scopes.{Script, Scope, text_of, look}
-use Rattle.rb_machine.specs.Control.{State, On, Cont, Then, Eval, Give, Leave, Looping, Passing, Joining, Break, Next, Return, AssignTo, FieldTo, GlobalTo, Choose, RightOfAnd, RightOfOr, Negate, ReturnOf, ReceiverOf, ReceiverToStore, IndexedBy, MemberOf, ByName, Creating, OfLocal, OfField, OfGlobal}
+use Rattle.rb_machine.specs.Control.{State, On, Cont, Then, Eval, Give, Leave, Looping, Passing, Joining, Break, Next, Return, AssignTo, FieldTo, GlobalTo, Choose, RightOfAnd, RightOfOr, Negate, ReturnOf, ReceiverOf, ReceiverToStore, IndexedBy, MemberOf, ByName, Creating, Listing, Pairing, OfLocal, OfField, OfGlobal}
 use Rattle.rb_machine.specs.Call.{ask, unbuilt, globals, own_field, read_place}
+
+-- the keys and the values of a literal, in the order of the text
+abbrev pub parts : List (Node × Node) → List Node
+parts [] = []
+parts (p ∷ ps) = p.0 ∷ p.1 ∷ parts ps
 
 module _ (S : Script) where
   -- the receiver first, then the arguments; a call without receiver has arguments alone
@@ -43,8 +48,8 @@ module _ (S : Script) where
   begin (node.Int n at) k sc d left = On (Give (Int n)) k sc d left
   begin (node.Sym name at) k sc d left = On (Give (Sym name)) k sc d left
   begin (node.Str pieces at) k sc d left = On (Joining [] pieces at) k sc d left
-  begin (node.Array items at) k sc d left = unbuilt at left
-  begin (node.Hash pairs at) k sc d left = unbuilt at left
+  begin (node.Array items at) k sc d left = On (Passing Listing [] items at) k sc d left
+  begin (node.Hash pairs at) k sc d left = On (Passing Pairing [] (parts pairs) at) k sc d left
   begin (node.«Node::Local» name at) k sc d left = On (Give (look name sc.locals)) k sc d left
   begin (node.«Node::Field» name at) k sc d left = own_field (GetField name) at k sc d left
   begin (node.«Node::Global» name at) k sc d left = ask globals (GetField name) at k sc d left

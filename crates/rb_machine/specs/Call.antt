@@ -1,5 +1,6 @@
 -- Calls: which method is found, how its body begins, what a built-in one does, and what `puts`, `print` and `p` show.
-use Rattle.std.specs.Prelude.{ℕ, suc, nat_eq, nat_lt, ◌==◌, if◌then◌else◌, List, [], ◌∷◌, ◌++◌, length, Option, Some, None, find, slice_get, codes}
+use Rattle.std.specs.Prelude.{ℕ, zero, suc, ◌+◌, pos, negsuc, nat_eq, nat_lt, nat_le, ◌==◌, if◌then◌else◌, List, [], ◌∷◌, ◌++◌, length, replicate, Option, Some, None, find, slice_get, codes}
+use Rattle.std.specs.List.{list_any}
 use Rattle.std.specs.Option.{option_map}
 use Rattle.std.specs.Str.{bytes_eq}
 use Rattle.rb_tree.specs.declared.span.Span.{Span}
@@ -13,15 +14,20 @@ use Rattle.rb_tree.specs.declared.node.Class.{Class}
 use Rattle.rb_model.specs.declared.value.Sort.{Sort}
 use Rattle.rb_model.specs.declared.value.Sort.TheVariants as sort
 use Rattle.rb_model.specs.declared.fault.Fault.{Fault}
-use Rattle.rb_model.specs.declared.fault.Fault.TheVariants.{NoMethod, ArgumentCount, TextTooLong}
-use Rattle.rb_model.specs.Values.{Value, Nil, Str, To, Reference, truthy}
+use Rattle.rb_model.specs.declared.fault.Fault.TheVariants.{NoMethod, ArgumentCount, TypeMismatch, BadKey, IndexTooSmall, ArrayTooLong, TextTooLong, TooDeep}
+use Rattle.rb_model.specs.Values.{Value, Nil, Int, Str, To, Reference, truthy}
 use Rattle.rb_model.specs.Acts.{Act, GetField, SetField}
-use Rattle.rb_model.specs.Ends.{End, Raised}
+use Rattle.rb_model.specs.Ends.{End, Raised, Steps}
+use Rattle.rb_model.specs.Things.{max_elements, key_of, gathered}
 use Rattle.rb_model.specs.Things as thing
 use Rattle.rb_machine.specs.Scopes.{Script, Text, Scope, text_of, look, assign, fresh, with_locals}
-use Rattle.rb_machine.specs.Control.{State, On, Cont, Then, Frame, Step, Eval, Give, Following, Turning, Making, Calling, Showing, Ended, Aim, OnReceiver, ByName, Storing, Creating, Instead, Create, Initialize, Place, OfLocal, OfField, OfGlobal, OfElement, OfAttribute, ReadOf, RightOf, WriteTo, Style, Lines, Plain, WriteBehind, TextOf}
-use Rattle.rb_machine.specs.Texts.{max_bytes, shown, styled, p_text}
-use Rattle.rb_machine.specs.Methods.{Answer, Gives, Raises, Loops, deed}
+use Rattle.rb_machine.specs.Control.{State, On, Cont, Then, Under, Frame, Step, Eval, Give, Following, Turning, Drafting, Making, Calling, Reading, Showing, Ended, max_depth}
+use Rattle.rb_machine.specs.Control.{Aim, OnReceiver, ByName, Storing, Creating, Listing, Pairing, Instead, Create, Initialize, Place, OfLocal, OfField, OfGlobal, OfElement, OfAttribute, ReadOf, RightOf, WriteTo}
+use Rattle.rb_machine.specs.Control.{Walking, Style, Lines, Plain, Inspecting, Inspected, Lined, Draft, ForEach, ForText, WriteBehind, LinesBehind, LineOf, TextOf}
+use Rattle.rb_machine.specs.Texts.{max_bytes, shown, inspected, styled}
+use Rattle.rb_machine.specs.Drafts.{Needs, Goes, Finished, Element, Copies, is_collection, is_array, draft_of}
+use Rattle.rb_machine.specs.Drafts as draft
+use Rattle.rb_machine.specs.Methods.{Answer, Gives, Raises, Loops, LoopsOver, Asks, Reads, EachPairOf, Inspects, deed}
 
 -- the end of a thread
 abbrev pub ended : End → ℕ → State
@@ -50,6 +56,16 @@ ask_of v act at k sc d left = raised NoMethod at left
 -- something is asked of `self`
 abbrev pub own_field : Act → Span → List Cont → Scope → ℕ → ℕ → State
 own_field act at k sc d left = ask_of sc.me act at k sc d left
+
+-- a text that is made goes on, unless it is too long
+abbrev pub going : Option Draft → Span → List Cont → Scope → ℕ → ℕ → State
+going (Some t) at k sc d left = On (Drafting t at) k sc d left
+going None at k sc d left = raised TextTooLong at left
+
+-- a text that is made begins to write an element or a pair, with a step, where one is left
+abbrev pub start_element : Draft → Span → List Cont → Scope → ℕ → ℕ → State
+start_element t at k sc d zero = ended Steps zero
+start_element t at k sc d (suc left) = On (Drafting t at) k sc d left
 
 module _ (S : Script) where
   -- ---- methods of the script
@@ -92,6 +108,14 @@ module _ (S : Script) where
   answered (Raises fault) block at k sc d left = raised fault at left
   answered (Loops turns) (Some block) at k sc d left = On (Turning turns block) k sc d left
   answered (Loops turns) None at k sc d left = raised ArgumentCount at left
+  answered (LoopsOver array walk) (Some block) at k sc d left = On (Turning (Walking array 0 walk at) block) k sc d left
+  answered (LoopsOver array walk) None at k sc d left = raised ArgumentCount at left
+  answered (Asks thing act None) block at k sc d left = ask thing act at k sc d left
+  answered (Asks thing act (Some step)) block at k sc d left = ask thing act at (Then step ∷ k) sc d left
+  answered (Reads thing purpose) block at k sc d left = On (Reading thing purpose at) k sc d left
+  answered (EachPairOf hash) (Some block) at k sc d left = On (Reading hash (ForEach (To hash) block) at) k sc d left
+  answered (EachPairOf hash) None at k sc d left = raised ArgumentCount at left
+  answered (Inspects collection) block at k sc d left = On (Drafting (draft_of Inspected collection) at) k sc d left
 
   -- a method of the script takes no block
   abbrev pub invoked : Option Method → Value → Text → List Value → Option Block → Span → List Cont → Scope → ℕ → ℕ → State
@@ -127,9 +151,18 @@ module _ (S : Script) where
   abbrev pub own_text : Value → Option Method
   own_text v = without_parameters (texted (codes "to_s") (methods_of v))
 
+  -- the inspected form of a value, and the text of one that is asked by no method, given as a string; that of a collection is made
+  abbrev pub give_inspected : Value → Span → List Cont → Scope → ℕ → ℕ → State
+  give_inspected v at k sc d left =
+      if is_collection v then On (Drafting (draft_of Inspected v) at) k sc d left else On (Give (Str (inspected S.program v))) k sc d left
+
+  abbrev pub give_shown : Value → Span → List Cont → Scope → ℕ → ℕ → State
+  give_shown v at k sc d left =
+      if is_collection v then On (Drafting (draft_of Inspected v) at) k sc d left else On (Give (Str (shown S.program v))) k sc d left
+
   abbrev pub text_by : Option Method → Value → Span → List Cont → Scope → ℕ → ℕ → State
   text_by (Some m) v at k sc d left = enter m v [] at (Then (TextOf v) ∷ k) sc d left
-  text_by None v at k sc d left = On (Give (Str (shown S.program v))) k sc d left
+  text_by None v at k sc d left = give_shown v at k sc d left
 
   -- the text of a value, given as a string
   abbrev pub give_text : Value → Span → List Cont → Scope → ℕ → ℕ → State
@@ -144,15 +177,46 @@ module _ (S : Script) where
   bytes_of (Str bytes) = bytes
   bytes_of other = []
 
+  -- what a text that is made needs next; the collections that are begun count as nodes under evaluation
+  abbrev pub drafted : Needs → Span → List Cont → Scope → ℕ → ℕ → State
+  drafted (Goes t) at k sc d left = going t at k sc d left
+  drafted (Finished text) at k sc d left = On (Give (Str text)) k sc d left
+  drafted (Element t) at k sc d left = start_element t at k sc d left
+  drafted (Copies thing t) at k sc d left =
+      if nat_lt (d + length t.begun) max_depth then On (Reading thing (ForText t) at) k sc d left else raised TooDeep at left
+  drafted (draft.Asks v t) at k sc d left = give_text v at (Under d ∷ Then (LineOf t at) ∷ k) sc (d + length t.begun) left
+
+  -- the value of a call that prints
+  abbrev pub value_of : Style → Step
+  value_of Lines = Instead Nil
+  value_of Plain = Instead Nil
+  value_of (Inspecting args) = value_of_p args
+
+  -- the text of a value, as it is written behind bytes and before other values; `puts` makes the lines of an array
+  abbrev pub give_line : Value → List ℕ → List Value → Span → List Cont → Scope → ℕ → ℕ → State
+  give_line v bytes vs at k sc d left =
+      if is_array v then On (Drafting (draft_of Lined v) at) (Then (LinesBehind bytes vs at) ∷ k) sc d left
+      else give_text v at (Then (WriteBehind Lines bytes vs at) ∷ k) sc d left
+
+  abbrev pub give_styled : Style → Value → List ℕ → List Value → Span → List Cont → Scope → ℕ → ℕ → State
+  give_styled Lines v bytes vs at k sc d left = give_line v bytes vs at k sc d left
+  give_styled Plain v bytes vs at k sc d left = give_text v at (Then (WriteBehind Plain bytes vs at) ∷ k) sc d left
+  give_styled (Inspecting args) v bytes vs at k sc d left = give_inspected v at (Then (WriteBehind (Inspecting args) bytes vs at) ∷ k) sc d left
+
   -- the values that are left to be printed, behind these bytes
   abbrev pub write : Style → List ℕ → List Value → Span → List Cont → Scope → ℕ → ℕ → State
-  write style bytes [] at k sc d left = show bytes (Instead Nil) at k sc d left
-  write style bytes (v ∷ vs) at k sc d left = give_text v at (Then (WriteBehind style bytes vs at) ∷ k) sc d left
+  write style bytes [] at k sc d left = show bytes (value_of style) at k sc d left
+  write style bytes (v ∷ vs) at k sc d left = give_styled style v bytes vs at k sc d left
 
   -- a text joins what is printed, which may not grow too long
   abbrev pub write_behind : Style → List ℕ → Text → List Value → Span → List Cont → Scope → ℕ → ℕ → State
   write_behind style bytes text vs at k sc d left =
       if nat_lt max_bytes (length (bytes ++ styled style text)) then raised TextTooLong at left else write style (bytes ++ styled style text) vs at k sc d left
+
+  -- the lines of an array join what is printed
+  abbrev pub write_lines : List ℕ → Text → List Value → Span → List Cont → Scope → ℕ → ℕ → State
+  write_lines bytes text vs at k sc d left =
+      if nat_lt max_bytes (length (bytes ++ text)) then raised TextTooLong at left else write Lines (bytes ++ text) vs at k sc d left
 
   -- `puts` of no value writes a line feed
   abbrev pub put_lines : List Value → Span → List Cont → Scope → ℕ → ℕ → State
@@ -164,7 +228,7 @@ module _ (S : Script) where
   print name args at k sc d left =
       if bytes_eq name (codes "puts") then put_lines args at k sc d left
       else (if bytes_eq name (codes "print") then write Plain [] args at k sc d left
-      else (if bytes_eq name (codes "p") then show (p_text S.program args) (value_of_p args) at k sc d left
+      else (if bytes_eq name (codes "p") then write (Inspecting args) [] args at k sc d left
       else raised NoMethod at left))
 
   abbrev pub top_level : Option Method → NameId → List Value → Span → List Cont → Scope → ℕ → ℕ → State
@@ -186,10 +250,45 @@ module _ (S : Script) where
   class_from n name [] = None
   class_from n name (c ∷ cs) = if c.name.0 == name.0 then Some n else class_from (suc n) name cs
 
+  -- so many times a value as the elements of a new array
+  abbrev pub fill : Value → Value → Span → List Cont → Scope → ℕ → ℕ → State
+  fill (Int (pos n)) v at k sc d left = if nat_le n max_elements then On (Making (thing.Elements (replicate n v))) k sc d left else raised ArrayTooLong at left
+  fill (Int (negsuc n)) v at k sc d left = raised IndexTooSmall at left
+  fill count v at k sc d left = raised TypeMismatch at left
+
+  abbrev pub new_array : List Value → Span → List Cont → Scope → ℕ → ℕ → State
+  new_array [] at k sc d left = On (Making (thing.Elements [])) k sc d left
+  new_array (count ∷ []) at k sc d left = fill count Nil at k sc d left
+  new_array (count ∷ v ∷ []) at k sc d left = fill count v at k sc d left
+  new_array args at k sc d left = raised ArgumentCount at left
+
+  abbrev pub new_hash : List Value → Span → List Cont → Scope → ℕ → ℕ → State
+  new_hash [] at k sc d left = On (Making (thing.Pairs [])) k sc d left
+  new_hash args at k sc d left = raised ArgumentCount at left
+
+  -- a new thing of a class that is built in
+  abbrev pub create_builtin : Text → List Value → Span → List Cont → Scope → ℕ → ℕ → State
+  create_builtin name args at k sc d left =
+      if bytes_eq name (codes "Array") then new_array args at k sc d left
+      else (if bytes_eq name (codes "Hash") then new_hash args at k sc d left
+      else unbuilt at left)
+
   -- An object of a class has no instance variables yet. Where there is `initialize`, it is called, and its value is not used.
-  abbrev pub create : Option ℕ → List Value → Span → List Cont → Scope → ℕ → ℕ → State
-  create (Some class) args at k sc d left = On (Making (thing.Object class [])) (Then (Initialize args at) ∷ k) sc d left
-  create None args at k sc d left = unbuilt at left
+  abbrev pub create : Option ℕ → NameId → List Value → Span → List Cont → Scope → ℕ → ℕ → State
+  create (Some class) name args at k sc d left = On (Making (thing.Object class [])) (Then (Initialize args at) ∷ k) sc d left
+  create None name args at k sc d left = create_builtin (text_of S name) args at k sc d left
+
+  -- ---- literals of hashes
+
+  -- keys and values by turns, as pairs
+  abbrev pub pairs_of : List Value → List (Value × Value)
+  pairs_of (k ∷ v ∷ vs) = (k, v) ∷ pairs_of vs
+  pairs_of others = []
+
+  -- a new hash, where no key is an array or a hash
+  abbrev pub pair_up : List (Value × Value) → Span → List Cont → Scope → ℕ → ℕ → State
+  pair_up ps at k sc d left =
+      if list_any (λ (p : Value × Value). is_collection p.0) ps then raised BadKey at left else On (Making (thing.Pairs (gathered ps))) k sc d left
 
   -- a class without `initialize` takes no arguments
   abbrev pub initialized : Option Method → Value → List Value → Span → List Cont → Scope → ℕ → ℕ → State
@@ -211,7 +310,9 @@ module _ (S : Script) where
   perform (OnReceiver receiver name block) args at k sc d left = invoke receiver name args block at k sc d left
   perform (ByName name) args at k sc d left = call_by_name name args at k sc d left
   perform (Storing receiver name) args at k sc d left = invoke receiver name args None at (Then (Instead (last_value args)) ∷ k) sc d left
-  perform (Creating class) args at k sc d left = create (class_from 0 class S.program.classes) args at k sc d left
+  perform (Creating class) args at k sc d left = create (class_from 0 class S.program.classes) class args at k sc d left
+  perform Listing args at k sc d left = On (Making (thing.Elements args)) k sc d left
+  perform Pairing args at k sc d left = pair_up (pairs_of args) at k sc d left
 
   -- ---- assignments with an operator
 

@@ -19,12 +19,14 @@ pub data Exit : Type 0 where
   Return : (value : Value) → Exit
 
 -- what arguments are evaluated for: the call of a method of a receiver, of a method by its name alone, an assignment by a call,
--- whose value is the last argument, or a new object of a class
+-- whose value is the last argument, a new object of a class, a new array of them, or a new hash of keys and values by turns
 pub data Aim : Type 0 where
   OnReceiver : (receiver : Value) (name : Text) (block : Option Block) → Aim
   ByName : (name : NameId) → Aim
   Storing : (receiver : Value) (name : Text) → Aim
   Creating : (class : NameId) → Aim
+  Listing : Aim
+  Pairing : Aim
 
 -- what an assignment with an operator reads and writes, once its parts are evaluated
 pub data Place : Type 0 where
@@ -34,14 +36,57 @@ pub data Place : Type 0 where
   OfElement : (receiver index : Value) → Place
   OfAttribute : (receiver : Value) (name : Text) → Place
 
--- what the iterations of a block are given, and what its call answers in the end: the integers from the next up to those below the last
+-- What the call of a block for the elements of an array makes: nothing; nothing, and the block is given the index too; an array of what the
+-- block gives; or one of the elements for which it gives a true value, the last of those that it was given behind those that are kept.
+pub data Walk : Type 0 where
+  Each : Walk
+  WithIndex : Walk
+  Map : (values : List Value) → Walk
+  Select : (kept : List Value) (current : Value) → Walk
+
+-- What the iterations of a block are given, and what its call answers in the end: the integers from the next up to those below the last; the
+-- elements of an array from the next place on; the pairs that are left.
 pub data Turns : Type 0 where
   Counting : (next last : ℤ) (answer : Value) → Turns
+  Walking : (array : Reference) (next : ℕ) (walk : Walk) (at : Span) → Turns
+  EachPair : (pairs : List (Value × Value)) (answer : Value) → Turns
 
--- how texts are printed: `puts` makes lines of them, `print` writes them as they are
+-- how texts are printed: `puts` makes lines of them, `print` writes them as they are, and `p`, whose arguments these are, makes a line of the
+-- inspected form of each
 pub data Style : Type 0 where
   Lines : Style
   Plain : Style
+  Inspecting : (args : List Value) → Style
+
+-- how the text of a collection is made: as `inspect` gives it, or line by line, as `puts` writes an array
+pub data Form : Type 0 where
+  Inspected : Form
+  Lined : Form
+
+-- A collection whose text is begun: the bytes before what comes next in it, and what is left of it.
+pub data Open : Type 0 where
+  OfArray : (array : Reference) (lead : Text) (values : List Value) → Open
+  OfHash : (hash : Reference) (lead : Text) (pairs : List (Value × Value)) → Open
+
+-- what comes next in a text: what is left of the innermost collection; or a value, or a pair, behind these bytes
+pub data Coming : Type 0 where
+  Between : Coming
+  OfValue : (lead : Text) (value : Value) → Coming
+  OfPair : (lead : Text) (key value : Value) → Coming
+
+-- A text that is being made: its form, what comes next, its bytes so far, and the collections that are begun, the innermost first.
+pub record Draft : Type 0 where
+  pub form : Form
+  pub coming : Coming
+  pub bytes : Text
+  pub begun : List Open
+
+-- what a collection is read for, by one copy: the keys or the values of a hash, a block that is called with each of its pairs, or a text
+pub data Use : Type 0 where
+  Keys : Use
+  Values : Use
+  ForEach : (answer : Value) (block : Block) → Use
+  ForText : (draft : Draft) → Use
 
 -- what is done with a value inside a node
 pub data Step : Type 0 where
@@ -67,7 +112,15 @@ pub data Step : Type 0 where
   -- a text that joins what there is of a literal, or of a print before other values; and the answer of an object's `to_s`
   JoinTo : (bytes : List ℕ) (pieces : List Piece) (at : Span) → Step
   WriteBehind : (style : Style) (bytes : List ℕ) (values : List Value) (at : Span) → Step
+  -- the lines of an array, behind the bytes of a print and before other values; and the text of an element, as a line among them
+  LinesBehind : (bytes : List ℕ) (values : List Value) (at : Span) → Step
+  LineOf : (draft : Draft) (at : Span) → Step
   TextOf : (object : Value) → Step
+  -- whether there are none, by their number
+  IsZero : Step
+  -- the next element of an array, where its length says that there is one; and the iteration of a block with it
+  ElementBelow : (array : Reference) (next : ℕ) (walk : Walk) (block : Block) (at : Span) → Step
+  WithElement : (array : Reference) (next : ℕ) (walk : Walk) (block : Block) (at : Span) → Step
   -- an assignment with an operator: the receiver of its target, the index, the value that the target has, the right side, the value to write
   IndexedBy : (index : Node) (op : AssignOp) (value : Node) (at : Span) → Step
   MemberOf : (name : Text) (op : AssignOp) (value : Node) (at : Span) → Step
@@ -86,6 +139,10 @@ pub data Cont : Type 0 where
   Turn : (turns : Turns) (block : Block) (kept : ℕ) → Cont
   Frame : (saved : Scope) → Cont
 
+-- how many nodes may be under evaluation at once, and collections whose text is being made
+abbrev pub max_depth : ℕ
+max_depth = 1000
+
 -- what the machine is at
 pub data Control : Type 0 where
   -- a node is evaluated; its value is given to what waits; or a part is left
@@ -100,9 +157,12 @@ pub data Control : Type 0 where
   Passing : (aim : Aim) (done : List Value) (rest : List Node) (at : Span) → Control
   -- the pieces of a text that are left, behind these bytes
   Joining : (bytes : List ℕ) (pieces : List Piece) (at : Span) → Control
-  -- a thing is made; something is asked of a thing; bytes are shown
+  -- a text with collections in it is made
+  Drafting : (draft : Draft) (at : Span) → Control
+  -- a thing is made; something is asked of a thing; a collection is read by one copy; bytes are shown
   Making : (thing : Thing) → Control
   Calling : (thing : Reference) (act : Act) (at : Span) → Control
+  Reading : (thing : Reference) (purpose : Use) (at : Span) → Control
   Showing : (bytes : List ℕ) → Control
   Ended : (how : End) → Control
 

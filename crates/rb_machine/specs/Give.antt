@@ -1,14 +1,16 @@
 -- A value comes to what waits for it; and an exit comes to it.
-use Rattle.std.specs.Prelude.{ℕ, nat_lt, not, if◌then◌else◌, List, [], ◌∷◌, ◌++◌, length, take, None}
+use Rattle.std.specs.Prelude.{ℕ, pos, nat_lt, not, if◌then◌else◌, List, [], ◌∷◌, ◌++◌, length, take, None}
 use Rattle.rb_tree.specs.declared.span.Span.{Span}
 use Rattle.rb_tree.specs.declared.node.Piece.{Piece}
 use Rattle.rb_model.specs.declared.fault.Fault.TheVariants.{TextTooLong}
-use Rattle.rb_model.specs.Values.{Value, Nil, truthy, truth}
+use Rattle.rb_model.specs.Values.{Value, Nil, Int, truthy, truth, same}
 use Rattle.rb_model.specs.Acts.{SetField}
 use Rattle.rb_machine.specs.Scopes.{Script, Scope, assign, with_locals}
-use Rattle.rb_machine.specs.Control.{State, On, Cont, Then, Under, Test, Again, Turn, Frame, Step, Eval, Give, Leave, Following, Looping, Turning, Passing, Joining, Making, Exit, Break, Next, Return, AssignTo, FieldTo, GlobalTo, Rest, Choose, RightOfAnd, RightOfOr, Negate, ReturnOf, ReceiverOf, ReceiverToStore, Argument, OnReceiver, Storing, Instead, Create, Initialize, PieceOf, JoinTo, WriteBehind, TextOf, IndexedBy, MemberOf, IndexOf, ReadOf, RightOf, WriteTo, OfElement, OfAttribute}
+use Rattle.rb_machine.specs.Control.{State, On, Cont, Then, Under, Test, Again, Turn, Frame, Step, Eval, Give, Leave, Following, Looping, Turning, Passing, Joining, Making, Exit, Break, Next, Return, AssignTo, FieldTo, GlobalTo, Rest, Choose, RightOfAnd, RightOfOr, Negate, ReturnOf, ReceiverOf, ReceiverToStore, Argument, OnReceiver, Storing, Instead, Create, Initialize, PieceOf, JoinTo, WriteBehind, LinesBehind, LineOf, TextOf, IsZero, ElementBelow, WithElement, IndexedBy, MemberOf, IndexOf, ReadOf, RightOf, WriteTo, OfElement, OfAttribute}
 use Rattle.rb_machine.specs.Texts.{max_bytes}
-use Rattle.rb_machine.specs.Call.{raised, globals, ask, own_field, invoke, initialize, operator, give_text, text_answered, bytes_of, write_behind, read_place, decide, write_place}
+use Rattle.rb_machine.specs.Drafts.{with_line}
+use Rattle.rb_machine.specs.Call.{raised, globals, ask, own_field, invoke, initialize, operator, give_text, text_answered, bytes_of, going, write_behind, write_lines, read_place, decide, write_place}
+use Rattle.rb_machine.specs.Turns.{turned, next_element, with_element}
 
 -- bytes join a text that may not grow too long
 abbrev pub join : List ℕ → List ℕ → List Piece → Span → List Cont → Scope → ℕ → ℕ → State
@@ -40,7 +42,12 @@ module _ (S : Script) where
   give_step v (PieceOf bytes pieces at) k sc d left = give_text S v at (Then (JoinTo bytes pieces at) ∷ k) sc d left
   give_step v (JoinTo bytes pieces at) k sc d left = join bytes (bytes_of S v) pieces at k sc d left
   give_step v (WriteBehind style bytes values at) k sc d left = write_behind S style bytes (bytes_of S v) values at k sc d left
+  give_step v (LinesBehind bytes values at) k sc d left = write_lines S bytes (bytes_of S v) values at k sc d left
+  give_step v (LineOf draft at) k sc d left = going (with_line draft (bytes_of S v)) at k sc d left
   give_step v (TextOf object) k sc d left = On (Give (text_answered S object v)) k sc d left
+  give_step v IsZero k sc d left = On (Give (truth (same v (Int (pos 0))))) k sc d left
+  give_step v (ElementBelow array next walk block at) k sc d left = next_element v array next walk block at k sc d left
+  give_step v (WithElement array next walk block at) k sc d left = with_element S v array next walk block at k sc d left
   give_step v (IndexedBy index op value at) k sc d left = On (Eval index) (Then (IndexOf v op value at) ∷ k) sc d left
   give_step v (MemberOf name op value at) k sc d left = read_place S (OfAttribute v name) op value at k sc d left
   give_step v (IndexOf receiver op value at) k sc d left = read_place S (OfElement receiver v) op value at k sc d left
@@ -54,11 +61,11 @@ module _ (S : Script) where
   give v (Under depth) k sc d left = On (Give v) k sc depth left
   give v (Test condition body) k sc d left = if truthy v then On (Following Nil body) (Again condition body ∷ k) sc d left else On (Give Nil) k sc d left
   give v (Again condition body) k sc d left = On (Looping condition body) k sc d left
-  give v (Turn turns block kept) k sc d left = On (Turning turns block) k (back kept sc) d left
+  give v (Turn turns block kept) k sc d left = On (Turning (turned v turns) block) k (back kept sc) d left
   give v (Frame saved) k sc d left = On (Give v) k saved d left
 
--- An exit comes to what waits. `break` ends the nearest loop or call with a block, whose value is then nil; `next` ends the iteration;
--- `return` ends the method.
+-- An exit comes to what waits. `break` ends the nearest loop or call with a block, whose value is then nil; `next` ends the iteration, with
+-- nil; `return` ends the method.
 abbrev pub leave : Exit → Cont → List Cont → Scope → ℕ → ℕ → State
 leave e (Then step) k sc d left = On (Leave e) k sc d left
 leave e (Under depth) k sc d left = On (Leave e) k sc depth left
@@ -69,7 +76,7 @@ leave Break (Again condition body) k sc d left = On (Give Nil) k sc d left
 leave Next (Again condition body) k sc d left = On (Looping condition body) k sc d left
 leave (Return v) (Again condition body) k sc d left = On (Leave (Return v)) k sc d left
 leave Break (Turn turns block kept) k sc d left = On (Give Nil) k (back kept sc) d left
-leave Next (Turn turns block kept) k sc d left = On (Turning turns block) k (back kept sc) d left
+leave Next (Turn turns block kept) k sc d left = On (Turning (turned Nil turns) block) k (back kept sc) d left
 leave (Return v) (Turn turns block kept) k sc d left = On (Leave (Return v)) k (back kept sc) d left
 leave Break (Frame saved) k sc d left = On (Give Nil) k saved d left
 leave Next (Frame saved) k sc d left = On (Give Nil) k saved d left

@@ -1,6 +1,7 @@
 -- What holds of the machine, whatever the script.
 use Rattle.std.specs.Prelude.{◌≡◌, ◌<◌, ◌≤◌, ℕ, suc, ◌+◌, Bool, true, false, ◌&&◌, not, nat_lt, ℤ, pos, negsuc, ◌+ℤ◌, ◌*ℤ◌, ◌≤ℤ◌, ◌<ℤ◌, int_lt, List, [], ◌∷◌, ◌++◌, length, map, take, slice_get, Option, Some, None, codes}
 use Rattle.std.specs.Option.{is_some}
+use Rattle.std.specs.List.{list_any}
 use Rattle.rb_tree.specs.declared.span.Span.{Span}
 use Rattle.rb_tree.specs.declared.span.NameId.{NameId}
 use Rattle.rb_tree.specs.declared.node.Node.{Node, out-Node}
@@ -11,23 +12,26 @@ use Rattle.rb_tree.specs.declared.node.Class.{Class}
 use Rattle.rb_tree.specs.declared.node.Piece.{Piece}
 use Rattle.rb_tree.specs.declared.node.Program.{Program}
 use Rattle.rb_tree.specs.declared.node.AssignOp.TheVariants.{OrElse, AndThen}
-use Rattle.rb_model.specs.declared.fault.Fault.TheVariants.{TooDeep, ZeroDivision, ArgumentCount, TextTooLong}
+use Rattle.rb_model.specs.declared.fault.Fault.TheVariants.{TooDeep, ZeroDivision, ArgumentCount, TextTooLong, BadKey}
 use Rattle.rb_model.specs.declared.value.Sort.TheVariants as sort
 use Rattle.rb_model.specs.Values.{Value, Nil, Int, Str, To, Reference, truthy}
-use Rattle.rb_model.specs.Acts.{Act, Reply}
+use Rattle.rb_model.specs.Acts.{Act, At, Len, Copy, Reply}
 use Rattle.rb_model.specs.Private.{Private, held}
-use Rattle.rb_model.specs.Things.{Object}
+use Rattle.rb_model.specs.Things.{Object, Elements, Pairs, gathered}
 use Rattle.rb_model.specs.Ends.{End, Steps, Raised}
 use Rattle.rb_model.specs.Ends as ending
 use Rattle.rb_model.specs.Log.{Call, Entry, Log, prints}
 use Rattle.rb_model.specs.Log as log
 use Rattle.rb_machine.specs.Scopes.{Script, Scope, Text, text_of, Locals, with_locals, found, look, assign, fresh}
-use Rattle.rb_machine.specs.Control.{Control, State, On, Eval, Give, Leave, Following, Looping, Turning, Passing, Break, Next, Return, Turns, Counting, Cont, Then, Under, Test, Again, Turn, Frame, Aim, OnReceiver, Creating, Place, Argument, Initialize, Instead, Making, ReceiverOf, RightOfAnd, RightOfOr, ReadOf, WriteTo, PieceOf, JoinTo, WriteBehind, TextOf, Joining, Lines, Plain, Ended}
+use Rattle.rb_machine.specs.Control.{Control, State, On, Eval, Give, Leave, Following, Looping, Turning, Passing, Break, Next, Return, Turns, Counting, Cont, Then, Under, Test, Again, Turn, Frame, Aim, OnReceiver, Creating, Place, Argument, Initialize, Instead, Making, ReceiverOf, RightOfAnd, RightOfOr, ReadOf, WriteTo, PieceOf, JoinTo, WriteBehind, TextOf, Joining, Drafting, Lines, Plain, EachPair, WithElement, Ended, max_depth}
 use Rattle.rb_machine.specs.Texts.{max_bytes, line_of}
 use Rattle.rb_machine.specs.Methods.{deed, integer, Raises, quotient, modulo}
-use Rattle.rb_machine.specs.Call.{perform, class_from, texted, methods_of, give_text, write, print, raised}
+use Rattle.rb_machine.specs.Control.{Walking, Walk, Map, Select, ElementBelow, Calling, Reading, ForText, Listing, Pairing, Draft, Open, Inspected, OfValue, Between}
+use Rattle.rb_machine.specs.Drafts.{Needs, Element, needs, is_array, is_collection, is_open, again}
+use Rattle.rb_machine.specs.Turns.{turned, holding, given, finish, start_turn}
+use Rattle.rb_machine.specs.Call.{perform, class_from, texted, methods_of, give_text, write, print, raised, pairs_of}
 use Rattle.rb_machine.specs.Give.{back, give, leave}
-use Rattle.rb_machine.specs.Move.{Next as Coming, Go, Ask, Stop, move, replied, left_in, IsWant, max_depth}
+use Rattle.rb_machine.specs.Move.{Next as Coming, Go, Ask, Stop, move, replied, left_in, IsWant}
 use Rattle.rb_machine.specs.Follows.{Follows}
 use Rattle.rb_machine.specs.Alone.{Runs, Alone, opening}
 
@@ -72,20 +76,28 @@ StepsAreUsedUp = (S : Script) (N : ℕ) (b : List ℕ) (n : ℕ) → Alone S N b
 abbrev pub StepsTakenAreEnough : Type 0
 StepsTakenAreEnough = (S : Script) (N : ℕ) (b : List ℕ) (e : End) (n : ℕ) → ((at : Span) → e ≡ Raised TooDeep at → ⊥) → Alone S N b e n → Alone S n b e n
 
--- whether a node or an iteration of a block begins
-abbrev pub begins_step : State → Bool
-begins_step (On (Eval n) k sc d left) = nat_lt 0 left && nat_lt d max_depth
-begins_step (On (Turning (Counting next last answer) block) k sc d left) = nat_lt 0 left && int_lt next last
-begins_step s = false
+-- whether a text that is made comes to an element or a pair
+abbrev pub comes_to_element : Needs → Bool
+comes_to_element (Element draft) = true
+comes_to_element other = false
+
+-- Whether a node begins; an iteration of a block, with an integer, a pair or an element; or the text of an element or a pair.
+abbrev pub begins_step : Script → State → Bool
+begins_step S (On (Eval n) k sc d left) = nat_lt 0 left && nat_lt d max_depth
+begins_step S (On (Turning (Counting next last answer) block) k sc d left) = nat_lt 0 left && int_lt next last
+begins_step S (On (Turning (EachPair (p ∷ ps) answer) block) k sc d left) = nat_lt 0 left
+begins_step S (On (Give v) (Then (WithElement array next walk block at) ∷ k) sc d left) = nat_lt 0 left
+begins_step S (On (Drafting draft at) k sc d left) = nat_lt 0 left && comes_to_element (needs S.program draft)
+begins_step S s = false
 
 -- one more, where that is so
 abbrev pub one_more_if : Bool → ℕ → ℕ
 one_more_if true n = suc n
 one_more_if false n = n
 
--- steps are the nodes that begin and the iterations of blocks that begin, and nothing else
+-- steps are the nodes that begin, the iterations of blocks, and the texts of elements and pairs, and nothing else
 abbrev pub CountsSteps : Type 0
-CountsSteps = (S : Script) (s t : State) → move S s ≡ Go t → left_in s ≡ one_more_if (begins_step s) (left_in t)
+CountsSteps = (S : Script) (s t : State) → move S s ≡ Go t → left_in s ≡ one_more_if (begins_step S s) (left_in t)
 
 -- no reply costs a step
 abbrev pub RepliesAreFree : Type 0
@@ -121,12 +133,12 @@ abbrev pub BreakEndsBlocks : Type 0
 BreakEndsBlocks = (S : Script) (inner k : List Cont) (turns : Turns) (block : Block) (kept : ℕ) (sc : Scope) (d left : ℕ) → is_inner inner ≡ true
     → Quiet S (On (Leave Break) (inner ++ Turn turns block kept ∷ k) sc d left) (On (Give Nil) k (back kept sc) (depth_behind inner d) left)
 
--- `next` ends the iteration: the loop goes on with its condition, the block with what comes next
+-- `next` ends the iteration, with nil: the loop goes on with its condition, the block with what comes next
 abbrev pub NextGoesOn : Type 0
 NextGoesOn = (S : Script) (inner k : List Cont) (condition : Node) (body : List Node) (turns : Turns) (block : Block) (kept : ℕ) (sc : Scope) (d left : ℕ)
     → is_inner inner ≡ true
     → Quiet S (On (Leave Next) (inner ++ Again condition body ∷ k) sc d left) (On (Looping condition body) k sc (depth_behind inner d) left)
-    × Quiet S (On (Leave Next) (inner ++ Turn turns block kept ∷ k) sc d left) (On (Turning turns block) k (back kept sc) (depth_behind inner d) left)
+    × Quiet S (On (Leave Next) (inner ++ Turn turns block kept ∷ k) sc d left) (On (Turning (turned Nil turns) block) k (back kept sc) (depth_behind inner d) left)
 
 -- `return` ends the method, out of all its loops and blocks, and gives the method's caller the value, in the caller's scope
 abbrev pub ReturnEndsMethods : Type 0
@@ -185,11 +197,12 @@ NewGivesTheObject = (S : Script) (object : Value) (m : Method) (args : List Valu
 
 -- ---- texts of objects
 
--- a literal asks for the text of each value that is put in, and `puts` and `print` for that of each value in turn
+-- a literal asks for the text of each value that is put in, and `puts` and `print` for that of each value in turn, but that `puts` makes the
+-- lines of an array
 abbrev pub TextsAreWanted : Type 0
 TextsAreWanted = (S : Script) (v : Value) (vs : List Value) (bytes : List ℕ) (pieces : List Piece) (at : Span) (k : List Cont) (sc : Scope) (d left : ℕ)
     → (give S v (Then (PieceOf bytes pieces at)) k sc d left ≡ give_text S v at (Then (JoinTo bytes pieces at) ∷ k) sc d left)
-    × (print S (codes "puts") (v ∷ vs) at k sc d left ≡ give_text S v at (Then (WriteBehind Lines [] vs at) ∷ k) sc d left)
+    × (is_array v ≡ false → print S (codes "puts") (v ∷ vs) at k sc d left ≡ give_text S v at (Then (WriteBehind Lines [] vs at) ∷ k) sc d left)
     × (print S (codes "print") (v ∷ vs) at k sc d left ≡ give_text S v at (Then (WriteBehind Plain [] vs at) ∷ k) sc d left)
 
 -- the method `to_s` of the class of an object
@@ -227,6 +240,53 @@ OthersAreTold = (S : Script) (object : Reference) (number : ℕ) (class : Class)
     → ((v : Value) → is_string v ≡ false → give S v (Then (TextOf (To object))) k sc d left ≡ On (Give (Str (name_told S class))) k sc d left)
     × (to_s_of S (To object) ≡ None → give_text S (To object) at k sc d left ≡ On (Give (Str (name_told S class))) k sc d left)
     × ((m : Method) → to_s_of S (To object) ≡ Some m → 0 < length m.params → give_text S (To object) at k sc d left ≡ On (Give (Str (name_told S class))) k sc d left)
+
+-- ---- arrays and hashes
+
+abbrev pub has_bad_key : List (Value × Value) → Bool
+has_bad_key ps = list_any (λ (p : Value × Value). is_collection p.0) ps
+
+-- The literal of an array makes one of the values of its parts, and that of a hash one of its pairs, where a key that stands twice keeps its
+-- first place and has the last value. An array or a hash is no key.
+abbrev pub LiteralsMakeThings : Type 0
+LiteralsMakeThings = (S : Script) (vs : List Value) (at : Span) (k : List Cont) (sc : Scope) (d left : ℕ)
+    → (move S (On (Passing Listing vs [] at) k sc d left) ≡ Go (On (Making (Elements vs)) k sc d left))
+    × (has_bad_key (pairs_of S vs) ≡ false → move S (On (Passing Pairing vs [] at) k sc d left) ≡ Go (On (Making (Pairs (gathered (pairs_of S vs)))) k sc d left))
+    × (has_bad_key (pairs_of S vs) ≡ true → move S (On (Passing Pairing vs [] at) k sc d left) ≡ Go (raised BadKey at left))
+
+-- Before each iteration over an array its length is asked. Where that is above the next place, the element there is asked and given to the
+-- block, and else the call has its answer. So a block sees what was done to the array meanwhile.
+abbrev pub WalksAskEachTime : Type 0
+WalksAskEachTime = (S : Script) (array : Reference) (next length : ℕ) (walk : Walk) (block : Block) (at : Span) (k : List Cont) (sc : Scope) (d left : ℕ)
+    → (move S (On (Turning (Walking array next walk at) block) k sc d left) ≡ Go (On (Calling array Len at) (Then (ElementBelow array next walk block at) ∷ k) sc d left))
+    × (nat_lt next length ≡ true → give S (Int (pos length)) (Then (ElementBelow array next walk block at)) k sc d left
+    ≡ On (Calling array (At (pos next)) at) (Then (WithElement array next walk block at) ∷ k) sc d left)
+    × (nat_lt next length ≡ false → give S (Int (pos length)) (Then (ElementBelow array next walk block at)) k sc d left ≡ finish array walk k sc d left)
+    × ((v : Value) → give S v (Then (WithElement array next walk block at)) k sc d left
+    ≡ start_turn S (Walking array (suc next) (holding v walk) at) (given v next walk) block k sc d left)
+
+-- `map` keeps what each iteration gives, and `select` the element where that is true, whether the iteration came to its end or `next` ended it
+abbrev pub WalksKeep : Type 0
+WalksKeep = (array : Reference) (next : ℕ) (values kept : List Value) (v current : Value) (at : Span)
+    → (turned v (Walking array next (Map values) at) ≡ Walking array next (Map (values ++ v ∷ [])) at)
+    × (truthy v ≡ true → turned v (Walking array next (Select kept current) at) ≡ Walking array next (Select (kept ++ current ∷ []) current) at)
+    × (truthy v ≡ false → turned v (Walking array next (Select kept current) at) ≡ Walking array next (Select kept current) at)
+
+-- the state in which the inspected form of a thing is to be made, behind these bytes and inside these collections
+abbrev pub inspecting : (lead bytes : Text) → Reference → List Open → Span → List Cont → Scope → (d left : ℕ) → State
+inspecting lead bytes thing begun at k sc d left =
+    On (Drafting (record { form = Inspected; coming = OfValue lead (To thing); bytes = bytes; begun = begun }) at) k sc d left
+
+-- A collection is read by one copy when its text begins, where no more than 1,000 nodes and collections are begun; inside itself it is told by dots,
+-- and not read.
+abbrev pub CollectionsAreReadOnce : Type 0
+CollectionsAreReadOnce = (S : Script) (thing : Reference) (lead bytes : Text) (begun : List Open) (at : Span) (k : List Cont) (sc : Scope) (d left : ℕ) → is_collection (To thing) ≡ true
+    → (is_open thing begun ≡ false → nat_lt (d + length begun) max_depth ≡ true
+    → (t : Draft) × (move S (inspecting lead bytes thing begun at k sc d left) ≡ Go (On (Reading thing (ForText t) at) k sc d left))
+    × (move S (On (Reading thing (ForText t) at) k sc d left) ≡ Ask thing Copy))
+    × (is_open thing begun ≡ false → nat_lt (d + length begun) max_depth ≡ false → move S (inspecting lead bytes thing begun at k sc d left) ≡ Go (raised TooDeep at left))
+    × (is_open thing begun ≡ true → length (bytes ++ lead ++ again Inspected thing.sort) ≤ max_bytes → move S (inspecting lead bytes thing begun at k sc d left)
+    ≡ Go (On (Drafting (record { form = Inspected; coming = Between; bytes = bytes ++ lead ++ again Inspected thing.sort; begun = begun }) at) k sc d left))
 
 -- ---- locals
 
@@ -292,7 +352,7 @@ abbrev pub IterationsLeaveTheRest : Type 0
 IterationsLeaveTheRest = (S : Script) (N : ℕ) (b : List ℕ) (h : Private) (v : Value) (turns : Turns) (block : Block) (kept : ℕ) (k : List Cont) (sc : Scope) (d left : ℕ)
     → Runs S N b h (On (Give v) (Turn turns block kept ∷ k) sc d left)
     → (outer : Locals) × (own : Locals) × (sc.locals ≡ outer ++ own) × (length outer ≡ kept) × (names_in own ≡ S.block_names block.at)
-    × (move S (On (Give v) (Turn turns block kept ∷ k) sc d left) ≡ Go (On (Turning turns block) k (with_locals sc outer) d left))
+    × (move S (On (Give v) (Turn turns block kept ∷ k) sc d left) ≡ Go (On (Turning (turned v turns) block) k (with_locals sc outer) d left))
 
 -- the receiver of a call is evaluated before its arguments
 abbrev pub ReceiversComeFirst : Type 0

@@ -1,9 +1,11 @@
 pub mod Scopes
 pub mod Control
 pub mod Texts
+pub mod Drafts
 pub mod Methods
 pub mod Call
 pub mod Begin
+pub mod Turns
 pub mod Give
 pub mod Move
 pub mod Follows

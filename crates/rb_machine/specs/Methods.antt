@@ -7,38 +7,58 @@ use Rattle.rb_tree.specs.declared.node.Program.{Program}
 use Rattle.rb_model.specs.declared.value.Sort.{Sort}
 use Rattle.rb_model.specs.declared.value.Sort.TheVariants as sort
 use Rattle.rb_model.specs.declared.fault.Fault.{Fault}
-use Rattle.rb_model.specs.declared.fault.Fault.TheVariants.{NoMethod, ArgumentCount, TypeMismatch, ZeroDivision, IntegerOverflow, TextTooLong}
-use Rattle.rb_model.specs.Values.{Value, Nil, Int, Str, To, truth, same}
+use Rattle.rb_model.specs.declared.fault.Fault.TheVariants.{NoMethod, ArgumentCount, TypeMismatch, BadKey, ZeroDivision, IntegerOverflow, TextTooLong}
+use Rattle.rb_model.specs.Values.{Value, Nil, Int, Str, To, Reference, truth, same}
+use Rattle.rb_model.specs.Acts.{Act, At, Put, Push, Unshift, Pop, Shift, DeleteAt, KGet, KHas, KPut, KDelete, Clear, Len}
 use Rattle.rb_model.specs.Characters.{characters}
 use Rattle.rb_machine.specs.Scopes.{Text}
-use Rattle.rb_machine.specs.Control.{Turns, Counting}
+use Rattle.rb_machine.specs.Control.{Turns, Counting, Walk, Each, WithIndex, Map, Select, Step, Instead, IsZero, Use, Keys, Values}
 use Rattle.rb_machine.specs.Texts.{max_bytes, shown, inspected}
+use Rattle.rb_machine.specs.Drafts.{is_collection}
 
--- what a method does: it gives a value, raises a fault, or calls its block in turns
+-- What a method does: it gives a value, raises a fault, or calls its block in turns; it asks something of a thing, whose reply is the answer,
+-- or what a step makes of it; it reads a collection by one copy, or calls its block with each pair of one; or it gives the inspected form of a
+-- collection.
 pub data Answer : Type 0 where
   Gives : (value : Value) → Answer
   Raises : (fault : Fault) → Answer
   Loops : (turns : Turns) → Answer
+  LoopsOver : (array : Reference) (walk : Walk) → Answer
+  Asks : (thing : Reference) (act : Act) (behind : Option Step) → Answer
+  Reads : (thing : Reference) (purpose : Use) → Answer
+  EachPairOf : (hash : Reference) → Answer
+  Inspects : (collection : Value) → Answer
 
 -- the receivers of a row
 pub data Receiver : Type 0 where
   AnyValue : Receiver
   Integer : Receiver
   String : Receiver
+  Array : Receiver
+  Hash : Receiver
+  Collection : Receiver
+
+abbrev pub has_sort : Receiver → Sort → Bool
+has_sort Array sort.List = true
+has_sort Hash sort.Pairs = true
+has_sort Collection sort.List = true
+has_sort Collection sort.Pairs = true
+has_sort other other_sort = false
 
 abbrev pub is_of : Receiver → Value → Bool
 is_of AnyValue v = true
 is_of Integer (Int n) = true
 is_of String (Str bytes) = true
+is_of other (To thing) = has_sort other thing.sort
 is_of other v = false
 
--- A method: its receivers, its name, how many arguments it takes, how many parameters its block may have where it takes one, and what it
--- does with the receiver and the arguments.
+-- A method: its receivers, its name, how many arguments it takes, which numbers of parameters its block may have where it takes one, and what
+-- it does with the receiver and the arguments.
 pub record Row : Type 0 where
   pub of : Receiver
   pub name : Text
   pub arity : ℕ
-  pub block : Option ℕ
+  pub block : Option (ℕ → Bool)
   pub does : Value → List Value → Answer
 
 -- ---- what rows do
@@ -111,6 +131,57 @@ equal v args = Raises ArgumentCount
 abbrev pub is_nil : Value → List Value → Answer
 is_nil v args = Gives (truth (same v Nil))
 
+-- ---- what is done with arrays and hashes
+
+abbrev pub on_thing : (Reference → List Value → Answer) → Value → List Value → Answer
+on_thing does (To thing) args = does thing args
+on_thing does v args = Raises NoMethod
+
+-- a question without arguments, whose reply is the answer; and one that answers the receiver
+abbrev pub asks : Act → Reference → List Value → Answer
+asks act thing args = Asks thing act None
+
+abbrev pub changes : Act → Reference → Answer
+changes act thing = Asks thing act (Some (Instead (To thing)))
+
+abbrev pub is_empty : Reference → List Value → Answer
+is_empty thing args = Asks thing Len (Some IsZero)
+
+abbrev pub adds : (Value → Act) → Reference → List Value → Answer
+adds act array (v ∷ []) = changes (act v) array
+adds act array args = Raises ArgumentCount
+
+abbrev pub at_index : (ℤ → Act) → Reference → List Value → Answer
+at_index act array (Int i ∷ []) = Asks array (act i) None
+at_index act array args = Raises TypeMismatch
+
+abbrev pub put_index : Reference → List Value → Answer
+put_index array (Int i ∷ v ∷ []) = Asks array (Put i v) None
+put_index array args = Raises TypeMismatch
+
+-- an array or a hash is no key
+abbrev pub if_key : Value → Answer → Answer
+if_key k answer = if is_collection k then Raises BadKey else answer
+
+abbrev pub by_key : (Value → Act) → Reference → List Value → Answer
+by_key act hash (k ∷ []) = if_key k (Asks hash (act k) None)
+by_key act hash args = Raises ArgumentCount
+
+abbrev pub put_key : Reference → List Value → Answer
+put_key hash (k ∷ v ∷ []) = if_key k (Asks hash (KPut k v) None)
+put_key hash args = Raises ArgumentCount
+
+-- how many parameters a block may have
+abbrev pub up_to : ℕ → ℕ → Bool
+up_to most given = nat_le given most
+
+abbrev pub none_or_two : ℕ → Bool
+none_or_two given = nat_eq given 0 || nat_eq given 2
+
+-- the text of a value that a method gives; a collection is read for it
+abbrev pub told : Value → Text → Answer
+told v bytes = if is_collection v then Inspects v else text bytes
+
 -- ---- the table
 
 module _ (P : Program) where
@@ -118,8 +189,8 @@ module _ (P : Program) where
   any_rows =
       record { of = AnyValue; name = codes "=="; arity = 1; block = None; does = equal }
       ∷ record { of = AnyValue; name = codes "nil?"; arity = 0; block = None; does = is_nil }
-      ∷ record { of = AnyValue; name = codes "to_s"; arity = 0; block = None; does = λ v args. text (shown P v) }
-      ∷ record { of = AnyValue; name = codes "inspect"; arity = 0; block = None; does = λ v args. text (inspected P v) }
+      ∷ record { of = AnyValue; name = codes "to_s"; arity = 0; block = None; does = λ v args. told v (shown P v) }
+      ∷ record { of = AnyValue; name = codes "inspect"; arity = 0; block = None; does = λ v args. told v (inspected P v) }
       ∷ []
 
   abbrev pub integer_rows : List Row
@@ -134,8 +205,8 @@ module _ (P : Program) where
       ∷ record { of = Integer; name = codes "<="; arity = 1; block = None; does = on_integers (λ m n. Gives (truth (int_le m n))) }
       ∷ record { of = Integer; name = codes ">"; arity = 1; block = None; does = on_integers (λ m n. Gives (truth (int_lt n m))) }
       ∷ record { of = Integer; name = codes ">="; arity = 1; block = None; does = on_integers (λ m n. Gives (truth (int_le n m))) }
-      ∷ record { of = Integer; name = codes "times"; arity = 0; block = Some 1; does = times }
-      ∷ record { of = Integer; name = codes "upto"; arity = 1; block = Some 1; does = on_integers upto }
+      ∷ record { of = Integer; name = codes "times"; arity = 0; block = Some (up_to 1); does = times }
+      ∷ record { of = Integer; name = codes "upto"; arity = 1; block = Some (up_to 1); does = on_integers upto }
       ∷ []
 
   abbrev pub string_rows : List Row
@@ -144,19 +215,58 @@ module _ (P : Program) where
       ∷ record { of = String; name = codes "length"; arity = 0; block = None; does = count_characters }
       ∷ []
 
+  abbrev pub array_rows : List Row
+  array_rows =
+      record { of = Array; name = codes "[]"; arity = 1; block = None; does = on_thing (at_index At) }
+      ∷ record { of = Array; name = codes "[]="; arity = 2; block = None; does = on_thing put_index }
+      ∷ record { of = Array; name = codes "<<"; arity = 1; block = None; does = on_thing (adds Push) }
+      ∷ record { of = Array; name = codes "push"; arity = 1; block = None; does = on_thing (adds Push) }
+      ∷ record { of = Array; name = codes "unshift"; arity = 1; block = None; does = on_thing (adds Unshift) }
+      ∷ record { of = Array; name = codes "pop"; arity = 0; block = None; does = on_thing (asks Pop) }
+      ∷ record { of = Array; name = codes "shift"; arity = 0; block = None; does = on_thing (asks Shift) }
+      ∷ record { of = Array; name = codes "delete_at"; arity = 1; block = None; does = on_thing (at_index DeleteAt) }
+      ∷ record { of = Array; name = codes "first"; arity = 0; block = None; does = on_thing (asks (At (pos 0))) }
+      ∷ record { of = Array; name = codes "last"; arity = 0; block = None; does = on_thing (asks (At (negsuc 0))) }
+      ∷ record { of = Array; name = codes "each"; arity = 0; block = Some (up_to 1); does = on_thing (λ a args. LoopsOver a Each) }
+      ∷ record { of = Array; name = codes "each_with_index"; arity = 0; block = Some (up_to 2); does = on_thing (λ a args. LoopsOver a WithIndex) }
+      ∷ record { of = Array; name = codes "map"; arity = 0; block = Some (up_to 1); does = on_thing (λ a args. LoopsOver a (Map [])) }
+      ∷ record { of = Array; name = codes "select"; arity = 0; block = Some (up_to 1); does = on_thing (λ a args. LoopsOver a (Select [] Nil)) }
+      ∷ []
+
+  abbrev pub collection_rows : List Row
+  collection_rows =
+      record { of = Collection; name = codes "length"; arity = 0; block = None; does = on_thing (asks Len) }
+      ∷ record { of = Collection; name = codes "size"; arity = 0; block = None; does = on_thing (asks Len) }
+      ∷ record { of = Collection; name = codes "empty?"; arity = 0; block = None; does = on_thing is_empty }
+      ∷ record { of = Collection; name = codes "clear"; arity = 0; block = None; does = on_thing (λ c args. changes Clear c) }
+      ∷ []
+
+  abbrev pub hash_rows : List Row
+  hash_rows =
+      record { of = Hash; name = codes "[]"; arity = 1; block = None; does = on_thing (by_key KGet) }
+      ∷ record { of = Hash; name = codes "[]="; arity = 2; block = None; does = on_thing put_key }
+      ∷ record { of = Hash; name = codes "delete"; arity = 1; block = None; does = on_thing (by_key KDelete) }
+      ∷ record { of = Hash; name = codes "key?"; arity = 1; block = None; does = on_thing (by_key KHas) }
+      ∷ record { of = Hash; name = codes "keys"; arity = 0; block = None; does = on_thing (λ h args. Reads h Keys) }
+      ∷ record { of = Hash; name = codes "values"; arity = 0; block = None; does = on_thing (λ h args. Reads h Values) }
+      ∷ record { of = Hash; name = codes "each"; arity = 0; block = Some none_or_two; does = on_thing (λ h args. EachPairOf h) }
+      ∷ record { of = Hash; name = codes "each_pair"; arity = 0; block = Some none_or_two; does = on_thing (λ h args. EachPairOf h) }
+      ∷ []
+
   abbrev pub rows : List Row
-  rows = any_rows ++ (integer_rows ++ string_rows)
+  rows = any_rows ++ (integer_rows ++ (string_rows ++ (array_rows ++ (hash_rows ++ collection_rows))))
 
   -- the row of a method, where the receiver has it
   abbrev pub row_of : Value → Text → Option Row
   row_of v name = find (λ (r : Row). bytes_eq name r.name && is_of r.of v) rows
 
--- a block that is given where none is taken: there is no such method; one that is missing, or has too many parameters: the count is wrong
-abbrev pub block_fault : Option ℕ → Option ℕ → Option Fault
+-- a block that is given where none is taken: there is no such method; one that is missing, or has another number of parameters: the count
+-- is wrong
+abbrev pub block_fault : Option (ℕ → Bool) → Option ℕ → Option Fault
 block_fault None None = None
 block_fault None (Some given) = Some NoMethod
-block_fault (Some most) None = Some ArgumentCount
-block_fault (Some most) (Some given) = if nat_le given most then None else Some ArgumentCount
+block_fault (Some may_have) None = Some ArgumentCount
+block_fault (Some may_have) (Some given) = if may_have given then None else Some ArgumentCount
 
 abbrev pub unless_fault : Option Fault → Bool → Answer → Answer
 unless_fault (Some fault) counts answer = Raises fault

@@ -1,6 +1,5 @@
 -- The texts of values, and what `puts`, `print` and `p` show.
 use Rattle.std.specs.Prelude.{ℕ, Bool, false, ◌==◌, ◌||◌, if◌then◌else◌, List, [], ◌∷◌, ◌++◌, Option, Some, None, length, ◌-◌, slice_get, codes}
-use Rattle.std.specs.List.{flat_map}
 use Rattle.std.specs.Fmt.{signed_decimal}
 use Rattle.rb_tree.specs.declared.node.Program.{Program}
 use Rattle.rb_tree.specs.declared.node.Class.{Class}
@@ -8,7 +7,7 @@ use Rattle.rb_model.specs.declared.value.Sort.{Sort}
 use Rattle.rb_model.specs.declared.value.Sort.TheVariants as sort
 use Rattle.rb_model.specs.Values.{Value, Nil, False, True, Int, Sym, Str, To}
 use Rattle.rb_machine.specs.Scopes.{Text, name_text}
-use Rattle.rb_machine.specs.Control.{Style, Lines, Plain}
+use Rattle.rb_machine.specs.Control.{Style, Lines, Plain, Inspecting}
 
 -- how many bytes one text has at most, and one print
 abbrev pub max_bytes : ℕ
@@ -50,7 +49,7 @@ module _ (P : Program) where
   class_text None = []
   class_text (Some class) = name_text P.names class.name
 
-  -- how a thing is told by its class; arrays and hashes have no text yet
+  -- how a thing is told by its class; an array or a hash is read for its text, and has none of its own
   abbrev pub told : Sort → Text
   told (sort.Object class) = codes "#<" ++ class_text (slice_get P.classes class) ++ codes ">"
   told sort.Thread = codes "#<Thread>"
@@ -77,11 +76,8 @@ module _ (P : Program) where
   inspected (Str bytes) = 34 ∷ escaped bytes ++ 34 ∷ []
   inspected (To thing) = told thing.sort
 
-  -- `p` writes the inspected form of each value and a line feed
-  abbrev pub p_text : List Value → Text
-  p_text vs = flat_map (λ v. inspected v ++ 10 ∷ []) vs
-
 -- how a text joins what is printed
 abbrev pub styled : Style → Text → Text
 styled Lines text = line_of text
 styled Plain text = text
+styled (Inspecting args) text = text ++ 10 ∷ []

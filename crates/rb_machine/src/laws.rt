@@ -18,7 +18,8 @@ pub fn always_finishes()
     ensures { law.AlwaysFinishes }
 {}
 
-/// Steps are the nodes that begin and the iterations of blocks that begin. Nothing else costs one, and no reply does.
+/// Steps are the nodes that begin, the iterations of blocks that begin, and the elements and pairs whose text begins. Nothing else
+/// costs one, and no reply does.
 pub fn steps()
     ensures counted { law.CountsSteps }
     ensures replies { law.RepliesAreFree }
@@ -107,6 +108,25 @@ pub fn texts_of_objects()
     ensures asked { law.ToSIsAsked }
     ensures joined { law.StringsAreTexts }
     ensures told { law.OthersAreTold }
+{}
+
+/// The literal of an array makes one of the values of its parts, and that of a hash one of its pairs: a key that stands twice keeps its
+/// first place and has the last value, and an array or a hash is no key.
+pub fn literals()
+    ensures { law.LiteralsMakeThings }
+{}
+
+/// A walk over an array asks for its length before each iteration and then for the element, so its block sees what was done to the array
+/// meanwhile. `map` keeps what each iteration gives, and `select` the elements for which that is true.
+pub fn walks()
+    ensures asked { law.WalksAskEachTime }
+    ensures kept { law.WalksKeep }
+{}
+
+/// A collection is read by one copy when its text begins, and inside itself it is told by dots. No more than 1,000 nodes and
+/// collections are begun at once.
+pub fn texts_of_collections()
+    ensures { law.CollectionsAreReadOnce }
 {}
 
 /// The right side of `||`, `||=`, `&&` and `&&=` is evaluated only where the left one does not decide.
