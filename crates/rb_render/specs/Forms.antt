@@ -5,7 +5,7 @@ use Rattle.rb_tree.specs.declared.node.Program.{Program}
 use Rattle.rb_model.specs.Values.{Value}
 use Rattle.rb_machine.specs.Scopes.{Text}
 use Rattle.rb_machine.specs.Control.{Style, Lines, Plain}
-use Rattle.rb_machine.specs.Texts.{line_of, shown, inspected, p_text}
+use Rattle.rb_machine.specs.Texts.{line_of, shown, inspected}
 use Rattle.rb_render.specs.declared.show.Form.{Form}
 use Rattle.rb_render.specs.declared.show.Form.TheVariants as form
 use Rattle.rb_render.specs.declared.pieces.Style.{Style as Held}
@@ -19,6 +19,10 @@ puts_text P (v ∷ vs) = flat_map (λ v. line_of (shown P v)) (v ∷ vs)
 -- `print` writes the texts
 abbrev pub print_text : Program → List Value → Text
 print_text P vs = flat_map (shown P) vs
+
+-- `p` writes the inspected form of each value and a line feed
+abbrev pub p_text : Program → List Value → Text
+p_text P vs = flat_map (λ v. inspected P v ++ 10 ∷ []) vs
 
 -- all that a call writes
 abbrev pub written : Program → Form → List Value → Text
