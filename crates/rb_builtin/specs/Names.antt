@@ -24,6 +24,28 @@ name_of builtin.AtLeast = codes ">="
 name_of builtin.TimesLoop = codes "times"
 name_of builtin.Upto = codes "upto"
 name_of builtin.Length = codes "length"
+name_of builtin.Index = codes "[]"
+name_of builtin.SetIndex = codes "[]="
+name_of builtin.Append = codes "<<"
+name_of builtin.Push = codes "push"
+name_of builtin.Unshift = codes "unshift"
+name_of builtin.Pop = codes "pop"
+name_of builtin.Shift = codes "shift"
+name_of builtin.DeleteAt = codes "delete_at"
+name_of builtin.First = codes "first"
+name_of builtin.Last = codes "last"
+name_of builtin.Size = codes "size"
+name_of builtin.IsEmpty = codes "empty?"
+name_of builtin.Clear = codes "clear"
+name_of builtin.Each = codes "each"
+name_of builtin.EachWithIndex = codes "each_with_index"
+name_of builtin.Map = codes "map"
+name_of builtin.Select = codes "select"
+name_of builtin.Delete = codes "delete"
+name_of builtin.HasKey = codes "key?"
+name_of builtin.Keys = codes "keys"
+name_of builtin.Values = codes "values"
+name_of builtin.EachPair = codes "each_pair"
 
 -- the built-in method of a name
 abbrev pub builtin_of : Text → Option Builtin
@@ -45,7 +67,29 @@ builtin_of name =
     if bytes_eq name (codes "times") then Some builtin.TimesLoop else (
     if bytes_eq name (codes "upto") then Some builtin.Upto else (
     if bytes_eq name (codes "length") then Some builtin.Length else (
-    None)))))))))))))))))
+    if bytes_eq name (codes "[]") then Some builtin.Index else (
+    if bytes_eq name (codes "[]=") then Some builtin.SetIndex else (
+    if bytes_eq name (codes "<<") then Some builtin.Append else (
+    if bytes_eq name (codes "push") then Some builtin.Push else (
+    if bytes_eq name (codes "unshift") then Some builtin.Unshift else (
+    if bytes_eq name (codes "pop") then Some builtin.Pop else (
+    if bytes_eq name (codes "shift") then Some builtin.Shift else (
+    if bytes_eq name (codes "delete_at") then Some builtin.DeleteAt else (
+    if bytes_eq name (codes "first") then Some builtin.First else (
+    if bytes_eq name (codes "last") then Some builtin.Last else (
+    if bytes_eq name (codes "size") then Some builtin.Size else (
+    if bytes_eq name (codes "empty?") then Some builtin.IsEmpty else (
+    if bytes_eq name (codes "clear") then Some builtin.Clear else (
+    if bytes_eq name (codes "each") then Some builtin.Each else (
+    if bytes_eq name (codes "each_with_index") then Some builtin.EachWithIndex else (
+    if bytes_eq name (codes "map") then Some builtin.Map else (
+    if bytes_eq name (codes "select") then Some builtin.Select else (
+    if bytes_eq name (codes "delete") then Some builtin.Delete else (
+    if bytes_eq name (codes "key?") then Some builtin.HasKey else (
+    if bytes_eq name (codes "keys") then Some builtin.Keys else (
+    if bytes_eq name (codes "values") then Some builtin.Values else (
+    if bytes_eq name (codes "each_pair") then Some builtin.EachPair else (
+    None)))))))))))))))))))))))))))))))))))))))
 
 -- whether two numbers, or none, are the same
 abbrev pub same_number : Option Builtin → Option Builtin → Bool

@@ -40,6 +40,50 @@ pub enum Builtin {
     Upto,
     /// `length`
     Length,
+    /// `[]`
+    Index,
+    /// `[]=`
+    SetIndex,
+    /// `<<`
+    Append,
+    /// `push`
+    Push,
+    /// `unshift`
+    Unshift,
+    /// `pop`
+    Pop,
+    /// `shift`
+    Shift,
+    /// `delete_at`
+    DeleteAt,
+    /// `first`
+    First,
+    /// `last`
+    Last,
+    /// `size`
+    Size,
+    /// `empty?`
+    IsEmpty,
+    /// `clear`
+    Clear,
+    /// `each`
+    Each,
+    /// `each_with_index`
+    EachWithIndex,
+    /// `map`
+    Map,
+    /// `select`
+    Select,
+    /// `delete`
+    Delete,
+    /// `key?`
+    HasKey,
+    /// `keys`
+    Keys,
+    /// `values`
+    Values,
+    /// `each_pair`
+    EachPair,
 }
 
 /// The built-in method of this name, where there is one.
@@ -64,6 +108,28 @@ pub fn builtin_of(name: &[u8]) -> Option<Builtin>
         _ if name == b"times".as_slice() => Some(Builtin::TimesLoop),
         _ if name == b"upto".as_slice() => Some(Builtin::Upto),
         _ if name == b"length".as_slice() => Some(Builtin::Length),
+        _ if name == b"[]".as_slice() => Some(Builtin::Index),
+        _ if name == b"[]=".as_slice() => Some(Builtin::SetIndex),
+        _ if name == b"<<".as_slice() => Some(Builtin::Append),
+        _ if name == b"push".as_slice() => Some(Builtin::Push),
+        _ if name == b"unshift".as_slice() => Some(Builtin::Unshift),
+        _ if name == b"pop".as_slice() => Some(Builtin::Pop),
+        _ if name == b"shift".as_slice() => Some(Builtin::Shift),
+        _ if name == b"delete_at".as_slice() => Some(Builtin::DeleteAt),
+        _ if name == b"first".as_slice() => Some(Builtin::First),
+        _ if name == b"last".as_slice() => Some(Builtin::Last),
+        _ if name == b"size".as_slice() => Some(Builtin::Size),
+        _ if name == b"empty?".as_slice() => Some(Builtin::IsEmpty),
+        _ if name == b"clear".as_slice() => Some(Builtin::Clear),
+        _ if name == b"each".as_slice() => Some(Builtin::Each),
+        _ if name == b"each_with_index".as_slice() => Some(Builtin::EachWithIndex),
+        _ if name == b"map".as_slice() => Some(Builtin::Map),
+        _ if name == b"select".as_slice() => Some(Builtin::Select),
+        _ if name == b"delete".as_slice() => Some(Builtin::Delete),
+        _ if name == b"key?".as_slice() => Some(Builtin::HasKey),
+        _ if name == b"keys".as_slice() => Some(Builtin::Keys),
+        _ if name == b"values".as_slice() => Some(Builtin::Values),
+        _ if name == b"each_pair".as_slice() => Some(Builtin::EachPair),
         _ => None,
     }
 }

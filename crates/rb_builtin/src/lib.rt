@@ -9,5 +9,5 @@ mod integer;
 mod tests;
 
 pub use builtin::{Builtin, builtin_of};
-pub use deed::{Deed, Loop, deed_of};
+pub use deed::{Behind, Deed, Loop, Pass, Purpose, deed_of};
 pub use integer::{IntegerAnswer, integer_operation, is_operation};

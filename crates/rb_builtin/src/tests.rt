@@ -1,14 +1,25 @@
 // Calls of built-in methods, and what they answer.
 
-use crate::{Deed, Loop, builtin_of, deed_of};
+use crate::{Behind, Deed, Loop, Pass, Purpose, builtin_of, deed_of};
 use rb_model::{Fault, Id, Ref, SharedText, Sort, Value};
 use rb_render::add_inspected;
 use rb_tree::{Class, Items, NameId, Names, Program, Span};
 use std::alloc::{AllocError, Global};
 use std::test::Fail;
 
-/// A value by how it is written here: nil, false, true, an integer, `:` and a name, `'` and the bytes of a text, or `@` and the digit of
-/// an object's class.
+/// A thing of this sort.
+fn thing_of(sort: Sort) -> Value {
+    Value::Ref(Ref {
+        sort,
+        id: Id {
+            thread: 0,
+            serial: 1,
+        },
+    })
+}
+
+/// A value by how it is written here: nil, false, true, an integer, `:` and a name, `'` and the bytes of a text, `@` and the digit of
+/// an object's class, `[]` for an array, or `=>` for a hash.
 fn value_of(alloc: Global, names: &mut Names, written: &str) -> Result<Value, AllocError> {
     Ok(match written.as_bytes() {
         b"nil" => Value::Nil,
@@ -16,13 +27,9 @@ fn value_of(alloc: Global, names: &mut Names, written: &str) -> Result<Value, Al
         b"true" => Value::True,
         [b':', name @ ..] if names.len() < 9 => Value::Sym(names.add(name)?),
         [b'\'', text @ ..] => Value::Str(SharedText::from_slice(alloc, text)?),
-        [b'@', digit] => Value::Ref(Ref {
-            sort: Sort::Object(u32::from(digit.saturating_sub(b'0'))),
-            id: Id {
-                thread: 0,
-                serial: 1,
-            },
-        }),
+        [b'@', digit] => thing_of(Sort::Object(u32::from(digit.saturating_sub(b'0')))),
+        b"[]" => thing_of(Sort::List),
+        b"=>" => thing_of(Sort::Pairs),
         _ => Value::Int(written.parse::<i64>().unwrap_or(0)),
     })
 }
@@ -87,6 +94,38 @@ fn answer(alloc: Global, call: &str) -> Result<String, AllocError> {
         Deed::Raise(fault) => format!(in alloc; "{fault}"),
         Deed::Walk(Loop::Times(n)) => format!(in alloc; "times {n}"),
         Deed::Walk(Loop::Upto(m, n)) => format!(in alloc; "from {m} to {n}"),
+        Deed::WalkOver(_thing, pass) => String::from_str(alloc, passed(pass)),
+        Deed::Ask(_thing, _act, behind) => String::from_str(alloc, told(behind)),
+        Deed::Read(_thing, purpose) => String::from_str(alloc, read_for(purpose)),
+        Deed::WalkPairs(_thing) => String::from_str(alloc, "over pairs"),
+        Deed::Inspect(_thing) => String::from_str(alloc, "inspected"),
+    }
+}
+
+/// What is made of the elements that a block is called with.
+fn passed(pass: Pass) -> &'static str {
+    match pass {
+        Pass::Each => "over elements",
+        Pass::WithIndex => "over elements with index",
+        Pass::Map => "maps elements",
+        Pass::Select => "selects elements",
+    }
+}
+
+/// What stands behind the reply of a thing.
+fn told(behind: Behind) -> &'static str {
+    match behind {
+        Behind::Reply => "asked",
+        Behind::Receiver => "asked, gives itself",
+        Behind::IsZero => "asked for zero",
+    }
+}
+
+/// What a hash is read for.
+fn read_for(purpose: Purpose) -> &'static str {
+    match purpose {
+        Purpose::Keys => "keys",
+        Purpose::Values => "values",
     }
 }
 
@@ -200,7 +239,7 @@ fn a_text_has_so_many_bytes_and_no_more(rt: HostRuntime) -> Result<(), Fail> {
         both.push(text)?;
         text = match sum(alloc, both.as_slice())? {
             Deed::Give(value) => value,
-            Deed::Raise(_) | Deed::Walk(_) => Value::Nil,
+            _other => Value::Nil,
         };
     }
     let Value::Str(bytes) = &text else {
@@ -211,9 +250,10 @@ fn a_text_has_so_many_bytes_and_no_more(rt: HostRuntime) -> Result<(), Fail> {
     let mut more = Vec::new(alloc);
     more.push(text.share()?)?;
     more.push(Value::Str(SharedText::from_slice(alloc, b"x")?))?;
-    match sum(alloc, more.as_slice())? {
-        Deed::Raise(fault) => assert_eq!(rt; fault, Fault::TextTooLong),
-        Deed::Give(_) | Deed::Walk(_) => assert!(rt; false),
+    let refused = sum(alloc, more.as_slice())?;
+    match &refused {
+        Deed::Raise(fault) => assert_eq!(rt; *fault, Fault::TextTooLong),
+        _ => assert!(rt; false),
     }
     Ok(())
 }
