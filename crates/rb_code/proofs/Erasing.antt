@@ -10,12 +10,13 @@ use Rattle.rb_tree.specs.declared.node.Piece.TheVariants as piece
 use Rattle.rb_tree.specs.declared.node.Target.TheVariants as target
 use Rattle.rb_builtin.specs.declared.builtin.Builtin.{Builtin}
 use Rattle.rb_render.specs.declared.show.Form.{Form}
+use Rattle.rb_code.specs.declared.code.BuiltinClass.{BuiltinClass}
 use Rattle.rb_code.specs.declared.code.Code.{Code, the_lemmas}
 use Rattle.rb_code.specs.declared.code.Code.TheVariants as is
 use Rattle.rb_code.specs.declared.code.CodePiece.{CodePiece}
 use Rattle.rb_code.specs.declared.code.CodePiece.TheVariants as part
 use Rattle.rb_code.specs.declared.code.CodeBlock.{CodeBlock}
-use Rattle.rb_code.specs.Erase.{erase, erase_piece, erase_block}
+use Rattle.rb_code.specs.Erase.{erase, erase_piece, erase_block, paired}
 
 pub erase-nil : (at : Span) → erase (is.Nil at) ≡ tree.Nil at
 unfolding erase erase_piece erase_block
@@ -77,9 +78,21 @@ pub erase-update_attribute : (number : Option Builtin) (writer : Option NameId) 
 unfolding erase erase_piece erase_block
 erase-update_attribute number writer name receiver op value at = search (rules, the_lemmas)
 
-pub erase-store : (receiver : Code) (name : NameId) (args : List Code) (at : Span) → erase (is.Store receiver name args at) ≡ tree.Store (erase receiver) name (map erase args) at
+pub erase-store : (number : Option Builtin) (receiver : Code) (name : NameId) (args : List Code) (at : Span) → erase (is.Store number receiver name args at) ≡ tree.Store (erase receiver) name (map erase args) at
 unfolding erase erase_piece erase_block
-erase-store receiver name args at = search (rules, the_lemmas)
+erase-store number receiver name args at = search (rules, the_lemmas)
+
+pub erase-array : (items : List Code) (at : Span) → erase (is.Array items at) ≡ tree.Array (map erase items) at
+unfolding erase erase_piece erase_block
+erase-array items at = search (rules, the_lemmas)
+
+pub erase-hash : (items : List Code) (at : Span) → erase (is.Hash items at) ≡ tree.Hash (paired (map erase items)) at
+unfolding erase erase_piece erase_block
+erase-hash items at = search (rules, the_lemmas)
+
+pub erase-new_builtin : (class : BuiltinClass) (name : NameId) (args : List Code) (at : Span) → erase (is.NewBuiltin class name args at) ≡ tree.New name (map erase args) at
+unfolding erase erase_piece erase_block
+erase-new_builtin class name args at = search (rules, the_lemmas)
 
 pub erase-operate : (number : Option Builtin) (name : NameId) (left : Code) (right : Code) (at : Span) → erase (is.Operate number name left right at) ≡ tree.Call (Some (erase left)) name (erase right ∷ []) None at
 unfolding erase erase_piece erase_block

@@ -7,6 +7,7 @@ use Rattle.rb_tree.specs.declared.span.NameId.{NameId}
 use Rattle.rb_tree.specs.declared.node.AssignOp.{AssignOp}
 use Rattle.rb_builtin.specs.declared.builtin.Builtin.{Builtin}
 use Rattle.rb_render.specs.declared.show.Form.{Form}
+use Rattle.rb_code.specs.declared.code.BuiltinClass.{BuiltinClass}
 use Rattle.rb_code.specs.declared.code.Code.{Code, the_lemmas}
 use Rattle.rb_code.specs.declared.code.Code.TheVariants as is
 use Rattle.rb_code.specs.declared.code.CodePiece.{CodePiece}
@@ -17,7 +18,7 @@ use Rattle.std.specs.Str.{bytes_eq}
 use Rattle.rb_machine.specs.Scopes.{Script, text_of}
 use Rattle.rb_code.specs.Layout.{has_slot, have_slots, is_at}
 use Rattle.rb_code.specs.Dispatch.{is_writer}
-use Rattle.rb_code.specs.Resolved.{every, if_some, form_text, form_takes, prints, function_of, has_number, is_free, is_made, fits, piece_fits, block_fits}
+use Rattle.rb_code.specs.Resolved.{every, if_some, form_text, prints, function_of, has_number, is_free, is_made, is_builtin, is_even, fits, piece_fits, block_fits}
 
 pub fits-nil : (S : Script) (names : List NameId) (size : ℕ) (at : Span) → fits S (is.Nil at) names size ≡ (true)
 unfolding fits piece_fits block_fits
@@ -80,9 +81,21 @@ pub fits-update_attribute : (S : Script) (names : List NameId) (size : ℕ) (num
 unfolding fits piece_fits block_fits
 fits-update_attribute S names size number writer name receiver op value at = search (rules, the_lemmas)
 
-pub fits-store : (S : Script) (names : List NameId) (size : ℕ) (receiver : Code) (name : NameId) (args : List Code) (at : Span) → fits S (is.Store receiver name args at) names size ≡ (is_free (text_of S name) && (fits S receiver names size && every (map (fits S) args) names size))
+pub fits-store : (S : Script) (names : List NameId) (size : ℕ) (number : Option Builtin) (receiver : Code) (name : NameId) (args : List Code) (at : Span) → fits S (is.Store number receiver name args at) names size ≡ (has_number S number name && (fits S receiver names size && every (map (fits S) args) names size))
 unfolding fits piece_fits block_fits
-fits-store S names size receiver name args at = search (rules, the_lemmas)
+fits-store S names size number receiver name args at = search (rules, the_lemmas)
+
+pub fits-array : (S : Script) (names : List NameId) (size : ℕ) (items : List Code) (at : Span) → fits S (is.Array items at) names size ≡ (every (map (fits S) items) names size)
+unfolding fits piece_fits block_fits
+fits-array S names size items at = search (rules, the_lemmas)
+
+pub fits-hash : (S : Script) (names : List NameId) (size : ℕ) (items : List Code) (at : Span) → fits S (is.Hash items at) names size ≡ (is_even (map (fits S) items) && every (map (fits S) items) names size)
+unfolding fits piece_fits block_fits
+fits-hash S names size items at = search (rules, the_lemmas)
+
+pub fits-new_builtin : (S : Script) (names : List NameId) (size : ℕ) (class : BuiltinClass) (name : NameId) (args : List Code) (at : Span) → fits S (is.NewBuiltin class name args at) names size ≡ (is_builtin S class name && every (map (fits S) args) names size)
+unfolding fits piece_fits block_fits
+fits-new_builtin S names size class name args at = search (rules, the_lemmas)
 
 pub fits-operate : (S : Script) (names : List NameId) (size : ℕ) (number : Option Builtin) (name : NameId) (left : Code) (right : Code) (at : Span) → fits S (is.Operate number name left right at) names size ≡ (has_number S number name && (fits S left names size && fits S right names size))
 unfolding fits piece_fits block_fits
@@ -112,7 +125,7 @@ pub fits-start : (S : Script) (names : List NameId) (size : ℕ) (args : List Co
 unfolding fits piece_fits block_fits
 fits-start S names size args body slots at = search (rules, the_lemmas)
 
-pub fits-print : (S : Script) (names : List NameId) (size : ℕ) (form : Form) (name : NameId) (args : List Code) (at : Span) → fits S (is.Print form name args at) names size ≡ (is_none (function_of S name) && (bytes_eq (text_of S name) (form_text form) && (form_takes form (length (map (fits S) args)) && every (map (fits S) args) names size)))
+pub fits-print : (S : Script) (names : List NameId) (size : ℕ) (form : Form) (name : NameId) (args : List Code) (at : Span) → fits S (is.Print form name args at) names size ≡ (is_none (function_of S name) && (bytes_eq (text_of S name) (form_text form) && every (map (fits S) args) names size))
 unfolding fits piece_fits block_fits
 fits-print S names size form name args at = search (rules, the_lemmas)
 

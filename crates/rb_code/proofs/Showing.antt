@@ -11,12 +11,13 @@ use Rattle.rb_tree.specs.declared.node.Target.TheVariants as target
 use Rattle.rb_builtin.specs.declared.builtin.Builtin.{Builtin}
 use Rattle.rb_render.specs.declared.show.Form.{Form}
 use Rattle.rb_tree.specs.declared.node.Node.{the_lemmas}
+use Rattle.rb_code.specs.declared.code.BuiltinClass.{BuiltinClass}
 use Rattle.rb_code.specs.declared.code.Code.{Code}
 use Rattle.rb_code.specs.declared.code.Code.TheVariants as is
 use Rattle.rb_code.specs.declared.code.CodePiece.{CodePiece}
 use Rattle.rb_code.specs.declared.code.CodeBlock.{CodeBlock}
-use Rattle.rb_code.specs.Erase.{erase, erase_piece, erase_block}
-use Rattle.rb_code.proofs.Erasing.{erase-nil, erase-false, erase-true, erase-self_ref, erase-int, erase-sym, erase-str, erase-local, erase-set_local, erase-field, erase-set_field, erase-update_local, erase-update_field, erase-update_element, erase-update_attribute, erase-store, erase-operate, erase-send, erase-walk, erase-function, erase-own, erase-new, erase-start, erase-print, erase-and, erase-or, erase-not, erase-if, erase-while, erase-return, erase-break, erase-next}
+use Rattle.rb_code.specs.Erase.{erase, erase_piece, erase_block, paired}
+use Rattle.rb_code.proofs.Erasing.{erase-nil, erase-false, erase-true, erase-self_ref, erase-int, erase-sym, erase-str, erase-local, erase-set_local, erase-field, erase-set_field, erase-update_local, erase-update_field, erase-update_element, erase-update_attribute, erase-store, erase-array, erase-hash, erase-new_builtin, erase-operate, erase-send, erase-walk, erase-function, erase-own, erase-new, erase-start, erase-print, erase-and, erase-or, erase-not, erase-if, erase-while, erase-return, erase-break, erase-next}
 
 pub shows-nil : (c : Code) (at : Span) → c ≡ is.Nil at → out-Node (erase c) ≡ node.Nil at
 shows-nil c at e = ap (λ c. out-Node (erase c)) e ∙ (ap out-Node (erase-nil at) ∙ search (rules, the_lemmas))
@@ -63,8 +64,17 @@ shows-update_element c receiver index op value at e = ap (λ c. out-Node (erase 
 pub shows-update_attribute : (c : Code) (number : Option Builtin) (writer : Option NameId) (name : NameId) (receiver : Code) (op : AssignOp) (value : Code) (at : Span) → c ≡ is.UpdateAttribute number writer name receiver op value at → out-Node (erase c) ≡ node.OpAssign (target.Attribute (erase receiver) name) op (erase value) at
 shows-update_attribute c number writer name receiver op value at e = ap (λ c. out-Node (erase c)) e ∙ (ap out-Node (erase-update_attribute number writer name receiver op value at) ∙ search (rules, the_lemmas))
 
-pub shows-store : (c : Code) (receiver : Code) (name : NameId) (args : List Code) (at : Span) → c ≡ is.Store receiver name args at → out-Node (erase c) ≡ node.Store (erase receiver) name (map erase args) at
-shows-store c receiver name args at e = ap (λ c. out-Node (erase c)) e ∙ (ap out-Node (erase-store receiver name args at) ∙ search (rules, the_lemmas))
+pub shows-store : (c : Code) (number : Option Builtin) (receiver : Code) (name : NameId) (args : List Code) (at : Span) → c ≡ is.Store number receiver name args at → out-Node (erase c) ≡ node.Store (erase receiver) name (map erase args) at
+shows-store c number receiver name args at e = ap (λ c. out-Node (erase c)) e ∙ (ap out-Node (erase-store number receiver name args at) ∙ search (rules, the_lemmas))
+
+pub shows-array : (c : Code) (items : List Code) (at : Span) → c ≡ is.Array items at → out-Node (erase c) ≡ node.Array (map erase items) at
+shows-array c items at e = ap (λ c. out-Node (erase c)) e ∙ (ap out-Node (erase-array items at) ∙ search (rules, the_lemmas))
+
+pub shows-hash : (c : Code) (items : List Code) (at : Span) → c ≡ is.Hash items at → out-Node (erase c) ≡ node.Hash (paired (map erase items)) at
+shows-hash c items at e = ap (λ c. out-Node (erase c)) e ∙ (ap out-Node (erase-hash items at) ∙ search (rules, the_lemmas))
+
+pub shows-new_builtin : (c : Code) (class : BuiltinClass) (name : NameId) (args : List Code) (at : Span) → c ≡ is.NewBuiltin class name args at → out-Node (erase c) ≡ node.New name (map erase args) at
+shows-new_builtin c class name args at e = ap (λ c. out-Node (erase c)) e ∙ (ap out-Node (erase-new_builtin class name args at) ∙ search (rules, the_lemmas))
 
 pub shows-operate : (c : Code) (number : Option Builtin) (name : NameId) (left : Code) (right : Code) (at : Span) → c ≡ is.Operate number name left right at → out-Node (erase c) ≡ node.Call (Some (erase left)) name (erase right ∷ []) None at
 shows-operate c number name left right at e = ap (λ c. out-Node (erase c)) e ∙ (ap out-Node (erase-operate number name left right at) ∙ search (rules, the_lemmas))

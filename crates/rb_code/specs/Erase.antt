@@ -1,5 +1,5 @@
 -- The syntax tree that a resolved tree stands for.
-use Rattle.std.specs.Prelude.{[], ◌∷◌, Some, None, map}
+use Rattle.std.specs.Prelude.{List, [], ◌∷◌, Some, None, map}
 use Rattle.rb_tree.specs.declared.node.Node.{Node}
 use Rattle.rb_tree.specs.declared.node.Node.TheVariants as tree
 use Rattle.rb_tree.specs.declared.node.Piece.{Piece}
@@ -24,6 +24,11 @@ abbrev pub erase_piece_step : CodePiece-F Node Piece Block → Piece
 erase_piece_step (code.Text text) = piece.Text text
 erase_piece_step (code.Code c) = piece.Code c
 
+-- keys and values by turns, as pairs
+abbrev pub paired : {X : Type 0} → List X → List (X × X)
+paired (k ∷ v ∷ vs) = (k, v) ∷ paired vs
+paired others = []
+
 -- one layer, with the nodes of its parts: numbers go, names stay
 abbrev pub erase_step : Code-F Node Piece Block → Node
 erase_step (code.Nil at) = tree.Nil at
@@ -33,6 +38,8 @@ erase_step (code.SelfRef at) = tree.SelfRef at
 erase_step (code.Int n at) = tree.Int n at
 erase_step (code.Sym name at) = tree.Sym name at
 erase_step (code.Str pieces at) = tree.Str pieces at
+erase_step (code.Array items at) = tree.Array items at
+erase_step (code.Hash items at) = tree.Hash (paired items) at
 erase_step (code.Local slot name at) = tree.Local name at
 erase_step (code.SetLocal slot name value at) = tree.SetLocal name value at
 erase_step (code.Field name at) = tree.Field name at
@@ -41,13 +48,14 @@ erase_step (code.UpdateLocal slot name op value at) = tree.OpAssign (target.Loca
 erase_step (code.UpdateField name op value at) = tree.OpAssign (target.Field name) op value at
 erase_step (code.UpdateElement receiver index op value at) = tree.OpAssign (target.Index receiver index) op value at
 erase_step (code.UpdateAttribute number writer name receiver op value at) = tree.OpAssign (target.Attribute receiver name) op value at
-erase_step (code.Store receiver name args at) = tree.Store receiver name args at
+erase_step (code.Store number receiver name args at) = tree.Store receiver name args at
 erase_step (code.Operate number name left right at) = tree.Call (Some left) name (right ∷ []) None at
 erase_step (code.Send number name receiver args at) = tree.Call (Some receiver) name args None at
 erase_step (code.Walk number name receiver args block at) = tree.Call (Some receiver) name args (Some block) at
 erase_step (code.Function number name args at) = tree.Call None name args None at
 erase_step (code.Own name args at) = tree.Call None name args None at
 erase_step (code.New class first name args at) = tree.New name args at
+erase_step (code.NewBuiltin class name args at) = tree.New name args at
 erase_step (code.Start args body slots at) = tree.ThreadNew args body at
 erase_step (code.Print form name args at) = tree.Call None name args None at
 erase_step (code.And left right at) = tree.And left right at

@@ -1,5 +1,5 @@
 -- Where the numbers of a resolved tree are right for a script.
-use Rattle.std.specs.Prelude.{ℕ, ◌+◌, Bool, true, not, ◌&&◌, ◌||◌, ◌==◌, nat_le, is_none, List, [], ◌∷◌, ◌++◌, length, map, position, Option, Some, None, codes}
+use Rattle.std.specs.Prelude.{ℕ, ◌+◌, Bool, true, false, not, ◌&&◌, ◌||◌, ◌==◌, nat_le, is_none, List, [], ◌∷◌, ◌++◌, length, map, position, Option, Some, None, codes}
 use Rattle.std.specs.List.{list_all}
 use Rattle.std.specs.Str.{bytes_eq}
 use Rattle.rb_tree.specs.declared.span.NameId.{NameId}
@@ -10,6 +10,8 @@ use Rattle.rb_builtin.specs.declared.builtin.Builtin.{Builtin}
 use Rattle.rb_builtin.specs.Names.{builtin_of, same_number}
 use Rattle.rb_render.specs.declared.show.Form.{Form}
 use Rattle.rb_render.specs.declared.show.Form.TheVariants as form
+use Rattle.rb_code.specs.declared.code.BuiltinClass.{BuiltinClass}
+use Rattle.rb_code.specs.declared.code.BuiltinClass.TheVariants as builtin_class
 use Rattle.rb_code.specs.declared.code.Code.{Code, fold-Code}
 use Rattle.rb_code.specs.declared.code.CodePiece.{CodePiece, fold-CodePiece}
 use Rattle.rb_code.specs.declared.code.CodeBlock.{CodeBlock, fold-CodeBlock}
@@ -44,10 +46,16 @@ form_text form.Inspect = codes "p"
 abbrev pub prints : List ℕ → Bool
 prints text = bytes_eq text (codes "puts") || (bytes_eq text (codes "print") || bytes_eq text (codes "p"))
 
--- `p` of several values makes an array, which is not built yet
-abbrev pub form_takes : Form → ℕ → Bool
-form_takes form.Inspect count = nat_le count 1
-form_takes other count = true
+-- the names of the classes that are built in
+abbrev pub class_text : BuiltinClass → List ℕ
+class_text builtin_class.Array = codes "Array"
+class_text builtin_class.Hash = codes "Hash"
+
+-- whether keys and values stand by turns
+abbrev pub is_even : {X : Type 0} → List X → Bool
+is_even [] = true
+is_even (x ∷ []) = false
+is_even (x ∷ y ∷ xs) = is_even xs
 
 -- the same number, or none
 abbrev pub same_place : Option ℕ → Option ℕ → Bool
@@ -73,6 +81,10 @@ module _ (S : Script) where
   abbrev pub is_made : ℕ → Option ℕ → NameId → Bool
   is_made class first name = is_at (class_from S 0 name S.program.classes) class && same_place (method_number S (codes "initialize") class) first
 
+  -- whether this is the name of a class that is built in, and of none of the script
+  abbrev pub is_builtin : BuiltinClass → NameId → Bool
+  is_builtin class name = is_none (class_from S 0 name S.program.classes) && bytes_eq (text_of S name) (class_text class)
+
   abbrev pub piece_step : CodePiece-F Fits Fits Fits → Fits
   piece_step (code.Text text) names size = true
   piece_step (code.Code c) names size = c names size
@@ -85,6 +97,8 @@ module _ (S : Script) where
 
   abbrev pub node_step : Code-F Fits Fits Fits → Fits
   node_step (code.Str pieces at) names size = every pieces names size
+  node_step (code.Array items at) names size = every items names size
+  node_step (code.Hash items at) names size = is_even items && every items names size
   node_step (code.Local slot name at) names size = has_slot name names slot
   node_step (code.SetLocal slot name value at) names size = has_slot name names slot && value names size
   node_step (code.UpdateLocal slot name op value at) names size = has_slot name names slot && value names size
@@ -93,16 +107,17 @@ module _ (S : Script) where
   node_step (code.UpdateElement receiver index op value at) names size = receiver names size && (index names size && value names size)
   node_step (code.UpdateAttribute number writer name receiver op value at) names size =
       has_number number name && (is_writer S writer name && (is_free (text_of S name ++ codes "=") && (receiver names size && value names size)))
-  node_step (code.Store receiver name args at) names size = is_free (text_of S name) && (receiver names size && every args names size)
+  node_step (code.Store number receiver name args at) names size = has_number number name && (receiver names size && every args names size)
   node_step (code.Operate number name left right at) names size = has_number number name && (left names size && right names size)
   node_step (code.Send number name receiver args at) names size = has_number number name && (receiver names size && every args names size)
   node_step (code.Walk number name receiver args block at) names size = has_number number name && (receiver names size && (every args names size && block names size))
   node_step (code.Function number name args at) names size = is_at (function_of name) number && every args names size
   node_step (code.Own name args at) names size = is_none (function_of name) && (not (prints (text_of S name)) && every args names size)
   node_step (code.New class first name args at) names size = is_made class first name && every args names size
+  node_step (code.NewBuiltin class name args at) names size = is_builtin class name && every args names size
   node_step (code.Start args body slots at) names size = have_slots (S.captured_names body) names slots && every args names size
   node_step (code.Print form name args at) names size =
-      is_none (function_of name) && (bytes_eq (text_of S name) (form_text form) && (form_takes form (length args) && every args names size))
+      is_none (function_of name) && (bytes_eq (text_of S name) (form_text form) && every args names size)
   node_step (code.And left right at) names size = left names size && right names size
   node_step (code.Or left right at) names size = left names size && right names size
   node_step (code.Not value at) names size = value names size

@@ -5,6 +5,13 @@ use rb_model::SharedText;
 use rb_render::Form;
 use rb_tree::{AssignOp, Boxed, Items, NameId, Param, Span};
 
+/// The classes that are built in and have `new`.
+#[derive(Clone, Copy, Debug, PartialEq, Eq)]
+pub enum BuiltinClass {
+    Array,
+    Hash,
+}
+
 /// The block of a call. Its own locals lie in the slots from `from` on, its parameters first, within the frame of the method round it.
 #[cycle(code)]
 #[derive(Drop)]
@@ -39,6 +46,9 @@ pub enum Code {
     Sym(NameId, Span),
     /// A text.
     Str(Items<CodePiece>, Span),
+    /// The literal of an array, and that of a hash, whose keys and values stand by turns.
+    Array(Items<Code>, Span),
+    Hash(Items<Code>, Span),
     /// A local, by its slot.
     Local(u32, NameId, Span),
     SetLocal(u32, NameId, Boxed<Code>, Span),
@@ -59,8 +69,8 @@ pub enum Code {
         Boxed<Code>,
         Span,
     ),
-    /// An assignment by the call of a method, which is not built in.
-    Store(Boxed<Code>, NameId, Items<Code>, Span),
+    /// An assignment by the call of a method.
+    Store(Option<Builtin>, Boxed<Code>, NameId, Items<Code>, Span),
     /// A call with one argument and without a block.
     Operate(Option<Builtin>, NameId, Boxed<Code>, Boxed<Code>, Span),
     /// A call with a receiver, without a block.
@@ -73,6 +83,8 @@ pub enum Code {
     Own(NameId, Items<Code>, Span),
     /// A new object of the class of this number, whose method `initialize`, where it has one, is the one of this number among its methods.
     New(u32, Option<u32>, NameId, Items<Code>, Span),
+    /// A new array or a new hash.
+    NewBuiltin(BuiltinClass, NameId, Items<Code>, Span),
     /// The start of a thread whose body has this number, with the slots of the locals that the body captures, in the order of their first use.
     Start(Items<Code>, u32, Items<u32>, Span),
     /// A call of `puts`, `print` or `p`.

@@ -5,5 +5,5 @@
 mod code;
 mod scripted;
 
-pub use code::{Code, CodeBlock, CodePiece};
+pub use code::{BuiltinClass, Code, CodeBlock, CodePiece};
 pub use scripted::{CodeBody, CodeClass, CodeMethod, CodeScript, Found};

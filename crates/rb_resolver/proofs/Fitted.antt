@@ -4,7 +4,7 @@ use Rattle.std.specs.Prelude.{nat_le}
 use Rattle.std.specs.List.{list_all}
 use Rattle.std.specs.Option.{option_map}
 use Rattle.std.proofs.lemmas.Bool.Decides.{nat_tests}
-use Rattle.std.proofs.lemmas.List.{take_more, take_at, map-append, length-map, get_or-map}
+use Rattle.std.proofs.lemmas.List.{append_assoc, take_more, take_at, map-append, length-map, get_or-map}
 use Rattle.rb_tree.specs.declared.span.Span.{Span}
 use Rattle.rb_tree.specs.declared.span.NameId.{NameId}
 use Rattle.rb_tree.specs.declared.node.AssignOp.{AssignOp}
@@ -18,10 +18,10 @@ use Rattle.rb_code.specs.declared.code.Code.{Code}
 use Rattle.rb_code.specs.declared.code.Code.TheVariants as is
 use Rattle.rb_code.specs.declared.code.CodePiece.{CodePiece}
 use Rattle.rb_code.specs.declared.code.CodeBlock.{CodeBlock}
-use Rattle.rb_code.specs.Erase.{erase, erase_block}
+use Rattle.rb_code.specs.Erase.{erase, erase_block, paired}
 use Rattle.rb_code.specs.Layout.{has_slot}
-use Rattle.rb_code.specs.Resolved.{Fits, every, if_some, fits, piece_fits, block_fits}
-use Rattle.rb_code.proofs.Fitting.{fits-str, fits-local, fits-set_local, fits-update_local, fits-update_element, fits-and, fits-or, fits-not, fits-if, fits-while, fits-return, block_fits-parts}
+use Rattle.rb_code.specs.Resolved.{Fits, every, if_some, is_even, fits, piece_fits, block_fits}
+use Rattle.rb_code.proofs.Fitting.{fits-str, fits-array, fits-hash, fits-local, fits-set_local, fits-update_local, fits-update_element, fits-and, fits-or, fits-not, fits-if, fits-while, fits-return, block_fits-parts}
 use Rattle.rb_code.proofs.Dispatched.{conjunction, conjunction_rest}
 use Rattle.rb_code.proofs.Erasing.{erase_block-parts}
 use Rattle.rb_resolver.proofs.Numbered.{both}
@@ -30,9 +30,21 @@ use Rattle.rb_resolver.proofs.Numbered.{both}
 pub at_names : (f : Fits) (old new : List NameId) (size : ℕ) → new ≡ old → f new size ≡ true → f old size ≡ true
 at_names f old new size e h = ap (λ ns. f ns size) (sym e) ∙ h
 
+-- as many keys as values, whatever is made of them
+even-map : {A B : Type 0} (f : A → B) (xs : List A) → is_even (map f xs) ≡ is_even xs
+even-map f [] = refl
+even-map f (x ∷ []) = refl
+even-map f (x ∷ y ∷ xs) = even-map f xs
+
 module _ (S : Script) (names : List NameId) (size : ℕ) where
   pub str_fits : (pieces : List CodePiece) (at : Span) → every (map (piece_fits S) pieces) names size ≡ true → fits S (is.Str pieces at) names size ≡ true
   str_fits pieces at p = fits-str S names size pieces at ∙ p
+
+  pub array_fits : (items : List Code) (at : Span) → every (map (fits S) items) names size ≡ true → fits S (is.Array items at) names size ≡ true
+  array_fits items at i = fits-array S names size items at ∙ i
+
+  pub hash_fits : (items : List Code) (at : Span) → is_even items ≡ true → every (map (fits S) items) names size ≡ true → fits S (is.Hash items at) names size ≡ true
+  hash_fits items at even i = fits-hash S names size items at ∙ both _ _ (even-map (fits S) items ∙ even) i
 
   pub local_fits : (slot : ℕ) (name : NameId) (at : Span) → has_slot name names slot ≡ true → fits S (is.Local slot name at) names size ≡ true
   local_fits slot name at h = fits-local S names size slot name at ∙ h
@@ -85,6 +97,28 @@ module _ {A B : Type 0} where
   pub map_next : (f : B → A) (xs new : List A) (x : A) (ys : List B) (y : B) (i : ℕ) → new ≡ xs ++ x ∷ [] → xs ≡ map f (take i ys) → x ≡ f y → i < length ys → y ≡ get_or ys i y → new ≡ map f (take (i + 1) ys)
   map_next f xs new x ys y i is old e h at =
       is ∙ ap (λ zs. zs ++ x ∷ []) old ∙ ap (λ z. map f (take i ys) ++ z ∷ []) (e ∙ ap f at) ∙ sym (map-append f (take i ys) (get_or ys i y ∷ [])) ∙ sym (ap (map f) (take_more ys i y h))
+
+-- one more pair behind keys and values by turns
+module _ {A : Type 0} where
+  pub even_more : (xs : List A) (x y : A) → is_even xs ≡ true → is_even (xs ++ x ∷ y ∷ []) ≡ true
+  even_more [] x y h = refl
+  even_more (z ∷ []) x y h = absurd (cc)
+  even_more (z ∷ w ∷ xs) x y h = even_more xs x y h
+
+  paired_more : (xs : List A) (x y : A) → is_even xs ≡ true → paired (xs ++ x ∷ y ∷ []) ≡ paired xs ++ (x, y) ∷ []
+  paired_more [] x y h = refl
+  paired_more (z ∷ []) x y h = absurd (cc)
+  paired_more (z ∷ w ∷ xs) x y h = ap (λ ps. (z, w) ∷ ps) (paired_more xs x y h)
+
+  -- two elements that are added one behind the other
+  pub pushed_twice : (xs between new : List A) (x y : A) → between ≡ xs ++ x ∷ [] → new ≡ between ++ y ∷ [] → new ≡ xs ++ x ∷ y ∷ []
+  pushed_twice xs between new x y first second = second ∙ ap (λ zs. zs ++ y ∷ []) first ∙ append_assoc xs (x ∷ []) (y ∷ [])
+
+pub paired_pushed : {A B : Type 0} (f : A → B) (xs new : List A) (x y : A) (ps : List (B × B)) (p : B × B) (i : ℕ) → new ≡ xs ++ x ∷ y ∷ [] → is_even xs ≡ true → paired (map f xs) ≡ take i ps
+    → f x ≡ p.0 → f y ≡ p.1 → i < length ps → p ≡ get_or ps i p → paired (map f new) ≡ take (i + 1) ps
+paired_pushed f xs new x y ps p i is even old e g h at =
+    ap (λ zs. paired (map f zs)) is ∙ ap paired (map-append f xs (x ∷ y ∷ [])) ∙ paired_more (map f xs) (f x) (f y) (even-map f xs ∙ even)
+    ∙ ap (λ qs. qs ++ (f x, f y) ∷ []) old ∙ ap (λ q. take i ps ++ q ∷ []) (ap (λ a. (a, f y)) e ∙ ap (λ b. (p.0, b)) g ∙ at) ∙ sym (take_more ps i p h)
 
 pub every_pushed : {A : Type 0} (f : A → Fits) (xs new : List A) (x : A) (names : List NameId) (size : ℕ) → new ≡ xs ++ x ∷ [] → every (map f xs) names size ≡ true → f x names size ≡ true → every (map f new) names size ≡ true
 every_pushed {A = A} f xs new x names size is old h = ap (λ zs. every (map f zs) names size) is ∙ more xs old

@@ -4,7 +4,6 @@ use Rattle.std.specs.Prelude.{◌&&◌, ◌||◌, not, is_none, slice_get, unwra
 use Rattle.std.specs.Str.{bytes_eq}
 use Rattle.std.specs.HashMap as hash
 use Rattle.std.specs.Prelude.{nat_eq, codes}
-use Rattle.std.proofs.lemmas.List.{length-map}
 use Rattle.rb_tree.specs.Texts.{number_of as numbered}
 use Rattle.rb_tree.proofs.Numbering.{bytes_eq-same, slice_get-number_of}
 use Rattle.rb_tree.specs.declared.span.Span.{Span}
@@ -16,14 +15,16 @@ use Rattle.rb_builtin.specs.declared.builtin.Builtin.{Builtin}
 use Rattle.rb_builtin.specs.Names.{builtin_of, same_number}
 use Rattle.rb_render.specs.declared.show.Form.{Form}
 use Rattle.rb_render.specs.declared.show.Form.TheVariants as form
+use Rattle.rb_code.specs.declared.code.BuiltinClass.{BuiltinClass}
+use Rattle.rb_code.specs.declared.code.BuiltinClass.TheVariants as builtin_class
 use Rattle.rb_code.specs.declared.code.Code.{Code}
 use Rattle.rb_code.specs.declared.code.Code.TheVariants as is
 use Rattle.rb_code.specs.declared.code.CodeBlock.{CodeBlock}
 use Rattle.rb_code.specs.Layout.{is_at}
 use Rattle.rb_code.specs.Dispatch.{method_number, in_no_class, is_writer}
-use Rattle.rb_code.specs.Resolved.{every, form_text, form_takes, prints, function_of, has_number, is_free, same_place, fits, block_fits}
-use Rattle.rb_code.proofs.Fitting.{fits-function, fits-own, fits-print, fits-send, fits-operate, fits-walk, fits-store, fits-update_attribute, fits-new}
-use Rattle.rb_resolver.specs.Known.{form_of, IsKnown}
+use Rattle.rb_code.specs.Resolved.{every, form_text, prints, class_text, function_of, has_number, is_free, same_place, fits, block_fits}
+use Rattle.rb_code.proofs.Fitting.{fits-function, fits-own, fits-print, fits-send, fits-operate, fits-walk, fits-store, fits-update_attribute, fits-new, fits-new_builtin}
+use Rattle.rb_resolver.specs.Known.{form_of, builtin_class_of, IsKnown}
 use Rattle.rb_resolver.specs.declared.known.Known.{Known}
 use Rattle.rb_resolver.proofs.Layers.{same_number_itself}
 
@@ -77,6 +78,24 @@ form_is text form.Puts h = choose (bytes_eq text (codes "puts")) (bytes_eq text 
 form_is text form.Print h = choose (bytes_eq text (codes "puts")) (bytes_eq text (codes "print")) (bytes_eq text (codes "p")) form.Print h
 form_is text form.Inspect h = choose (bytes_eq text (codes "puts")) (bytes_eq text (codes "print")) (bytes_eq text (codes "p")) form.Inspect h
 
+-- the class of a name is one whose name it is
+chosen_class : BuiltinClass → Bool → Bool → Bool
+chosen_class builtin_class.Array a b = a
+chosen_class builtin_class.Hash a b = b
+
+choose_class : (a b : Bool) (class : BuiltinClass) → cond a (Some builtin_class.Array) (cond b (Some builtin_class.Hash) None) ≡ Some class → chosen_class class a b ≡ true
+unfolding chosen_class
+choose_class true b builtin_class.Array h = refl
+choose_class true b builtin_class.Hash h = absurd (cc)
+choose_class false true builtin_class.Array h = absurd (cc)
+choose_class false true builtin_class.Hash h = refl
+choose_class false false class h = absurd (cc)
+
+class_is : (name : Text) (class : BuiltinClass) → builtin_class_of name ≡ Some class → bytes_eq name (class_text class) ≡ true
+unfolding chosen_class
+class_is name builtin_class.Array h = choose_class (bytes_eq name (codes "Array")) (bytes_eq name (codes "Hash")) builtin_class.Array h
+class_is name builtin_class.Hash h = choose_class (bytes_eq name (codes "Array")) (bytes_eq name (codes "Hash")) builtin_class.Hash h
+
 -- the texts with `=` behind them that are names of built-in methods
 none_more : (b : Bool) → (b && false) ≡ false
 none_more true = refl
@@ -105,13 +124,14 @@ is_before [] (y ∷ z ∷ zs) = none_more (nat_eq 61 y)
 is_before (x ∷ xs) (y ∷ ys) = ap (λ b. nat_eq x y && b) (is_before xs ys)
 
 pub writer_is : (text : List ℕ) → is_free (text ++ codes "=")
-    ≡ cond (bytes_eq text (codes "=")) false (cond (bytes_eq text (codes "<")) false (cond (bytes_eq text (codes ">")) false true))
+    ≡ cond (bytes_eq text (codes "=")) false (cond (bytes_eq text (codes "<")) false (cond (bytes_eq text (codes ">")) false (cond (bytes_eq text (codes "[]")) false true)))
 unfolding ends
 writer_is text =
     rw (
       is_before text (codes "="),
       is_before text (codes "<"),
       is_before text (codes ">"),
+      is_before text (codes "[]"),
       is_other text (codes "nil?") refl,
       is_other text (codes "to_s") refl,
       is_other text (codes "inspect") refl,
@@ -126,6 +146,27 @@ writer_is text =
       is_other text (codes "times") refl,
       is_other text (codes "upto") refl,
       is_other text (codes "length") refl,
+      is_other text (codes "[]") refl,
+      is_other text (codes "<<") refl,
+      is_other text (codes "push") refl,
+      is_other text (codes "unshift") refl,
+      is_other text (codes "pop") refl,
+      is_other text (codes "shift") refl,
+      is_other text (codes "delete_at") refl,
+      is_other text (codes "first") refl,
+      is_other text (codes "last") refl,
+      is_other text (codes "size") refl,
+      is_other text (codes "empty?") refl,
+      is_other text (codes "clear") refl,
+      is_other text (codes "each") refl,
+      is_other text (codes "each_with_index") refl,
+      is_other text (codes "map") refl,
+      is_other text (codes "select") refl,
+      is_other text (codes "delete") refl,
+      is_other text (codes "key?") refl,
+      is_other text (codes "keys") refl,
+      is_other text (codes "values") refl,
+      is_other text (codes "each_pair") refl,
     )
     (search rules)
 
@@ -153,10 +194,10 @@ pub walk_fits : (S : Script) (scope : List NameId) (size : ℕ) (number : Option
 walk_fits S scope size number name receiver args block at n r a b =
     fits-walk S scope size number name receiver args block at ∙ both _ _ n (both _ _ r (both _ _ a b))
 
-pub store_fits : (S : Script) (scope : List NameId) (size : ℕ) (names : List Text) (name : NameId) (receiver : Code) (args : List Code) (at : Span) → S.program.names ≡ names
-    → is_free (name_text names name) ≡ true → fits S receiver scope size ≡ true → every (map (fits S) args) scope size ≡ true → fits S (is.Store receiver name args at) scope size ≡ true
-store_fits S scope size names name receiver args at texts free r a =
-    fits-store S scope size receiver name args at ∙ both _ _ (ap (λ ns. is_free (name_text ns name)) texts ∙ free) (both _ _ r a)
+pub store_fits : (S : Script) (scope : List NameId) (size : ℕ) (number : Option Builtin) (receiver : Code) (name : NameId) (args : List Code) (at : Span) → has_number S number name ≡ true
+    → fits S receiver scope size ≡ true → every (map (fits S) args) scope size ≡ true → fits S (is.Store number receiver name args at) scope size ≡ true
+store_fits S scope size number receiver name args at n r a =
+    fits-store S scope size number receiver name args at ∙ both _ _ n (both _ _ r a)
 
 module _ (known : Known) (names : List Text) (S : Script) (k : IsKnown known names S) (scope : List NameId) (size : ℕ) where
   pub function_fits : (number : ℕ) (name : NameId) (args : List Code) (at : Span) → Some number ≡ hash.get nat_eq known.functions name.0
@@ -164,11 +205,11 @@ module _ (known : Known) (names : List Text) (S : Script) (k : IsKnown known nam
   function_fits number name args at h a =
       fits-function S scope size number name args at ∙ both _ _ (is_at_itself (function_of S name) number (sym (h ∙ k.functions name))) a
 
-  pub print_fits : (f : Form) (name : NameId) (args : List Code) (at : Span) → None ≡ hash.get nat_eq known.functions name.0 → Some f ≡ form_of (name_text names name) → form_takes f (length args) ≡ true
+  pub print_fits : (f : Form) (name : NameId) (args : List Code) (at : Span) → None ≡ hash.get nat_eq known.functions name.0 → Some f ≡ form_of (name_text names name)
       → every (map (fits S) args) scope size ≡ true → fits S (is.Print f name args at) scope size ≡ true
-  print_fits f name args at h is takes a =
+  print_fits f name args at h is a =
       fits-print S scope size f name args at ∙ both _ _ (sym (ap is_none (h ∙ k.functions name)))
-      (both _ _ (form_is (text_of S name) f (ap (λ ns. form_of (name_text ns name)) k.texts ∙ sym is)) (both _ _ (ap (form_takes f) (length-map args (fits S)) ∙ takes) a))
+      (both _ _ (form_is (text_of S name) f (ap (λ ns. form_of (name_text ns name)) k.texts ∙ sym is)) a)
 
   pub own_fits : (name : NameId) (args : List Code) (at : Span) → None ≡ hash.get nat_eq known.functions name.0 → None ≡ form_of (name_text names name)
       → every (map (fits S) args) scope size ≡ true → fits S (is.Own name args at) scope size ≡ true
@@ -195,6 +236,12 @@ module _ (known : Known) (names : List Text) (S : Script) (k : IsKnown known nam
   new_fits class first name args at h f a =
       fits-new S scope size class first name args at
       ∙ both _ _ (both _ _ (is_at_itself (class_from S 0 name S.program.classes) class (sym (h ∙ k.classes name))) (same_place_as (method_number S (codes "initialize") class) first (f ∙ k.firsts class))) a
+
+  pub new_builtin_fits : (class : BuiltinClass) (name : NameId) (args : List Code) (at : Span) → None ≡ hash.get nat_eq known.classes name.0 → Some class ≡ builtin_class_of (name_text names name)
+      → every (map (fits S) args) scope size ≡ true → fits S (is.NewBuiltin class name args at) scope size ≡ true
+  new_builtin_fits class name args at h is a =
+      fits-new_builtin S scope size class name args at
+      ∙ both _ _ (both _ _ (sym (ap is_none (h ∙ k.classes name))) (class_is (text_of S name) class (ap (λ ns. builtin_class_of (name_text ns name)) k.texts ∙ sym is))) a
 
 -- a list of one
 pub only_one : (args rest : List Code) (right : Code) → length args ≡ 1 → args ≡ rest ++ right ∷ [] → args ≡ right ∷ []

@@ -13,8 +13,10 @@ use Rattle.rb_render.specs.declared.show.Form.{Form}
 use Rattle.rb_render.specs.declared.show.Form.TheVariants as form
 use Rattle.rb_checker.specs.Scoped.{names_at}
 use Rattle.rb_checker.specs.Threads.{captured_of, frame_of}
+use Rattle.rb_code.specs.declared.code.BuiltinClass.{BuiltinClass}
+use Rattle.rb_code.specs.declared.code.BuiltinClass.TheVariants as builtin_class
 use Rattle.rb_code.specs.Dispatch.{method_number, in_no_class}
-use Rattle.rb_code.specs.Resolved.{function_of}
+use Rattle.rb_code.specs.Resolved.{function_of, class_text}
 use Rattle.rb_resolver.specs.declared.known.Known.{Known}
 
 -- the number of the first method of a name
@@ -41,6 +43,13 @@ form_of text =
     if bytes_eq text (codes "print") then Some form.Print else (
     if bytes_eq text (codes "p") then Some form.Inspect else (
     None)))
+
+-- the class of a name that is built in and has `new`
+abbrev pub builtin_class_of : Text → Option BuiltinClass
+builtin_class_of name =
+    if bytes_eq name (class_text builtin_class.Array) then Some builtin_class.Array else (
+    if bytes_eq name (class_text builtin_class.Hash) then Some builtin_class.Hash else (
+    None))
 
 -- it is known of this script
 pub record IsKnown (known : Known) (names : List Text) (S : Script) : Type 0 where

@@ -1,11 +1,11 @@
 // Which code a call or a new object becomes, once its parts are resolved.
 
-ghost use Rattle.std.specs.Prelude.{◌≡◌, ℕ, ◌∷◌, [], List, Some, None, true, map, IfOk};
+ghost use Rattle.std.specs.Prelude.{◌≡◌, ℕ, List, Some, None, true, map, IfOk};
 ghost use Rattle.std.specs.Option.{option_map};
 ghost use Rattle.rb_code.specs.Erase.{erase, erase_block};
-ghost use Rattle.rb_code.specs.Resolved.{every, if_some, fits, block_fits, form_takes};
+ghost use Rattle.rb_code.specs.Resolved.{every, if_some, fits, block_fits};
 ghost use Rattle.rb_builtin.specs.Names as builtin;
-ghost use Rattle.rb_machine.specs.Scopes.{Script, Text, name_text};
+ghost use Rattle.rb_machine.specs.Scopes.{Script, name_text};
 ghost use Rattle.rb_resolver.specs.Known as spec;
 ghost use Rattle.rb_tree.specs.declared.node.Node.TheVariants as tree;
 ghost use Rattle.rb_tree.specs.declared.span.NameId.{NameId as Id};
@@ -13,7 +13,7 @@ ghost use Rattle.rb_tree.specs.declared.span.NameId.{NameId as Id};
 use crate::fault::ResolveFault;
 use crate::known::Known;
 use rb_builtin::{Builtin, builtin_of};
-use rb_code::{Code, CodeBlock};
+use rb_code::{BuiltinClass, Code, CodeBlock};
 use rb_render::{Form, name_text};
 use rb_tree::{Boxed, Items, NameId, Names, Span};
 use std::alloc::Global;
@@ -37,37 +37,29 @@ fn form_of(text: &[u8]) -> Option<Form>
     }
 }
 
-/// Whether a form of printing with so many values is built.
-fn is_built(form: Form, count: usize) -> bool
-    ensures { result ≡ form_takes form count }
+/// The class of a name that is built in and has `new`.
+fn builtin_class_of(text: &[u8]) -> Option<BuiltinClass>
+    ensures { result ≡ spec.builtin_class_of text.now }
 {
-    match form {
-        Form::Inspect => count <= 1,
-        Form::Puts | Form::Print => true,
+    match text {
+        _ if text == b"Array".as_slice() => Some(BuiltinClass::Array),
+        _ if text == b"Hash".as_slice() => Some(BuiltinClass::Hash),
+        _ => None,
     }
 }
 
 /// A call without receiver and without a block.
-fn named(
-    known: &Known,
-    names: &Names,
-    name: NameId,
-    args: Items<Code>,
-    at: Span,
-) -> Result<Code, ResolveFault>
-    ensures erases { IfOk result (λ code. erase code ≡ tree.Call None name (map erase args) None at) }
-    ensures fits { IfOk result (λ code. (S : Script) (scope : List Id) (size : ℕ) → spec.IsKnown known.now names.now S → every (map (fits S) args) scope size ≡ true → fits S code scope size ≡ true) }
+fn named(known: &Known, names: &Names, name: NameId, args: Items<Code>, at: Span) -> Code
+    ensures erases { erase result ≡ tree.Call None name (map erase args) None at }
+    ensures fits { (S : Script) (scope : List Id) (size : ℕ) → spec.IsKnown known.now names.now S → every (map (fits S) args) scope size ≡ true → fits S result scope size ≡ true }
 {
     if let Some(number) = known.function(name) {
-        return Ok(Code::Function(number, name, args, at));
+        return Code::Function(number, name, args, at);
     }
     let Some(form) = form_of(name_text(names, name)) else {
-        return Ok(Code::Own(name, args, at));
+        return Code::Own(name, args, at);
     };
-    if !is_built(form, args.len()) {
-        return Err(ResolveFault::NotBuilt(at));
-    }
-    Ok(Code::Print(form, name, args, at))
+    Code::Print(form, name, args, at)
 }
 
 /// A call with a receiver and without a block.
@@ -108,7 +100,7 @@ pub(crate) fn called(
         → fits S code scope size ≡ true) }
 {
     match (receiver, block) {
-        (None, None) => named(known, names, name, args, at),
+        (None, None) => Ok(named(known, names, name, args, at)),
         (None, Some(_)) => Err(ResolveFault::NotBuilt(at)),
         (Some(receiver), None) => sent(known.alloc, names, name, receiver, args, at),
         (Some(receiver), Some(block)) => {
@@ -118,19 +110,23 @@ pub(crate) fn called(
     }
 }
 
-/// A new object of a class of the script.
+/// A new object of a class of the script, or of one that is built in.
 pub(crate) fn made(
     known: &Known,
+    names: &Names,
     class: NameId,
     args: Items<Code>,
     at: Span,
 ) -> Result<Code, ResolveFault>
     ensures erases { IfOk result (λ code. erase code ≡ tree.New class (map erase args) at) }
-    ensures fits { IfOk result (λ code. (S : Script) (names : List Text) (scope : List Id) (size : ℕ) → spec.IsKnown known.now names S → every (map (fits S) args) scope size ≡ true → fits S code scope size ≡ true) }
+    ensures fits { IfOk result (λ code. (S : Script) (scope : List Id) (size : ℕ) → spec.IsKnown known.now names.now S → every (map (fits S) args) scope size ≡ true → fits S code scope size ≡ true) }
 {
-    let Some(number) = known.class(class) else {
+    if let Some(number) = known.class(class) {
+        let first = known.first(number);
+        return Ok(Code::New(number, first, class, args, at));
+    }
+    let Some(builtin) = builtin_class_of(name_text(names, class)) else {
         return Err(ResolveFault::NotBuilt(at));
     };
-    let first = known.first(number);
-    Ok(Code::New(number, first, class, args, at))
+    Ok(Code::NewBuiltin(builtin, class, args, at))
 }

@@ -2,8 +2,8 @@
 
 ghost use Rattle.std.specs.Prelude.{◌≡◌, ◌≤◌, ℕ, true, map, IfOk, OnOk};
 ghost use Rattle.std.specs.Option.{option_map};
-ghost use Rattle.rb_code.specs.Erase.{erase, erase_piece, erase_block};
-ghost use Rattle.rb_code.specs.Resolved.{every, if_some, fits, piece_fits, block_fits, body_fits};
+ghost use Rattle.rb_code.specs.Erase.{erase, erase_piece, erase_block, paired};
+ghost use Rattle.rb_code.specs.Resolved.{every, if_some, fits, piece_fits, block_fits, body_fits, is_even};
 ghost use Rattle.rb_machine.specs.Scopes.{Script};
 ghost use Rattle.rb_resolver.specs.Known as spec;
 
@@ -42,6 +42,14 @@ fn node(
             let pieces = text(known, names, pieces.as_slice(), frame)?;
             Ok(Code::Str(pieces, *at))
         }
+        Node::Array(items, at) => {
+            let items = body(known, names, items.as_slice(), frame)?;
+            Ok(Code::Array(items, *at))
+        }
+        Node::Hash(sources, at) => {
+            let items = pairs(known, names, sources.as_slice(), frame)?;
+            Ok(Code::Hash(items, *at))
+        }
         Node::Local(name, at) => {
             let slot = frame.slot(*name, *at)?;
             Ok(Code::Local(slot, *name, *at))
@@ -64,7 +72,7 @@ fn node(
         } => {
             let receiver = boxed(known, names, receiver.get(), frame)?;
             let args = body(known, names, args.as_slice(), frame)?;
-            stored(names, *name, receiver, args, *at)
+            Ok(stored(names, *name, receiver, args, *at))
         }
         Node::OpAssign {
             target,
@@ -108,7 +116,7 @@ fn node(
         }
         Node::New { class, args, at } => {
             let args = body(known, names, args.as_slice(), frame)?;
-            made(known, *class, args, *at)
+            made(known, names, *class, args, *at)
         }
         Node::ThreadNew {
             args,
@@ -149,8 +157,7 @@ fn node(
         }
         Node::Break(at) => Ok(Code::Break(*at)),
         Node::Next(at) => Ok(Code::Next(*at)),
-        Node::Array(_, at) | Node::Hash(_, at) | Node::Global(_, at) | Node::SetGlobal(_, _, at) =>
-            Err(ResolveFault::NotBuilt(*at)),
+        Node::Global(_, at) | Node::SetGlobal(_, _, at) => Err(ResolveFault::NotBuilt(*at)),
     }
 }
 
@@ -213,6 +220,31 @@ pub(crate) fn body(
     'nodes: for source in nodes {
         let code = node(known, names, source, frame)?;
         codes.push(code)?;
+    }
+    Ok(codes)
+}
+
+/// Resolves the pairs of a hash, whose keys and values then stand by turns.
+#[cycle(resolving)]
+#[tactic(auto, using(crate::proofs::Layers::erasing))]
+fn pairs(
+    known: &Known,
+    names: &Names,
+    sources: &[(Node, Node)],
+    frame: &mut Frame,
+) -> Result<Items<Code>, ResolveFault>
+    ensures erases { IfOk result (λ codes. paired (map erase codes) ≡ sources.now) }
+    ensures even { IfOk result (λ codes. is_even codes ≡ true) }
+    ensures fits { IfOk result (λ codes. (S : Script) → spec.IsKnown known.now names.now S → (size : ℕ) → frame.new.size ≤ size → body_fits S codes frame.old.names.items size ≡ true) }
+    ensures names { OnOk result (frame.new.names.items ≡ frame.old.names.items) }
+    ensures rises { frame.old.size ≤ frame.new.size }
+{
+    let mut codes = Items::new(known.alloc);
+    'pairs: for pair in sources {
+        let key = node(known, names, &pair.0, frame)?;
+        codes.push(key)?;
+        let value = node(known, names, &pair.1, frame)?;
+        codes.push(value)?;
     }
     Ok(codes)
 }

@@ -14,20 +14,12 @@ ghost use Rattle.rb_tree.specs.declared.span.NameId.{NameId as Id};
 use crate::calls::number_of;
 use crate::fault::ResolveFault;
 use crate::known::Known;
-use rb_builtin::builtin_of;
 use rb_code::Code;
 use rb_render::name_text;
 use rb_tree::{AssignOp, Boxed, Items, NameId, Names, Span};
 use std::alloc::Global;
 
-/// Whether a text is the name of no built-in method.
-fn is_free(text: &[u8]) -> bool
-    ensures { result ≡ resolved.is_free text.now }
-{
-    builtin_of(text).is_none()
-}
-
-/// Whether a text with `=` behind it is the name of no built-in method: `==`, `<=` and `>=` are all that end so.
+/// Whether a text with `=` behind it is the name of no built-in method: `==`, `<=`, `>=` and `[]=` are all that end so.
 #[tactic(auto, using(crate::proofs::Numbered::writer_is))]
 fn is_writer_free(text: &[u8]) -> bool
     ensures { result ≡ resolved.is_free (text.now ++ codes "=") }
@@ -36,26 +28,23 @@ fn is_writer_free(text: &[u8]) -> bool
         _ if text == b"=".as_slice() => false,
         _ if text == b"<".as_slice() => false,
         _ if text == b">".as_slice() => false,
+        _ if text == b"[]".as_slice() => false,
         _ => true,
     }
 }
 
-/// An assignment by the call of a method. The name of that method ends in `=` behind a word or brackets, so that it is never that of a
-/// built-in method.
+/// An assignment by the call of a method.
 pub(crate) fn stored(
     names: &Names,
     name: NameId,
     receiver: Boxed<Code>,
     args: Items<Code>,
     at: Span,
-) -> Result<Code, ResolveFault>
-    ensures erases { IfOk result (λ code. erase code ≡ tree.Store (erase receiver) name (map erase args) at) }
-    ensures fits { IfOk result (λ code. (S : Script) (scope : List Id) (size : ℕ) → S.program.names ≡ names.now → fits S receiver scope size ≡ true → every (map (fits S) args) scope size ≡ true → fits S code scope size ≡ true) }
+) -> Code
+    ensures erases { erase result ≡ tree.Store (erase receiver) name (map erase args) at }
+    ensures fits { (S : Script) (scope : List Id) (size : ℕ) → S.program.names ≡ names.now → fits S receiver scope size ≡ true → every (map (fits S) args) scope size ≡ true → fits S result scope size ≡ true }
 {
-    if !is_free(name_text(names, name)) {
-        return Err(ResolveFault::NotBuilt(at));
-    }
-    Ok(Code::Store(receiver, name, args, at))
+    Code::Store(number_of(names, name), receiver, name, args, at)
 }
 
 /// The name of the methods that write an attribute, where there is one.

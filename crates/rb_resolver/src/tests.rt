@@ -108,7 +108,8 @@ fn calls_have_the_numbers_of_built_in_methods(rt: HostRuntime) -> Result<(), Fai
         ("1.foo", "[0]: (send foo? 1)"),
         ("1.foo(2)", "[0]: (operate foo? 1 2)"),
         ("1.foo(2, 3)", "[0]: (send foo? 1 2 3)"),
-        ("1.each { 2 }", "[0]: (walk each? 1 {0+0 2})"),
+        ("1.each { 2 }", "[0]: (walk each 1 {0+0 2})"),
+        ("1.synchronize { 2 }", "[0]: (walk synchronize? 1 {0+0 2})"),
         ("x = 1\nx[2] = 3", "[1]: (set x/0 1) (store []= x/0 2 3)"),
         (
             "x = 1\nx[2] += 3",
@@ -118,10 +119,11 @@ fn calls_have_the_numbers_of_built_in_methods(rt: HostRuntime) -> Result<(), Fai
         // The number is that of the method that reads the attribute, also where no value can be stored by its name.
         ("1.y ||= 3", "[0]: (update .y? 1 3)"),
         ("\"ab\".length ||= 3", "[0]: (update .length (text 'ab') 3)"),
-        ("1.y = 2", "[0]: (store y= 1 2)"),
-        ("1.length = 2", "[0]: (store length= 1 2)"),
+        ("1.y = 2", "[0]: (store y=? 1 2)"),
+        ("1.length = 2", "[0]: (store length=? 1 2)"),
         ("puts 1, 2", "[0]: (Puts 1 2)"),
         ("p 1", "[0]: (Inspect 1)"),
+        ("p 1, 2", "[0]: (Inspect 1 2)"),
         ("p", "[0]: (Inspect)"),
         ("\"a#{1}\" == :a", "[0]: (operate == (text 'a' 1) :a)"),
         (
@@ -202,9 +204,46 @@ fn objects_are_made_by_the_numbers_of_classes(rt: HostRuntime) -> Result<(), Fai
         // An assignment with an operator to an attribute has the name of what writes it, where there is such a name.
         (
             "class A\nattr_accessor :x\nend\na = A.new\na.x = 1\na.x += 2\na.y += 3\na.x",
-            "A(x[0]: @x; x=[1]: (set @x v/0); ) x@0.0 x=@0.1 [1]: (set a/0 (new A/0)) (store x= a/0 1) (update .x?/x= a/0 2) (update .y? a/0 3) (send x? a/0)",
+            "A(x[0]: @x; x=[1]: (set @x v/0); ) x@0.0 x=@0.1 [1]: (set a/0 (new A/0)) (store x=? a/0 1) (update .x?/x= a/0 2) (update .y? a/0 3) (send x? a/0)",
         ),
         ("1\nself", "[0]: 1 self"),
+    ] {
+        let found = told(rt.alloc(), source)?;
+        assert_eq!(rt; found.as_str(), script);
+    }
+    Ok(())
+}
+
+#[test]
+fn arrays_and_hashes_have_their_parts_in_turn(rt: HostRuntime) -> Result<(), Fail> {
+    for (source, script) in [
+        ("[]\n{}", "[0]: (array) (hash)"),
+        (
+            "x = 1\n[x, [2, :a], nil]",
+            "[1]: (set x/0 1) (array x/0 (array 2 :a) nil)",
+        ),
+        (
+            "x = { a: 1, \"b\" => [2], nil => {} }",
+            "[1]: (set x/0 (hash :a 1 (text 'b') (array 2) nil (hash)))",
+        ),
+        // The locals of a block in an element lie behind those round it.
+        (
+            "x = [1.times { |i| i }, 2.times { |j| j }]",
+            "[2]: (set x/0 (array (walk times 1 {1+1 i/1}) (walk times 2 {1+1 j/1})))",
+        ),
+        (
+            "x = []\nx << 1\nx[0] += 2\nx.push(x[0])\nx.first",
+            "[1]: (set x/0 (array)) (operate << x/0 1) (update element x/0 0 2) (operate push x/0 (operate [] x/0 0)) (send first x/0)",
+        ),
+        (
+            "Array.new\nArray.new(2, 0)\nHash.new",
+            "[0]: (new Array/Array) (new Array/Array 2 0) (new Hash/Hash)",
+        ),
+        // A class of the script is the one that is made.
+        (
+            "class Hash\nend\nHash.new\nArray.new",
+            "Hash() [0]: (new Hash/0) (new Array/Array)",
+        ),
     ] {
         let found = told(rt.alloc(), source)?;
         assert_eq!(rt; found.as_str(), script);
@@ -309,17 +348,18 @@ fn threads_capture_through_blocks_and_threads(rt: HostRuntime) -> Result<(), Fai
 #[test]
 fn what_is_not_built_is_told_at_its_place(rt: HostRuntime) -> Result<(), Fail> {
     for (source, fault) in [
-        ("1\n[2]", "not built 2"),
-        ("x = {}", "not built 4"),
         ("$x", "not built 0"),
         ("$x = 1", "not built 3"),
         ("$x += 1", "not built 3"),
+        ("1\n[2, $x]", "not built 6"),
+        ("x = { 1 => $x }", "not built 11"),
         ("Foo.new", "not built 4"),
-        ("Array.new(2)", "not built 6"),
-        ("Thread.new { [1] }", "not built 13"),
-        ("Thread.new([1]) { 2 }", "not built 11"),
-        ("class A\ndef f\n[1]\nend\nend", "not built 14"),
-        ("p 1, 2", "not built 0"),
+        ("Mutex.new", "not built 6"),
+        ("Array.new(Foo.new)", "not built 14"),
+        ("Thread.new { $x }", "not built 13"),
+        ("Thread.new($x) { 2 }", "not built 11"),
+        ("class A\ndef f\n[$x]\nend\nend", "not built 15"),
+        ("p $x, 2", "not built 2"),
     ] {
         let found = told(rt.alloc(), source)?;
         assert_eq!(rt; found.as_str(), fault);

@@ -171,6 +171,14 @@ fn write_code(out: &mut String, names: &Names, code: &Code) -> Result<(), AllocE
             out.push_str("(text")?;
             write_pieces(out, names, pieces.as_slice())?;
         }
+        Code::Array(items, _) => {
+            out.push_str("(array")?;
+            write_codes(out, names, items.as_slice())?;
+        }
+        Code::Hash(items, _) => {
+            out.push_str("(hash")?;
+            write_codes(out, names, items.as_slice())?;
+        }
         Code::SetLocal(slot, name, value, _) => {
             out.push_str("(set ")?;
             write_local(out, names, *slot, *name)?;
@@ -204,9 +212,9 @@ fn write_code(out: &mut String, names: &Names, code: &Code) -> Result<(), AllocE
             write_inner(out, names, receiver.get())?;
             write_inner(out, names, value.get())?;
         }
-        Code::Store(receiver, name, args, _) => {
+        Code::Store(number, receiver, name, args, _) => {
             out.push_str("(store ")?;
-            write_name(out, names, *name)?;
+            write_called(out, names, *number, *name)?;
             write_inner(out, names, receiver.get())?;
             write_codes(out, names, args.as_slice())?;
         }
@@ -245,6 +253,12 @@ fn write_code(out: &mut String, names: &Names, code: &Code) -> Result<(), AllocE
             write_name(out, names, *name)?;
             write!(out, "/{class}")?;
             write_first(out, *first)?;
+            write_codes(out, names, args.as_slice())?;
+        }
+        Code::NewBuiltin(class, name, args, _) => {
+            out.push_str("(new ")?;
+            write_name(out, names, *name)?;
+            write!(out, "/{class:?}")?;
             write_codes(out, names, args.as_slice())?;
         }
         Code::Start(args, body, slots, _) => {

@@ -12,11 +12,11 @@ use Rattle.rb_resolver.proofs.calls.called.Goals as goal
 
 pub returns-in-None-None-clause-erases : goal.returns-in-None-None-clause-erases
 returns-in-None-None-clause-erases c =
-    IfOk-weaker c.named.result _ _ (λ code h. h ∙ sym (ap (λ (o : Option Code). tree.Call (option_map erase o) c.args.name (map erase c.args.args) (option_map erase_block c.args.block) c.args.at) c.in-None-None.is-0
-    ∙ ap (λ (o : Option CodeBlock). tree.Call None c.args.name (map erase c.args.args) (option_map erase_block o) c.args.at) c.in-None-None.is-1)) c.named.ensures.erases
+    c.named.ensures.erases ∙ sym (ap (λ (o : Option Code). tree.Call (option_map erase o) c.args.name (map erase c.args.args) (option_map erase_block c.args.block) c.args.at) c.in-None-None.is-0
+    ∙ ap (λ (o : Option CodeBlock). tree.Call None c.args.name (map erase c.args.args) (option_map erase_block o) c.args.at) c.in-None-None.is-1)
 
 pub returns-in-None-None-clause-fits : goal.returns-in-None-None-clause-fits
-returns-in-None-None-clause-fits c = IfOk-weaker c.named.result _ _ (λ code h S scope size k r a b. h S scope size k a) c.named.ensures.fits
+returns-in-None-None-clause-fits c = λ S scope size k r a b. c.named.ensures.fits S scope size k a
 
 pub returns-in-Some-None-clause-erases : goal.returns-in-Some-None-clause-erases
 returns-in-Some-None-clause-erases c =

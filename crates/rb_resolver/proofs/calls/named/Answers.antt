@@ -1,5 +1,4 @@
-use Rattle.std.proofs.Common.{ap, sym, ◌∙◌}
-use Rattle.rb_code.specs.Resolved.{form_takes}
+use Rattle.std.proofs.Common.{ap, ◌∙◌}
 use Rattle.rb_resolver.specs.Known.{form_of}
 use Rattle.rb_code.proofs.Erasing.{erase-function, erase-own, erase-print}
 use Rattle.rb_resolver.proofs.Numbered.{function_fits, own_fits, print_fits}
@@ -16,8 +15,7 @@ returns-clause-erases c = erase-print c.in-Some-form_of.form c.args.name c.args.
 
 pub returns-clause-fits : goal.returns-clause-fits
 returns-clause-fits c = λ S scope size k a.
-    print_fits c.args.known.now c.args.names.now S k scope size c.in-Some-form_of.form c.args.name c.args.args c.args.at c.in_default.ensures (c.in-Some-form_of.ensures ∙ ap form_of c.name_text.ensures)
-    (sym (c.is_built.ensures ∙ ap (form_takes c.in-Some-form_of.form) c.len.ensures) ∙ c.if-not-is_built.false) a
+    print_fits c.args.known.now c.args.names.now S k scope size c.in-Some-form_of.form c.args.name c.args.args c.args.at c.in_default.ensures (c.in-Some-form_of.ensures ∙ ap form_of c.name_text.ensures) a
 
 pub returns-in_default-form_of-clause-erases : goal.returns-in_default-form_of-clause-erases
 returns-in_default-form_of-clause-erases c = erase-own c.args.name c.args.args c.args.at

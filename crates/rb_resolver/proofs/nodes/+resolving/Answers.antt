@@ -8,14 +8,20 @@ use Rattle.rb_tree.specs.declared.node.Target.{Target}
 use Rattle.rb_tree.specs.declared.node.Target.TheVariants as target
 use Rattle.rb_tree.specs.declared.node.Block.{Block}
 use Rattle.rb_code.specs.declared.code.CodeBlock.{CodeBlock}
-use Rattle.rb_code.specs.Erase.{erase, erase_piece, erase_block}
-use Rattle.rb_code.specs.Resolved.{every, if_some, fits, piece_fits, block_fits}
+use Rattle.rb_code.specs.Erase.{erase, erase_piece, erase_block, paired}
+use Rattle.rb_code.specs.Resolved.{every, if_some, fits, piece_fits, block_fits, is_even}
 use Rattle.rb_code.proofs.Fitting.{fits-nil, fits-false, fits-true, fits-self_ref, fits-field, fits-set_field, fits-update_field, fits-int, fits-sym, fits-break, fits-next, piece_fits-text, piece_fits-code}
-use Rattle.rb_resolver.proofs.Fitted.{at_names, str_fits, local_fits, set_local_fits, update_local_fits, update_element_fits, and_fits, or_fits, not_fits, if_fits, while_fits, return_fits, block_of, names_left, block_is_right, map_pushed, every_pushed}
+use Rattle.rb_resolver.proofs.Fitted.{at_names, str_fits, array_fits, hash_fits, local_fits, set_local_fits, update_local_fits, update_element_fits, and_fits, or_fits, not_fits, if_fits, while_fits, return_fits, block_of, names_left, block_is_right, map_pushed, every_pushed, even_more, pushed_twice, paired_pushed}
 use Rattle.rb_resolver.proofs.nodes.+resolving.Goals as goal
 
 pub node-returns-in_ok-pieces-in-Str-clause-fits : goal.node-returns-in_ok-pieces-in-Str-clause-fits
 node-returns-in_ok-pieces-in-Str-clause-fits t c = λ S k size h. str_fits S _ size _ _ (c.in_ok-pieces-in-Str.ensures.fits S k size h)
+
+pub node-returns-in_ok-items-in-Array-clause-fits : goal.node-returns-in_ok-items-in-Array-clause-fits
+node-returns-in_ok-items-in-Array-clause-fits t c = λ S k size h. array_fits S _ size _ _ (c.in_ok-items-in-Array.ensures.fits S k size h)
+
+pub node-returns-in_ok-items-in-Hash-clause-fits : goal.node-returns-in_ok-items-in-Hash-clause-fits
+node-returns-in_ok-items-in-Hash-clause-fits t c = λ S k size h. hash_fits S _ size _ _ c.in_ok-items-in-Hash.ensures.even (c.in_ok-items-in-Hash.ensures.fits S k size h)
 
 pub node-returns-in_ok-slot-in-Local-clause-fits : goal.node-returns-in_ok-slot-in-Local-clause-fits
 node-returns-in_ok-slot-in-Local-clause-fits t c = λ S k size h. local_fits S _ size _ _ _ c.in_ok-slot-in-Local.ensures
@@ -24,14 +30,14 @@ pub node-returns-in_ok-value-in-SetLocal-clause-fits : goal.node-returns-in_ok-v
 node-returns-in_ok-value-in-SetLocal-clause-fits t c = λ S k size h. set_local_fits S _ size _ _ _ _ c.in_ok-slot-in-SetLocal.ensures (c.in_ok-value-in-SetLocal.ensures.fits S k size h)
 
 pub node-returns-in_ok-args-in-Store-clause-fits : goal.node-returns-in_ok-args-in-Store-clause-fits
-node-returns-in_ok-args-in-Store-clause-fits t c = IfOk-weaker c.stored.result _ _ (λ code is S k size h. is S _ size k.texts (c.in_ok-receiver-in-Store.ensures.fits S k size (omega (arith, h, c.in_ok-args-in-Store.ensures.rises))) (at_names (λ ns z. every (map (fits S) c.in_ok-args-in-Store.args) ns z) _ _ size (c.in_ok-receiver-in-Store.ensures.names) (c.in_ok-args-in-Store.ensures.fits S k size h))) c.stored.ensures.fits
+node-returns-in_ok-args-in-Store-clause-fits t c = λ S k size h. c.stored.ensures.fits S _ size k.texts (c.in_ok-receiver-in-Store.ensures.fits S k size (omega (arith, h, c.in_ok-args-in-Store.ensures.rises))) (at_names (λ ns z. every (map (fits S) c.in_ok-args-in-Store.args) ns z) _ _ size (c.in_ok-receiver-in-Store.ensures.names) (c.in_ok-args-in-Store.ensures.fits S k size h))
 
 pub node-returns-in_ok-args-in-Store-clause-erases : goal.node-returns-in_ok-args-in-Store-clause-erases
 node-returns-in_ok-args-in-Store-clause-erases t c =
-    IfOk-weaker c.stored.result _ _ (λ code is. is
+    c.stored.ensures.erases
     ∙ ap (λ (r : Node). tree.Store r c.in-Store.name (map erase c.in_ok-args-in-Store.args) c.in-Store.at) (c.in_ok-receiver-in-Store.ensures.erases ∙ c.get-in-Store.ensures)
     ∙ ap (λ (ns : List Node). tree.Store c.in-Store.receiver c.in-Store.name ns c.in-Store.at) (c.in_ok-args-in-Store.ensures.erases ∙ c.as_slice-in-Store.ensures)
-    ∙ sym c.in-Store.is) c.stored.ensures.erases
+    ∙ sym c.in-Store.is
 
 pub node-returns-in_ok-value-in-Local-target-clause-fits : goal.node-returns-in_ok-value-in-Local-target-clause-fits
 node-returns-in_ok-value-in-Local-target-clause-fits t c = λ S k size h. update_local_fits S _ size _ _ _ _ _ c.in_ok-slot-in-Local-target.ensures (c.in_ok-value-in-Local-target.ensures.fits S k size h)
@@ -122,6 +128,38 @@ body-nodes-init t c = record {
   rises = omega arith;
 }
 
+pub pairs-pairs-preserved : goal.pairs-pairs-preserved
+pairs-pairs-preserved t c =
+    let inv = c.pairs.invariant in
+    let key = c.in_ok-key in
+    let value = c.in_ok-value in
+    let first = c.in_ok-push.ensures.ok in
+    let second = c.in_ok-push-2.ensures.ok in
+    let both = pushed_twice c.pairs.codes c.push.new.self c.push-in-pairs.new.self key.key value.value first second in
+    record {
+      erases = paired_pushed erase c.pairs.codes c.push-in-pairs.new.self key.key value.value c.args.sources.now c.pair-item.result c.pairs.pair-index both inv.even inv.erases key.ensures.erases value.ensures.erases c.pairs-test.true c.pair-item.is;
+      even = ap is_even both ∙ even_more c.pairs.codes key.key value.value inv.even;
+      fits = λ S k size h.
+          every_pushed (fits S) c.push.new.self c.push-in-pairs.new.self value.value c.args.frame.now.names.items size second
+          (every_pushed (fits S) c.pairs.codes c.push.new.self key.key c.args.frame.now.names.items size first (inv.fits S k size (omega (arith, h, key.ensures.rises, value.ensures.rises)))
+          (at_names (fits S key.key) _ _ size inv.names (key.ensures.fits S k size (omega (arith, h, value.ensures.rises)))))
+          (at_names (fits S value.value) _ _ size (key.ensures.names ∙ inv.names) (value.ensures.fits S k size h));
+      names = value.ensures.names ∙ key.ensures.names ∙ inv.names;
+      rises = omega (arith, key.ensures.rises, value.ensures.rises, inv.rises);
+    }
+
+pub pairs-pairs-init : goal.pairs-pairs-init
+pairs-pairs-init t c = record {
+  erases = ap (λ xs. paired (map erase xs)) c.new-codes.ensures;
+  even = ap is_even c.new-codes.ensures;
+  fits = λ S k size h. ap (λ xs. every (map (fits S) xs) c.args.frame.now.names.items size) c.new-codes.ensures;
+  names = refl;
+  rises = omega arith;
+}
+
+pub pairs-returns-clause-erases : goal.pairs-returns-clause-erases
+pairs-returns-clause-erases t c = c.pairs.invariant.erases ∙ take_all c.pairs.pair-index c.args.sources.now c.pairs-test.false
+
 pub body-returns-clause-erases : goal.body-returns-clause-erases
 body-returns-clause-erases t c = c.nodes.invariant.erases ∙ take_all c.nodes.source-index c.args.nodes.now c.nodes-test.false
 
@@ -204,7 +242,7 @@ pub node-returns-in_ok-value-in-Field-target-clause-fits : goal.node-returns-in_
 node-returns-in_ok-value-in-Field-target-clause-fits t c = λ S k size h. fits-update_field S _ size _ _ _ _ ∙ c.in_ok-value-in-Field-target.ensures.fits S k size h
 
 pub node-returns-in_ok-args-in-New-clause-fits : goal.node-returns-in_ok-args-in-New-clause-fits
-node-returns-in_ok-args-in-New-clause-fits t c = IfOk-weaker c.made.result _ _ (λ code is S k size h. is S _ _ size k (c.in_ok-args-in-New.ensures.fits S k size h)) c.made.ensures.fits
+node-returns-in_ok-args-in-New-clause-fits t c = IfOk-weaker c.made.result _ _ (λ code is S k size h. is S _ size k (c.in_ok-args-in-New.ensures.fits S k size h)) c.made.ensures.fits
 
 pub node-returns-in_ok-args-in-New-clause-erases : goal.node-returns-in_ok-args-in-New-clause-erases
 node-returns-in_ok-args-in-New-clause-erases t c =
