@@ -11,7 +11,7 @@ use Rattle.rb_model.specs.Private.{Private}
 use Rattle.rb_machine.specs.Scopes.{Script, Scope, Text}
 use Rattle.rb_machine.specs.Control.{State, Cont}
 use Rattle.rb_machine.specs.Call.{invoke, invoked, answered, methods_of, texted, raised, params_of}
-use Rattle.rb_machine.specs.Methods.{Answer, Gives, Raises, Loops, deed}
+use Rattle.rb_machine.specs.Methods.{Answer, Gives, Raises, Loops, LoopsOver, Asks, Reads, EachPairOf, Inspects, deed}
 use Rattle.rb_machine.specs.Move.{left_in}
 use Rattle.rb_machine.specs.Follows.{At}
 use Rattle.rb_builtin.specs.Names.{builtin_of}
@@ -48,10 +48,16 @@ pub no_such : (S : Script) (v : Val) (name : Text) (args : List Val) (block : Op
 no_such S v name args block at k sc d n e f =
     by_table S v name args block at k sc d n e ∙ ap (λ a. answered S a block at k sc d n) (no_number S.program v name args (params_of S block) (none_is (builtin_of name) f))
 
-left_answered : (S : Script) (a : Answer) (at : Span) (k : List Cont) (sc : Scope) (d n : ℕ) → left_in (answered S a None at k sc d n) ≡ n
+pub left_answered : (S : Script) (a : Answer) (at : Span) (k : List Cont) (sc : Scope) (d n : ℕ) → left_in (answered S a None at k sc d n) ≡ n
 left_answered S (Gives v) at k sc d n = refl
 left_answered S (Raises fault) at k sc d n = refl
 left_answered S (Loops turns) at k sc d n = refl
+left_answered S (LoopsOver array walk) at k sc d n = refl
+left_answered S (Asks thing act None) at k sc d n = refl
+left_answered S (Asks thing act (Some step)) at k sc d n = refl
+left_answered S (Reads thing purpose) at k sc d n = refl
+left_answered S (EachPairOf hash) at k sc d n = refl
+left_answered S (Inspects collection) at k sc d n = refl
 
 module _ (S : Script) (N : ℕ) (start : State) (h : Private) where
   -- what a method without a block answers
@@ -59,6 +65,12 @@ module _ (S : Script) (N : ℕ) (start : State) (h : Private) where
   answers l (Gives v) at k sc d n a = a
   answers l (Raises fault) at k sc d n a = a
   answers l (Loops turns) at k sc d n a = a
+  answers l (LoopsOver array walk) at k sc d n a = a
+  answers l (Asks thing act None) at k sc d n a = (_, a, refl)
+  answers l (Asks thing act (Some step)) at k sc d n a = (_, a, refl)
+  answers l (Reads thing purpose) at k sc d n a = (_, a, refl)
+  answers l (EachPairOf hash) at k sc d n a = a
+  answers l (Inspects collection) at k sc d n a = (_, a, refl)
 
   -- an outcome, or a cut by memory at a state with as many steps left
   pub or_memory : (l : Log) (k : List Cont) (sc : Scope) (d n : ℕ) (wanted o : Outcome) (s : State) → OrMemory wanted o → At S 0 N start l h s → left_in s ≡ n → Came S N start l h wanted k sc d n → Came S N start l h o k sc d n

@@ -73,8 +73,8 @@ next_is thing class h e f = rw (e, f) refl
 
 -- what makes it
 pub created_from : (S : Script) (class : ℕ) (first : Option ℕ) (name : NameId) (args : List Val) (at : Span) (k : List Cont) (sc : Scope) (d n : ℕ) → is_made S class first name ≡ true
-    → perform S (Creating name) args at k sc d n ≡ create S (Some class) args at k sc d n
-created_from S class first name args at k sc d n made = ap (λ o. create S o args at k sc d n) (class_is S class first name made)
+    → perform S (Creating name) args at k sc d n ≡ create S (Some class) name args at k sc d n
+created_from S class first name args at k sc d n made = ap (λ o. create S o name args at k sc d n) (class_is S class first name made)
 
 -- how many steps are left where an object is to be initialized
 pub initialize_left : (S : Script) (object : Val) (args : List Val) (at : Span) (k : List Cont) (sc : Scope) (d n : ℕ) → left_in (initialize S object args at k sc d n) ≡ n
@@ -92,7 +92,7 @@ module _ (S : Script) (N : ℕ) (start : State) where
       → At S 0 N start l h (perform S (Creating name) args at k sc d n) → At S 0 N start l h' (initialize S (me_of (Some thing)) args at k sc d n)
   created l h h' thing class first name args at k sc d n made id sort new come =
       let a = same come (created_from S class first name args at k sc d n made) in
-      let b = makes l h (create S (Some class) args at k sc d n) (Object class []) a refl in
+      let b = makes l h (create S (Some class) name args at k sc d n) (Object class []) a refl in
       let c = on (initialize S (To (record { sort = Rattle.rb_model.specs.declared.value.Sort.TheVariants.Object class; id = next_id h })) args at k sc d n) b refl in
       subst (λ v. At S 0 N start l h' (initialize S v args at k sc d n)) (sym (next_is thing class h id sort))
       (subst (λ y. At S 0 N start l y (initialize S (To (record { sort = Rattle.rb_model.specs.declared.value.Sort.TheVariants.Object class; id = next_id h })) args at k sc d n)) (sym new) c)

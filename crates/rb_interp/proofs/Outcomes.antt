@@ -12,7 +12,8 @@ use Rattle.rb_machine.specs.Scopes.{Script, Scope, fresh, with_locals}
 use Rattle.rb_machine.specs.Control.{State, On, Cont, Then, Test, Again, Turn, Frame, Give, Following, Looping, Turning, Break, Next, Return, Turns, Counting, Step}
 use Rattle.rb_machine.specs.Call.{ended}
 use Rattle.rb_machine.specs.Give.{back}
-use Rattle.rb_machine.specs.Move.{Go, start_turn}
+use Rattle.rb_machine.specs.Turns.{turned, start_turn}
+use Rattle.rb_machine.specs.Move.{Go}
 use Rattle.rb_machine.specs.Follows.{At}
 use Rattle.rb_interp.specs.declared.came.Came.{Came as Registers}
 use Rattle.rb_interp.specs.declared.came.Came.TheVariants as came
@@ -53,6 +54,11 @@ module _ {S : Script} {N : ℕ} {start : State} {h : Private} where
   -- where a value came, the machine gives it
   pub given : {l : Log} {k : List Cont} {sc : Scope} {d n : ℕ} (c : Registers) (v : Held) (x : Leave) → is_left c ≡ false → Came S N start l h (outcome c v x) k sc d n → At S 0 N start l h (On (Give (value_of c v)) k sc d n)
   given {l = l} {k = k} {sc = sc} {d = d} {n = n} c v x e a = subst (λ o. Came S N start l h o k sc d n) (gave c v x e) a
+
+-- what an iteration of a block gave
+abbrev pub turn_value : Outcome → Val
+turn_value (Gave v) = v
+turn_value o = Nil
 
 module _ (S : Script) (N : ℕ) (start : State) (h : Private) where
   -- the outcome under another name
@@ -124,7 +130,8 @@ module _ (S : Script) (N : ℕ) (start : State) (h : Private) where
   tested_out (Over ending.Memory) l c b k sc d n e a = a
 
   -- behind an iteration of a block
-  pub turned_goes : (o : Outcome) (l : Log) (turns : Turns) (b : Block) (kept : ℕ) (k : List Cont) (sc : Scope) (d n : ℕ) → goes_on o ≡ true → Came S N start l h o (Turn turns b kept ∷ k) sc d n → At S 0 N start l h (On (Turning turns b) k (back kept sc) d n)
+  pub turned_goes : (o : Outcome) (l : Log) (turns : Turns) (b : Block) (kept : ℕ) (k : List Cont) (sc : Scope) (d n : ℕ) → goes_on o ≡ true → Came S N start l h o (Turn turns b kept ∷ k) sc d n
+      → At S 0 N start l h (On (Turning (turned (turn_value o) turns) b) k (back kept sc) d n)
   turned_goes (Gave v) l turns b kept k sc d n e a = on _ a refl
   turned_goes (Left Next) l turns b kept k sc d n e a = on _ a refl
   turned_goes (Left Break) l turns b kept k sc d n e a = absurd (cc)
@@ -163,13 +170,13 @@ module _ {S : Script} {N : ℕ} {start : State} {h : Private} where
       → At S 0 N start l h (On (Following Nil b.body) (Turn (Counting (next +ℤ pos 1) last answer) b (length sc.locals) ∷ k) (with_locals sc (sc.locals ++ fresh (S.block_names b.at) (take (length b.params) (Int next ∷ [])))) d (n - 1))
   turn_starts {next = next} {last = last} {answer = answer} {b = b} {k = k} {sc = sc} {d = d} {n = n} e q a =
       let f : n ≡ suc (n - 1) = omega arith in
-      on _ a (ap (λ t. Go (cond t (start_turn S (Counting next last answer) b k sc d n) (On (Give answer) k sc d n))) e ∙ ap (λ x. Go (start_turn S (Counting next last answer) b k sc d x)) f)
+      on _ a (ap (λ t. Go (cond t (start_turn S (Counting (next +ℤ pos 1) last answer) (Int next ∷ []) b k sc d n) (On (Give answer) k sc d n))) e ∙ ap (λ x. Go (start_turn S (Counting (next +ℤ pos 1) last answer) (Int next ∷ []) b k sc d x)) f)
 
   pub turn_too_many : {l : Log} {next last : ℤ} {answer : Val} {b : Block} {k : List Cont} {sc : Scope} {d n : ℕ} → int_lt next last ≡ true → n ≡ 0
       → At S 0 N start l h (On (Turning (Counting next last answer) b) k sc d n) → At S 0 N start l h (ended ending.Steps n)
   turn_too_many {next = next} {last = last} {answer = answer} {b = b} {k = k} {sc = sc} {d = d} {n = n} e q a =
-      on _ a (ap (λ t. Go (cond t (start_turn S (Counting next last answer) b k sc d n) (On (Give answer) k sc d n))) e ∙ (ap (λ x. Go (start_turn S (Counting next last answer) b k sc d x)) q ∙ ap (λ x. Go (ended ending.Steps x)) (sym q)))
+      on _ a (ap (λ t. Go (cond t (start_turn S (Counting (next +ℤ pos 1) last answer) (Int next ∷ []) b k sc d n) (On (Give answer) k sc d n))) e ∙ (ap (λ x. Go (start_turn S (Counting (next +ℤ pos 1) last answer) (Int next ∷ []) b k sc d x)) q ∙ ap (λ x. Go (ended ending.Steps x)) (sym q)))
 
   pub turns_end : {l : Log} {next last : ℤ} {answer : Val} {b : Block} {k : List Cont} {sc : Scope} {d n : ℕ} → int_lt next last ≡ false
       → At S 0 N start l h (On (Turning (Counting next last answer) b) k sc d n) → At S 0 N start l h (On (Give answer) k sc d n)
-  turns_end {next = next} {last = last} {answer = answer} {b = b} {k = k} {sc = sc} {d = d} {n = n} e a = on _ a (ap (λ t. Go (cond t (start_turn S (Counting next last answer) b k sc d n) (On (Give answer) k sc d n))) e)
+  turns_end {next = next} {last = last} {answer = answer} {b = b} {k = k} {sc = sc} {d = d} {n = n} e a = on _ a (ap (λ t. Go (cond t (start_turn S (Counting (next +ℤ pos 1) last answer) (Int next ∷ []) b k sc d n) (On (Give answer) k sc d n))) e)

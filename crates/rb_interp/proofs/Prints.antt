@@ -1,35 +1,30 @@
 -- Calls by name of methods that print.
-use Rattle.std.proofs.Common.{◌≡◌, ℕ, ◌+◌, ◌≤◌, Bool, true, false, cond, List, [], ◌∷◌, length, Some, None, refl, ap, ◌∙◌, subst, arith}
+use Rattle.std.proofs.Common.{◌≡◌, ℕ, ◌+◌, ◌≤◌, Bool, true, false, cond, List, [], ◌∷◌, length, Some, None, refl, ap, ◌∙◌, arith}
 use Rattle.std.proofs.lemmas.Bool.Decides.{nat_tests}
 use Rattle.std.proofs.lemmas.Slice.Eq.{bytes_eq-Decides}
 use Rattle.std.proofs.lemmas.List.Elements.{All-from_recursion}
-use Rattle.std.specs.Prelude.{is_none, not, ◌&&◌, ◌||◌, position, find, nat_lt, nat_le, codes}
+use Rattle.std.specs.Prelude.{All, is_none, not, ◌&&◌, ◌||◌, position, find, nat_lt, nat_le, codes}
 use Rattle.std.specs.Str.{bytes_eq}
 use Rattle.std.specs.List.{position_or_len, list_any, AllByRecursion}
 use Rattle.rb_tree.specs.declared.span.Span.{Span}
 use Rattle.rb_tree.specs.declared.span.NameId.{NameId}
-use Rattle.rb_model.specs.Values.{Value as Val}
-use Rattle.rb_model.specs.Log.{Log}
-use Rattle.rb_model.specs.Private.{Private}
+use Rattle.rb_model.specs.Values.{Value as Val, Nil, False, True, Int, Sym, Str, To}
 use Rattle.rb_machine.specs.Scopes.{Script, Scope, text_of}
-use Rattle.rb_machine.specs.Control.{State, On, Cont, Then, Instead, Give}
-use Rattle.rb_machine.specs.Call.{call_by_name, own, top_level, print, show, value_of_p, own_text}
-use Rattle.rb_machine.specs.Laws.{Quiet, stays}
+use Rattle.rb_machine.specs.Control.{Cont, Instead}
+use Rattle.rb_machine.specs.Drafts.{is_collection}
+use Rattle.rb_machine.specs.Call.{call_by_name, own, top_level, print, show, own_text}
+use Rattle.rb_machine.specs.Laws.{Quiet}
 use Rattle.rb_machine.proofs.Printing.{AreUnasked}
 use Rattle.rb_render.proofs.Printed.{puts_shows, print_shows}
-use Rattle.rb_machine.specs.Follows.{At}
 use Rattle.rb_render.specs.declared.show.Form.{Form}
 use Rattle.rb_render.specs.declared.show.Form.TheVariants as form
 use Rattle.rb_render.specs.Forms.{written}
-use Rattle.rb_code.specs.Resolved.{Fits, function_of, has_name, form_text, form_takes}
-use Rattle.rb_interp.specs.Outcome.{Outcome, Gave, Came}
+use Rattle.rb_code.specs.Resolved.{Fits, function_of, has_name, form_text}
 use Rattle.rb_interp.specs.Carries.{printing}
 use Rattle.rb_interp.specs.Methods.{method_for}
-use Rattle.rb_interp.specs.Answers.{OrMemory, shown_value, only_value, is_thing}
+use Rattle.rb_interp.specs.Answers.{is_thing}
 use Rattle.rb_interp.specs.Texts.{is_asking}
 use Rattle.rb_interp.proofs.Texts.{plain_unasked}
-use Rattle.rb_interp.proofs.Moves.{on}
-use Rattle.rb_interp.proofs.Calls.{or_memory}
 
 past : (m len : ℕ) (t : Bool) → nat_lt m len ≡ t → is_none (cond t (Some m) None) ≡ true → len ≤ m
 past m len false e h = grind (arith, nat_tests)
@@ -51,27 +46,39 @@ neither : (a b : Bool) → (a || b) ≡ false → (a ≡ false) × (b ≡ false)
 neither false b h = (refl, h)
 neither true b h = absurd (cc)
 
-module _ (S : Script) where
-  p_gives : (values : List Val) → nat_le (length values) 1 ≡ true → value_of_p S values ≡ Instead (only_value values)
-  p_gives [] h = refl
-  p_gives (v ∷ []) h = refl
-  p_gives (v ∷ w ∷ vs) h = absurd (grind (arith, nat_tests))
+-- a value that is no thing is no collection
+plain_one : (v : Val) → is_thing v ≡ false → is_collection v ≡ false
+plain_one Nil h = refl
+plain_one False h = refl
+plain_one True h = refl
+plain_one (Int n) h = refl
+plain_one (Sym name) h = refl
+plain_one (Str bytes) h = refl
+plain_one (To thing) h = absurd (cc)
 
+module _ (S : Script) where
   -- values of which none is a thing are not asked for their texts
   none_asks : (values : List Val) → list_any is_thing values ≡ false → AreUnasked S values
-  none_asks values h = All-from_recursion (λ v. own_text S v ≡ None) values (each values h)
+  none_asks values h = All-from_recursion (λ v. (own_text S v ≡ None) × (is_collection v ≡ false)) values (each values h)
     where
-      each : (vs : List Val) → list_any is_thing vs ≡ false → AllByRecursion (λ v. own_text S v ≡ None) vs
+      each : (vs : List Val) → list_any is_thing vs ≡ false → AllByRecursion (λ v. (own_text S v ≡ None) × (is_collection v ≡ false)) vs
       each [] h = tt
-      each (v ∷ vs) h = (plain_unasked S v (neither (is_thing v) (list_any is_thing vs) h).0, each vs (neither (is_thing v) (list_any is_thing vs) h).1)
+      each (v ∷ vs) h = let first = neither (is_thing v) (list_any is_thing vs) h in ((plain_unasked S v first.0, plain_one v first.0), each vs first.1)
+
+  -- nor is one of them read
+  pub none_read : (values : List Val) → list_any is_collection values ≡ false → All (λ v. is_collection v ≡ false) values
+  none_read values h = All-from_recursion (λ v. is_collection v ≡ false) values (each values h)
+    where
+      each : (vs : List Val) → list_any is_collection vs ≡ false → AllByRecursion (λ v. is_collection v ≡ false) vs
+      each [] h = tt
+      each (v ∷ vs) h = let first = neither (is_collection v) (list_any is_collection vs) h in (first.0, each vs first.1)
 
   -- where a call asks no value for its text, it shows what is written
-  pub by_text : (form : Form) (values : List Val) (at : Span) (k : List Cont) (sc : Scope) (d n : ℕ) → form_takes form (length values) ≡ true → is_asking form values ≡ false
-      → Quiet S (print S (form_text form) values at k sc d n) (show S (written S.program form values) (Instead (shown_value form values)) at k sc d n)
+  pub by_text : (f : Form) (values : List Val) (at : Span) (k : List Cont) (sc : Scope) (d n : ℕ) → (f ≡ form.Inspect → ⊥) → is_asking f values ≡ false
+      → Quiet S (print S (form_text f) values at k sc d n) (show S (written S.program f values) (Instead Nil) at k sc d n)
   by_text form.Puts values at k sc d n h u = puts_shows S values at k sc d n (none_asks values u)
   by_text form.Print values at k sc d n h u = print_shows S values at k sc d n (none_asks values u)
-  by_text form.Inspect values at k sc d n h u =
-      subst (λ after. Quiet S (print S (codes "p") values at k sc d n) (show S (written S.program form.Inspect values) after at k sc d n)) (p_gives values h) (stays _)
+  by_text form.Inspect values at k sc d n h u = absurd (h refl)
 
   -- a call by the name of a method that prints
   pub by_form : (form : Form) (name : NameId) (values : List Val) (at : Span) (k : List Cont) (sc : Scope) (d n : ℕ) → method_for S sc.me name ≡ None → is_none (function_of S name) ≡ true → bytes_eq (text_of S name) (form_text form) ≡ true
@@ -81,21 +88,12 @@ module _ (S : Script) where
       ∙ (ap (λ m. top_level S m name values at k sc d n) (none_at (has_name S name) S.program.functions f)
       ∙ ap (λ text. print S text values at k sc d n) ((bytes_eq-Decides (text_of S name) (form_text form)).0 t))
 
-all_four : (a b c d : Bool) → (a && (b && (c && d))) ≡ true → (a ≡ true) × (b ≡ true) × (c ≡ true) × (d ≡ true)
-all_four true true true d h = (refl, refl, refl, h)
-all_four true true false d h = absurd (cc)
-all_four true false c d h = absurd (cc)
-all_four false b c d h = absurd (cc)
+all_three : (a b c : Bool) → (a && (b && c)) ≡ true → (a ≡ true) × (b ≡ true) × (c ≡ true)
+all_three true true c h = (refl, refl, h)
+all_three true false c h = absurd (cc)
+all_three false b c h = absurd (cc)
 
 -- what is known of a call that prints
-pub printing_is : (S : Script) (form : Form) (name : NameId) (count : ℕ) (code : Script → Fits) (names : List NameId) (size : ℕ) → printing form name count code S names size ≡ true
-    → (is_none (function_of S name) ≡ true) × (bytes_eq (text_of S name) (form_text form) ≡ true) × (form_takes form count ≡ true) × (code S names size ≡ true)
-printing_is S form name count code names size h = all_four (is_none (function_of S name)) (bytes_eq (text_of S name) (form_text form)) (form_takes form count) (code S names size) h
-
-module _ (S : Script) (N : ℕ) (start : State) (h : Private) where
-  -- what came behind the bytes that are shown is the value of the call
-  pub shown : (l : Log) (v : Val) (k : List Cont) (sc : Scope) (d n : ℕ) (form : Form) (values : List Val) (o : Outcome) → OrMemory (Gave (shown_value form values)) o
-      → At S 0 N start l h (On (Give v) (Then (Instead (shown_value form values)) ∷ k) sc d n) → Came S N start l h o k sc d n
-  shown l v k sc d n form values o m a =
-      let b = on (On (Give (shown_value form values)) k sc d n) a refl in
-      or_memory S N start h l k sc d n (Gave (shown_value form values)) o (On (Give (shown_value form values)) k sc d n) m b refl b
+pub printing_is : (S : Script) (form : Form) (name : NameId) (code : Script → Fits) (names : List NameId) (size : ℕ) → printing form name code S names size ≡ true
+    → (is_none (function_of S name) ≡ true) × (bytes_eq (text_of S name) (form_text form) ≡ true) × (code S names size ≡ true)
+printing_is S form name code names size h = all_three (is_none (function_of S name)) (bytes_eq (text_of S name) (form_text form)) (code S names size) h

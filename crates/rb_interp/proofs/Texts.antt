@@ -4,7 +4,7 @@ use Rattle.std.proofs.Common.{◌≡◌, ℕ, zero, suc, ◌+◌, ◌<◌, ◌�
 use Rattle.std.proofs.lemmas.Bool.Decides.{nat_tests}
 use Rattle.std.proofs.lemmas.Slice.Eq.{bytes_eq-Decides}
 use Rattle.std.proofs.lemmas.List.{drop_all}
-use Rattle.std.specs.Prelude.{codes, nat_eq, slice_get, unwrap_or}
+use Rattle.std.specs.Prelude.{codes, nat_eq, nat_lt, slice_get, unwrap_or}
 use Rattle.std.specs.Bool.{IsTrue}
 use Rattle.std.specs.Str.{bytes_eq}
 use Rattle.rb_tree.specs.declared.node.Program.{Program}
@@ -17,18 +17,23 @@ use Rattle.rb_tree.proofs.Numbering.{slice_get-number_of}
 use Rattle.rb_model.specs.Values.{Value as Val, Nil, False, True, Int, Sym, Str, To, plain}
 use Rattle.rb_model.specs.declared.value.Ref.{Ref}
 use Rattle.rb_model.specs.declared.value.Value.{Value as Held}
-use Rattle.rb_model.specs.declared.fault.Fault.TheVariants.{ArgumentCount}
+use Rattle.rb_model.specs.declared.fault.Fault.TheVariants.{ArgumentCount, TextTooLong}
 use Rattle.rb_model.specs.Ends as ending
 use Rattle.rb_model.specs.Log.{Log}
 use Rattle.rb_model.specs.Private.{Private}
 use Rattle.rb_machine.specs.Scopes.{Script, Text, Scope, text_of, fresh}
-use Rattle.rb_machine.specs.Control.{State, On, Cont, Then, Frame, Give, Following, Instead, JoinTo, WriteBehind, TextOf, Style}
+use Rattle.rb_machine.specs.Control.{State, On, Cont, Then, Frame, Give, Following, Drafting, Instead, JoinTo, WriteBehind, LinesBehind, TextOf, Step, Showing, Style, Lines, Plain, Inspecting, Inspected, Lined}
+use Rattle.rb_machine.specs.Drafts.{is_collection, is_array, draft_of}
 use Rattle.rb_machine.specs.Call.{texted, methods_of, own_text, without_parameters, text_by, give_text, text_answered, write, write_behind, enter, show, raised}
+use Rattle.rb_machine.specs.Call as call
 use Rattle.rb_machine.specs.Give.{join}
 use Rattle.rb_machine.specs.Move.{left_in}
 use Rattle.rb_machine.specs.Follows.{At}
-use Rattle.rb_machine.specs.Texts.{shown}
+use Rattle.rb_machine.specs.Texts.{max_bytes, shown, inspected}
 use Rattle.rb_machine.proofs.Printing.{gives_text, asks_text}
+use Rattle.rb_render.specs.declared.pieces.Style.{Style as Styled}
+use Rattle.rb_render.specs.declared.pieces.Style.TheVariants as styled
+use Rattle.rb_render.specs.Forms.{style_of}
 use Rattle.rb_code.specs.declared.scripted.CodeMethod.{CodeMethod}
 use Rattle.rb_code.specs.declared.scripted.CodeScript.{CodeScript}
 use Rattle.rb_code.specs.Erase.{erase_method}
@@ -42,7 +47,7 @@ use Rattle.rb_interp.specs.Outcome.{Outcome, Gave, Over, Came, is_left, value_of
 use Rattle.rb_interp.specs.Methods.{IsTarget, HasNone}
 use Rattle.rb_interp.specs.Answers.{OrMemory, is_thing}
 use Rattle.rb_interp.specs.Carries.{me_of}
-use Rattle.rb_interp.specs.Texts.{IsAsked, IsUnasked, is_text, as_text}
+use Rattle.rb_interp.specs.Texts.{IsAsked, IsLined, IsUnasked, is_text, as_text}
 use Rattle.rb_interp.proofs.Lists.{len_map, len_args, get_map, get_drop}
 use Rattle.rb_interp.proofs.Moves.{on, same}
 use Rattle.rb_interp.proofs.Outcomes.{gave, gone, passes}
@@ -122,6 +127,15 @@ registers_unasked S (came.Int i) w h n = refl
 registers_unasked S came.Other w h n = absurd (n refl)
 registers_unasked S came.Left w h n = absurd (cc)
 
+-- nor is it a collection
+pub registers_plain : (c : Registers) (w : Held) → is_left c ≡ false → (c ≡ came.Other → ⊥) → is_collection (value_of c w) ≡ false
+registers_plain came.Nil w h n = refl
+registers_plain came.False w h n = refl
+registers_plain came.True w h n = refl
+registers_plain (came.Int i) w h n = refl
+registers_plain came.Other w h n = absurd (n refl)
+registers_plain came.Left w h n = absurd (cc)
+
 -- ---- what a `to_s` answers
 
 pub answers_text : (S : Script) (v answer : Val) → is_text answer ≡ true → text_answered S v answer ≡ Str (shown S.program answer)
@@ -157,11 +171,11 @@ told_gave program c w x h = ap (as_text program) (gave c w x h)
 
 module _ (S : Script) (N : ℕ) (start : State) (h : Private) where
   -- a value that no method is asked for is told as it is
-  pub told_itself : (l : Log) (at : Span) (k : List Cont) (sc : Scope) (d n : ℕ) (program : Program) (c : Registers) (w : Held) (x : Leave) → S.program ≡ program → is_left c ≡ false → own_text S (value_of c w) ≡ None
+  pub told_itself : (l : Log) (at : Span) (k : List Cont) (sc : Scope) (d n : ℕ) (program : Program) (c : Registers) (w : Held) (x : Leave) → S.program ≡ program → is_left c ≡ false → own_text S (value_of c w) ≡ None → is_collection (value_of c w) ≡ false
       → At S 0 N start l h (give_text S (value_of c w) at k sc d n) → Came S N start l h (as_text program (outcome c w x)) k sc d n
-  told_itself l at k sc d n program c w x e came none a =
+  told_itself l at k sc d n program c w x e came none plain a =
       subst (λ o. Came S N start l h o k sc d n) (sym (told_gave program c w x came))
-      (subst (λ P. At S 0 N start l h (On (Give (Str (shown P (value_of c w)))) k sc d n)) e (same a (gives_text S (value_of c w) at k sc d n none)))
+      (subst (λ P. At S 0 N start l h (On (Give (Str (shown P (value_of c w)))) k sc d n)) e (same a (gives_text S (value_of c w) at k sc d n none plain)))
 
   -- one that a method is asked for begins it
   pub told_enters : (l : Log) (at : Span) (k : List Cont) (sc : Scope) (d n : ℕ) (c : Registers) (w : Held) (script : CodeScript) (program : Program) (object : Ref) (m : CodeMethod) → c ≡ came.Other → IsAsked script program (plain w) object m
@@ -226,16 +240,30 @@ entered_left : (S : Script) (m : Method) (v : Val) (at : Span) (k : List Cont) (
 entered_left S m v at k sc d n true = refl
 entered_left S m v at k sc d n false = refl
 
+-- how many steps are left where the text of a value is given or made
+shown_left : (S : Script) (t : Bool) (a b : State) (n : ℕ) → left_in a ≡ n → left_in b ≡ n → left_in (cond t a b) ≡ n
+shown_left S true a b n p q = p
+shown_left S false a b n p q = q
+
 text_left_by : (S : Script) (o : Option Method) (v : Val) (at : Span) (k : List Cont) (sc : Scope) (d n : ℕ) → left_in (text_by S o v at k sc d n) ≡ n
-text_left_by S None v at k sc d n = refl
+text_left_by S None v at k sc d n = shown_left S (is_collection v) (On (Drafting (draft_of Inspected v) at) k sc d n) (On (Give (Str (shown S.program v))) k sc d n) n refl refl
 text_left_by S (Some m) v at k sc d n = entered_left S m v at (Then (TextOf v) ∷ k) sc d n (nat_eq 0 (length m.params))
 
 pub text_left : (S : Script) (v : Val) (at : Span) (k : List Cont) (sc : Scope) (d n : ℕ) → left_in (give_text S v at k sc d n) ≡ n
 text_left S v at k sc d n = text_left_by S (own_text S v) v at k sc d n
 
-pub write_left : (S : Script) (style : Style) (vs : List Val) (at : Span) (k : List Cont) (sc : Scope) (d n : ℕ) → left_in (write S style [] vs at k sc d n) ≡ n
-write_left S style [] at k sc d n = refl
-write_left S style (v ∷ vs) at k sc d n = text_left S v at (Then (WriteBehind style [] vs at) ∷ k) sc d n
+show_left : (S : Script) (bytes : Text) (after : Step) (at : Span) (k : List Cont) (sc : Scope) (d n : ℕ) → left_in (show S bytes after at k sc d n) ≡ n
+show_left S [] after at k sc d n = refl
+show_left S (b ∷ bs) after at k sc d n = shown_left S (nat_lt max_bytes (length (b ∷ bs))) (raised TextTooLong at n) (On (Showing (b ∷ bs)) (Then after ∷ k) sc d n) n refl refl
+
+pub write_left : (S : Script) (style : Style) (bytes : List ℕ) (vs : List Val) (at : Span) (k : List Cont) (sc : Scope) (d n : ℕ) → left_in (write S style bytes vs at k sc d n) ≡ n
+write_left S style bytes [] at k sc d n = show_left S bytes (call.value_of S style) at k sc d n
+write_left S Lines bytes (v ∷ vs) at k sc d n =
+    shown_left S (is_array v) (On (Drafting (draft_of Lined v) at) (Then (LinesBehind bytes vs at) ∷ k) sc d n) (give_text S v at (Then (WriteBehind Lines bytes vs at) ∷ k) sc d n) n refl (text_left S v at (Then (WriteBehind Lines bytes vs at) ∷ k) sc d n)
+write_left S Plain bytes (v ∷ vs) at k sc d n = text_left S v at (Then (WriteBehind Plain bytes vs at) ∷ k) sc d n
+write_left S (Inspecting args) bytes (v ∷ vs) at k sc d n =
+    let behind = Then (WriteBehind (Inspecting args) bytes vs at) ∷ k in
+    shown_left S (is_collection v) (On (Drafting (draft_of Inspected v) at) behind sc d n) (On (Give (Str (inspected S.program v))) behind sc d n) n refl refl
 
 -- a copy of a value came, or memory was wanted for it
 pub copy_came : (c : Registers) (w : Held) (x : Leave) (v : Val) → is_left c ≡ false → OrMemory (Gave v) (outcome c w x) → value_of c w ≡ v
@@ -286,11 +314,16 @@ no_value room first count i h q =
 
 module _ (S : Script) (N : ℕ) (start : State) (h : Private) where
   -- the text of the next value is asked for
-  pub asks_next : (l : Log) (style : Style) (bytes : List ℕ) (rest : List Val) (at : Span) (k : List Cont) (sc : Scope) (d n : ℕ) (v : Val) (vs : List Val) → rest ≡ v ∷ vs
+  pub asks_next : (l : Log) (style : Style) (bytes : List ℕ) (rest : List Val) (at : Span) (k : List Cont) (sc : Scope) (d n : ℕ) (v : Val) (vs : List Val) → rest ≡ v ∷ vs → {lined : Bool} → IsLined lined style (Some v) → lined ≡ false
       → At S 0 N start l h (write S style bytes rest at k sc d n) → At S 0 N start l h (give_text S v at (Then (WriteBehind style bytes vs at) ∷ k) sc d n)
-  asks_next l style bytes rest at k sc d n v vs e a = same a (ap (λ vs. write S style bytes vs at k sc d n) e)
+  asks_next l style bytes rest at k sc d n v vs e so is a = same a (ap (λ vs. write S style bytes vs at k sc d n) e ∙ so S bytes vs at k sc d n is)
 
   -- all are written
-  pub shows_all : (l : Log) (style : Style) (bytes : List ℕ) (rest : List Val) (at : Span) (k : List Cont) (sc : Scope) (d n : ℕ) → rest ≡ []
+  pub shows_all : (l : Log) (style : Style) (bytes : List ℕ) (rest : List Val) (at : Span) (k : List Cont) (sc : Scope) (d n : ℕ) → rest ≡ [] → call.value_of S style ≡ Instead Nil
       → At S 0 N start l h (write S style bytes rest at k sc d n) → At S 0 N start l h (show S bytes (Instead Nil) at k sc d n)
-  shows_all l style bytes rest at k sc d n e a = same a (ap (λ vs. write S style bytes vs at k sc d n) e)
+  shows_all l style bytes rest at k sc d n e v a = same a (ap (λ vs. write S style bytes vs at k sc d n) e ∙ ap (λ step. show S bytes step at k sc d n) v)
+
+-- what `puts` and `print` give is nil
+pub gives_nil : (S : Script) (style : Styled) → call.value_of S (style_of style) ≡ Instead Nil
+gives_nil S styled.Lines = refl
+gives_nil S styled.Plain = refl

@@ -15,7 +15,8 @@ use Rattle.rb_machine.specs.Scopes.{Script, Scope, Locals, Text, fresh}
 use Rattle.rb_machine.specs.Control.{State, On, Cont, Turn, Give, Following, Turning, Passing, Turns, Counting, OnReceiver}
 use Rattle.rb_machine.specs.Call.{answered, params_of, texted, methods_of}
 use Rattle.rb_machine.specs.Give.{back}
-use Rattle.rb_machine.specs.Methods.{Answer, Gives, Raises, Loops, deed}
+use Rattle.rb_machine.specs.Turns.{turned}
+use Rattle.rb_machine.specs.Methods.{Answer, Gives, Raises, Loops, LoopsOver, Asks, Reads, EachPairOf, Inspects, deed}
 use Rattle.rb_machine.specs.Follows.{At}
 use Rattle.rb_code.specs.declared.code.CodeBlock.{CodeBlock}
 use Rattle.rb_code.specs.Layout.{bound}
@@ -32,7 +33,7 @@ use Rattle.rb_interp.specs.Slots.{first_of_block}
 use Rattle.rb_interp.proofs.Moves.{on, same, gives}
 use Rattle.rb_interp.proofs.Lists.{fst, snd, eq_test, le_test, len_append}
 use Rattle.rb_interp.proofs.Rooms.{lies, block_opens, block_closes, room_length, turn_values}
-use Rattle.rb_interp.proofs.Outcomes.{turn_starts, turns_end, turned_goes, turned_out}
+use Rattle.rb_interp.proofs.Outcomes.{turn_starts, turns_end, turn_value, turned_goes, turned_out}
 use Rattle.rb_interp.proofs.Calls.{by_table}
 
 -- ---- counting
@@ -138,9 +139,9 @@ back_is me names own room l = ap (λ (ls : Locals). record { me = me; locals = l
 
 module _ (S : Script) (N : ℕ) (start : State) (h : Private) where
   pub closes : (o : Outcome) (log : Log) (turns : Turns) (b : Block) (k : List Cont) (me : Val) (names own : List NameId) (room : List Held) (d n : ℕ) → length names ≤ length room → goes_on o ≡ true
-      → Came S N start log h o (Turn turns b (length names) ∷ k) (scope_of me (names ++ own) room) d n → At S 0 N start log h (On (Turning turns b) k (scope_of me names room) d n)
+      → Came S N start log h o (Turn turns b (length names) ∷ k) (scope_of me (names ++ own) room) d n → At S 0 N start log h (On (Turning (turned (turn_value o) turns) b) k (scope_of me names room) d n)
   closes o log turns b k me names own room d n l e a =
-      subst (λ sc. At S 0 N start log h (On (Turning turns b) k sc d n)) (back_is me names own room l) (turned_goes S N start h o log turns b (length names) k (scope_of me (names ++ own) room) d n e a)
+      subst (λ sc. At S 0 N start log h (On (Turning (turned (turn_value o) turns) b) k sc d n)) (back_is me names own room l) (turned_goes S N start h o log turns b (length names) k (scope_of me (names ++ own) room) d n e a)
 
   pub closes_out : (o : Outcome) (log : Log) (turns : Turns) (b : Block) (k : List Cont) (me : Val) (names own : List NameId) (room : List Held) (d n : ℕ) → length names ≤ length room → goes_on o ≡ false
       → Came S N start log h o (Turn turns b (length names) ∷ k) (scope_of me (names ++ own) room) d n → Came S N start log h (loop_exit o) k (scope_of me names room) d n
@@ -169,6 +170,12 @@ left_block : (S : Script) (a : Answer) (b : Block) (at : Span) (k : List Cont) (
 left_block S (Gives v) b at k sc d n = refl
 left_block S (Raises fault) b at k sc d n = refl
 left_block S (Loops turns) b at k sc d n = refl
+left_block S (LoopsOver array walk) b at k sc d n = refl
+left_block S (Asks thing act None) b at k sc d n = refl
+left_block S (Asks thing act (Some step)) b at k sc d n = refl
+left_block S (Reads thing purpose) b at k sc d n = refl
+left_block S (EachPairOf hash) b at k sc d n = refl
+left_block S (Inspects collection) b at k sc d n = refl
 
 module _ (S : Script) (N : ℕ) (start : State) (h : Private) where
   -- the iterations of a call with a block
@@ -179,6 +186,7 @@ module _ (S : Script) (N : ℕ) (start : State) (h : Private) where
   done_by : (l : Log) (turns : Turns) (i : ℤ) (b : Block) (k : List Cont) (sc : Scope) (d n : ℕ) → IsDone i turns
       → At S 0 N start l h (On (Turning turns b) k sc d n) → At S 0 N start l h (On (Give (Int i)) k sc d n)
   done_by l (Counting next last answer) i b k sc d n e come = gives (Int i) e.1 (turns_end e.0 come)
+  done_by l other i b k sc d n e come = absurd e
 
   -- one that makes none
   pub block_done : (l : Log) (a : Answer) (turns : Turns) (i : ℤ) (b : Block) (at : Span) (k : List Cont) (sc : Scope) (d n : ℕ) → a ≡ Loops turns → IsDone i turns

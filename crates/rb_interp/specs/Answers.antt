@@ -16,14 +16,12 @@ use Rattle.rb_tree.specs.declared.node.Block.{Block}
 use Rattle.rb_machine.specs.Scopes.{Script, Scope}
 use Rattle.rb_machine.specs.Control.{State, Cont, On, Eval, Give, Turns, Counting}
 use Rattle.rb_machine.specs.Call.{answered}
-use Rattle.rb_machine.specs.Methods.{Answer, Gives, Raises, Loops, deed}
+use Rattle.rb_machine.specs.Methods.{Answer, Gives, Raises, Loops, LoopsOver, EachPairOf, deed}
 use Rattle.rb_machine.specs.Follows.{At}
 use Rattle.rb_machine.specs.Texts.{max_bytes}
 use Rattle.rb_builtin.specs.declared.builtin.Builtin.{Builtin}
 use Rattle.rb_builtin.specs.declared.builtin.Builtin.TheVariants as builtin
 use Rattle.rb_builtin.specs.Names.{builtin_of}
-use Rattle.rb_render.specs.declared.show.Form.{Form}
-use Rattle.rb_render.specs.declared.show.Form.TheVariants as form
 use Rattle.rb_code.specs.declared.code.Code.{Code}
 use Rattle.rb_code.specs.declared.code.CodePiece.{CodePiece}
 use Rattle.rb_code.specs.declared.code.CodePiece.TheVariants as part
@@ -41,11 +39,14 @@ is_thing v = false
 abbrev pub OrMemory : Outcome → Outcome → Type 0
 OrMemory wanted o = (o ≡ wanted) ⊎ (o ≡ Over Memory)
 
--- how the answer of a method without a block comes out
+-- how the answer of a method without a block comes out, where nothing is asked of things for it
 abbrev pub outcome_of : Answer → Span → Outcome
 outcome_of (Gives v) at = Gave v
 outcome_of (Raises fault) at = Over (Raised fault at)
 outcome_of (Loops turns) at = Over (Raised ArgumentCount at)
+outcome_of (LoopsOver array walk) at = Over (Raised ArgumentCount at)
+outcome_of (EachPairOf hash) at = Over (Raised ArgumentCount at)
+outcome_of other at = Over Memory
 
 -- a value is written into a slot and given on, or memory is wanted and nothing is written
 pub data Writes (slot : ℕ) (v : Val) (old new : List Held) : Outcome → Type 0 where
@@ -91,11 +92,6 @@ method_of op.Modulo = Some builtin.Modulo
 method_of op.OrElse = None
 method_of op.AndThen = None
 
--- the one of values, or nil
-abbrev pub only_value : List Val → Val
-only_value (v ∷ []) = v
-only_value vs = Nil
-
 -- the operator of an assignment makes this integer of the one in a slot and a leaf, and it stands in the slot
 abbrev pub IsUpdated : ℕ → AssignOp → Code → List Held → List Held → ℤ → Type 0
 IsUpdated slot op value old new k =
@@ -103,14 +99,10 @@ IsUpdated slot op value old new k =
     × ((program : Program) (name : List ℕ) → builtin_of name ≡ Some b → deed program (Int m) name (Int n ∷ []) None ≡ Gives (Int k))
     × (new ≡ slice_set old slot (held.Int k))
 
--- what a call that shows values gives
-abbrev pub shown_value : Form → List Val → Val
-shown_value form.Inspect vs = only_value vs
-shown_value f vs = Nil
-
 -- no iteration is left, and this is the answer
 abbrev pub IsDone : ℤ → Turns → Type 0
 IsDone n (Counting next last answer) = (int_lt next last ≡ false) × (answer ≡ Int n)
+IsDone n other = ⊥
 
 -- a call of a method of a value with a block comes out so before an iteration
 abbrev pub Settles : Program → ℕ → Option Builtin → Val → List Val → ℕ → Span → ℕ → Log → Outcome → Type 0

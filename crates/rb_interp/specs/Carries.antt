@@ -17,12 +17,13 @@ use Rattle.rb_machine.specs.Follows.{At}
 use Rattle.rb_builtin.specs.declared.builtin.Builtin.{Builtin}
 use Rattle.rb_render.specs.declared.show.Form.{Form}
 use Rattle.rb_render.specs.Forms.{written}
+use Rattle.rb_code.specs.declared.code.BuiltinClass.{BuiltinClass}
 use Rattle.rb_code.specs.declared.code.Code.{Code}
 use Rattle.rb_code.specs.declared.scripted.CodeScript.{CodeScript}
 use Rattle.rb_code.specs.Layout.{bound, has_slot, is_at}
 use Rattle.rb_code.specs.Dispatch.{is_writer}
 use Rattle.rb_code.specs.Erase.{erase}
-use Rattle.rb_code.specs.Resolved.{Fits, every, fits, has_number, is_free, is_made, function_of, form_text, form_takes, prints}
+use Rattle.rb_code.specs.Resolved.{Fits, every, fits, has_number, is_free, is_made, is_builtin, function_of, form_text, prints}
 use Rattle.rb_code.specs.Stands.{StandsFor}
 use Rattle.rb_interp.specs.declared.came.Came.{Came as Registers}
 use Rattle.rb_interp.specs.Outcome.{Outcome, Gave, Left, Came, is_left}
@@ -95,13 +96,13 @@ numbered number name code S names size = has_number S number name && code S name
 abbrev pub called : ℕ → NameId → (Script → Fits) → Script → Fits
 called number name code S names size = is_at (function_of S name) number && code S names size
 
--- where a name is that of no built-in method, and code behind it is right
-abbrev pub unanswered : NameId → (Script → Fits) → Script → Fits
-unanswered name code S names size = is_free (text_of S name) && code S names size
-
 -- where these are the numbers of a class of this name and of its `initialize`, and code behind it is right
 abbrev pub made_by : ℕ → Option ℕ → NameId → (Script → Fits) → Script → Fits
 made_by class first name code S names size = is_made S class first name && code S names size
+
+-- where this is the name of a class that is built in, and code behind it is right
+abbrev pub built_by : BuiltinClass → NameId → (Script → Fits) → Script → Fits
+built_by class name code S names size = is_builtin S class name && code S names size
 
 -- where this is the name of the methods that write the attribute of a name, which no built-in one does, and code behind it is right
 abbrev pub written_by : Option NameId → NameId → (Script → Fits) → Script → Fits
@@ -115,10 +116,9 @@ attribute number writer name code S names size = has_number S number name && wri
 abbrev pub unnamed : NameId → (Script → Fits) → Script → Fits
 unnamed name code S names size = is_none (function_of S name) && (not (prints (text_of S name)) && code S names size)
 
--- where a name is that of a method that prints so many values, and code behind it is right
-abbrev pub printing : Form → NameId → ℕ → (Script → Fits) → Script → Fits
-printing form name count code S names size =
-    is_none (function_of S name) && (bytes_eq (text_of S name) (form_text form) && (form_takes form count && code S names size))
+-- where a name is that of a method that prints, and code behind it is right
+abbrev pub printing : Form → NameId → (Script → Fits) → Script → Fits
+printing form name code S names size = is_none (function_of S name) && (bytes_eq (text_of S name) (form_text form) && code S names size)
 
 -- the arguments of a call stand behind the frame, or one of them left
 abbrev pub Passes : CodeScript → Program → ℕ → Val → List Code → (base depth left left' : ℕ) → (room room' : List Held) → (log log' : Log) → (own own' : Private) → Registers → Outcome → Type 0

@@ -3,6 +3,8 @@ pub mod Carries
 pub mod Methods
 pub mod Readers
 pub mod Objects
+pub mod Gathering
+pub mod Collections
 pub mod Slots
 pub mod Texts
 pub mod Answers

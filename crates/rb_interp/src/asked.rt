@@ -1,15 +1,16 @@
 // The method that an object is asked for its text.
 
-ghost use Rattle.std.specs.Prelude.{◌≡◌, false, map, IfSome, None};
+ghost use Rattle.std.specs.Prelude.{◌≡◌, false, map, slice_get, IfSome, None};
 ghost use Rattle.std.specs.List.{list_any};
+ghost use Rattle.std.specs.Option.{option_map};
 ghost use Rattle.rb_model.specs.Values.{plain};
 ghost use Rattle.rb_render.specs.Forms.{style_of};
 ghost use Rattle.rb_interp.specs.Answers.{is_thing};
-ghost use Rattle.rb_interp.specs.Texts.{IsAsked, IsUnasked, WritesBy, is_asking, is_text};
+ghost use Rattle.rb_interp.specs.Texts.{IsAsked, IsLined, IsUnasked, WritesBy, is_asking, is_text};
 
 use crate::target::{Target, target_of};
 use rb_code::CodeScript;
-use rb_model::Value;
+use rb_model::{Sort, Value};
 use rb_render::{Form, Style};
 use rb_tree::Program;
 
@@ -53,6 +54,19 @@ pub(crate) fn has_thing(values: &[Value]) -> bool
         }
     }
     false
+}
+
+/// Whether the value of a slot is an array that is written line by line.
+pub(crate) fn is_lined(style: Style, room: &[Value], slot: usize) -> bool
+    ensures { IsLined result (style_of style) (option_map plain (slice_get room.now slot)) }
+{
+    match (style, room.get(slot)) {
+        (Style::Lines, Some(Value::Ref(thing))) => match thing.sort {
+            Sort::List => true,
+            _ => false,
+        },
+        _ => false,
+    }
 }
 
 /// How a call writes its values one by one, where one of them is a thing that may be asked for its text.

@@ -5,6 +5,7 @@ mod asked;
 mod bytes;
 mod came;
 mod ending;
+mod gathering;
 mod leaf;
 mod rounds;
 mod slots;

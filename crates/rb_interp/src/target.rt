@@ -1,10 +1,13 @@
 // The method of a class that a call finds.
 
-ghost use Rattle.std.specs.Prelude.{◌≡◌, IfSome, None};
+ghost use Rattle.std.specs.Prelude.{◌≡◌, IfSome, Some, None};
 ghost use Rattle.rb_model.specs.Values.{plain};
 ghost use Rattle.rb_interp.specs.Methods.{IsTarget, HasNone, IsWriter, HasNoWriter};
 ghost use Rattle.rb_interp.specs.Readers.{Reads, IsReader};
+ghost use Rattle.rb_interp.specs.Answers.{IsHeld};
+ghost use Rattle.rb_interp.specs.Carries.{me_of};
 
+use crate::leaf::local_at;
 use rb_code::{Code, CodeMethod, CodeScript};
 use rb_model::{Ref, Sort, Value};
 use rb_tree::{NameId, Span};
@@ -37,6 +40,21 @@ pub(crate) fn target_of<'p>(
         object: *object,
         method,
     })
+}
+
+/// The method of its class that a name finds for the object that a local has.
+#[inline(always)]
+pub(crate) fn local_target<'p>(
+    script: &'p CodeScript,
+    code: &Code,
+    name: NameId,
+    room: &[Value],
+) -> Option<Target<'p>>
+    ensures held { IfSome result (λ t. IsHeld code.now room.now (me_of (Some t.object))) }
+    ensures target { IfSome result (λ t. IsTarget script.now (me_of (Some t.object)) name t.object t.method.now) }
+{
+    let target = target_of(script, local_at(code, room)?, name)?;
+    Some(target)
 }
 
 /// The method of its class that the name of a writer finds for a value, where there is such a name.

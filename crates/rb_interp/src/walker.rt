@@ -21,6 +21,9 @@ ghost use Rattle.rb_interp.specs.Readers.{SendsTo};
 
 mod assign;
 mod calls;
+mod collections;
+mod drafts;
+mod elements;
 mod flow;
 mod methods;
 mod objects;
@@ -31,7 +34,7 @@ use crate::came::{Came, Cut, Leave};
 use crate::ending::{close, end_of};
 use crate::leaf::{held_alone, held_at, local_at, place_of, quick, quick_update, small};
 use crate::slots::clear;
-use crate::target::reader_of;
+use crate::target::{local_target, reader_of};
 use rb_builtin::Builtin;
 use rb_code::{Code, CodeScript};
 use rb_model::{Act, End, Fault, Ref, ThreadStore, Value};
@@ -209,6 +212,10 @@ impl<'p, O: ThreadStore + Drop> Walker<'p, O> {
             Code::Send(_, _, _, _, _) => self.begin_send(code, depth, room),
             Code::Function(_, _, _, _) => self.begin_function(code, depth, room),
             Code::If(_, _, _, _) => self.begin_choice(code, depth, room),
+            Code::Field(name, at) => self.field(*name, *at),
+            Code::SetField(_, _, _) => self.begin_set_field(code, depth, room),
+            Code::UpdateField(_, _, _, _) => self.begin_update_field(code, depth, room),
+            Code::New(_, _, _, _, _) => self.begin_new(code, depth, room),
             _ => self.begin_other(code, depth, room),
         }
     }
@@ -336,6 +343,10 @@ impl<'p, O: ThreadStore + Drop> Walker<'p, O> {
                             return self.call_held(receiver, *method, arg, *at);
                         }
                     }
+                    if let Some(target) = local_target(self.context.script, left, *name, room) {
+                        self.left -= 1;
+                        return self.operate_target(target, *name, right, *at, depth, room);
+                    }
                 }
                 self.operate(*method, *name, left, right, *at, depth, room)
             }
@@ -377,7 +388,7 @@ impl<'p, O: ThreadStore + Drop> Walker<'p, O> {
         }
         let reader = reader_of(self.context.script, local_at(receiver, room)?, name)?;
         self.left -= 2;
-        let came = self.ask(reader.object, Act::GetField(reader.field));
+        let came = self.ask(reader.object, Act::GetField(reader.field), reader.at);
         Some(self.out_of_call(came))
     }
 
@@ -460,6 +471,78 @@ impl<'p, O: ThreadStore + Drop> Walker<'p, O> {
         }
     }
 
+    /// An assignment to an instance variable.
+    #[cycle(walk)]
+    #[inline(never)]
+    fn begin_set_field(&mut self, code: &'p Code, depth: u32, room: &mut [Value]) -> Came
+        requires unended { has_end (O.log self.old.store).entries ≡ false }
+        requires steps { self.old.left ≤ self.old.context.steps }
+        ensures base { self.new.base ≡ self.old.base }
+        ensures context { self.new.context ≡ self.old.context }
+        ensures room { length room.new ≡ length room.old }
+        ensures less { self.new.left ≤ self.old.left }
+        ensures unended { has_end (O.log self.new.store).entries ≡ false }
+        ensures kept { Keeps self.old.context.script.now self.old.context.program.now (λ S. fits S code.now) self.old.base room.old room.new }
+        ensures came { Carries self.old.context.script.now self.old.context.program.now self.old.context.steps (me_of self.old.context.me) (λ S. fits S code.now) (λ S k sc d n. begin S (out-Node (erase code.now)) k sc d n) self.old.base depth self.old.left self.new.left room.old room.new (O.log self.old.store) (O.log self.new.store) (O.private self.old.store) (O.private self.new.store) (outcome result self.new.value self.new.leave) }
+    {
+        match code {
+            Code::SetField(name, value, at) => {
+                self.set_field(*name, value.get(), *at, depth, room)
+            }
+            _ => self.over(Cut::Memory),
+        }
+    }
+
+    /// An assignment with an operator to an instance variable.
+    #[cycle(walk)]
+    #[inline(never)]
+    fn begin_update_field(&mut self, code: &'p Code, depth: u32, room: &mut [Value]) -> Came
+        requires unended { has_end (O.log self.old.store).entries ≡ false }
+        requires steps { self.old.left ≤ self.old.context.steps }
+        ensures base { self.new.base ≡ self.old.base }
+        ensures context { self.new.context ≡ self.old.context }
+        ensures room { length room.new ≡ length room.old }
+        ensures less { self.new.left ≤ self.old.left }
+        ensures unended { has_end (O.log self.new.store).entries ≡ false }
+        ensures kept { Keeps self.old.context.script.now self.old.context.program.now (λ S. fits S code.now) self.old.base room.old room.new }
+        ensures came { Carries self.old.context.script.now self.old.context.program.now self.old.context.steps (me_of self.old.context.me) (λ S. fits S code.now) (λ S k sc d n. begin S (out-Node (erase code.now)) k sc d n) self.old.base depth self.old.left self.new.left room.old room.new (O.log self.old.store) (O.log self.new.store) (O.private self.old.store) (O.private self.new.store) (outcome result self.new.value self.new.leave) }
+    {
+        match code {
+            Code::UpdateField(name, op, value, at) => {
+                self.update_field(*name, *op, value.get(), *at, depth, room)
+            }
+            _ => self.over(Cut::Memory),
+        }
+    }
+
+    /// A new object.
+    #[cycle(walk)]
+    #[inline(never)]
+    fn begin_new(&mut self, code: &'p Code, depth: u32, room: &mut [Value]) -> Came
+        requires unended { has_end (O.log self.old.store).entries ≡ false }
+        requires steps { self.old.left ≤ self.old.context.steps }
+        ensures base { self.new.base ≡ self.old.base }
+        ensures context { self.new.context ≡ self.old.context }
+        ensures room { length room.new ≡ length room.old }
+        ensures less { self.new.left ≤ self.old.left }
+        ensures unended { has_end (O.log self.new.store).entries ≡ false }
+        ensures kept { Keeps self.old.context.script.now self.old.context.program.now (λ S. fits S code.now) self.old.base room.old room.new }
+        ensures came { Carries self.old.context.script.now self.old.context.program.now self.old.context.steps (me_of self.old.context.me) (λ S. fits S code.now) (λ S k sc d n. begin S (out-Node (erase code.now)) k sc d n) self.old.base depth self.old.left self.new.left room.old room.new (O.log self.old.store) (O.log self.new.store) (O.private self.old.store) (O.private self.new.store) (outcome result self.new.value self.new.leave) }
+    {
+        match code {
+            Code::New(class, first, name, args, at) => self.create(
+                *class,
+                *first,
+                *name,
+                args.as_slice(),
+                *at,
+                depth,
+                room,
+            ),
+            _ => self.over(Cut::Memory),
+        }
+    }
+
     /// A node of the other kinds whose step is counted.
     #[cycle(walk)]
     #[inline(never)]
@@ -477,9 +560,17 @@ impl<'p, O: ThreadStore + Drop> Walker<'p, O> {
         match code {
             Code::Sym(name, _) => self.give(Value::Sym(*name)),
             Code::Str(pieces, at) => self.literal(pieces.as_slice(), *at, depth, room),
-            Code::UpdateElement(receiver, index, _, _, at) => {
-                self.read_element(receiver.get(), index.get(), *at, depth, room)
-            }
+            Code::Array(items, _) => self.array(items.as_slice(), depth, room),
+            Code::Hash(items, at) => self.hash(items.as_slice(), *at, depth, room),
+            Code::UpdateElement(receiver, index, op, value, at) => self.update_element(
+                receiver.get(),
+                index.get(),
+                *op,
+                value.get(),
+                *at,
+                depth,
+                room,
+            ),
             Code::UpdateAttribute(number, writer, name, receiver, op, value, at) =>
                 self.update_attribute(
                     *number,
@@ -492,9 +583,15 @@ impl<'p, O: ThreadStore + Drop> Walker<'p, O> {
                     depth,
                     room,
                 ),
-            Code::Store(receiver, name, args, at) => {
-                self.store_by(receiver.get(), *name, args.as_slice(), *at, depth, room)
-            }
+            Code::Store(method, receiver, name, args, at) => self.store_by(
+                *method,
+                receiver.get(),
+                *name,
+                args.as_slice(),
+                *at,
+                depth,
+                room,
+            ),
             Code::Walk(method, name, receiver, args, block, at) => self.send_block(
                 *method,
                 *name,
@@ -510,22 +607,9 @@ impl<'p, O: ThreadStore + Drop> Walker<'p, O> {
             }
             Code::Own(name, args, at) => self.begin_own(*name, args.as_slice(), *at, depth, room),
             Code::SelfRef(_) => self.give_self(),
-            Code::Field(name, at) => self.field(*name, *at),
-            Code::SetField(name, value, at) => {
-                self.set_field(*name, value.get(), *at, depth, room)
+            Code::NewBuiltin(class, name, args, at) => {
+                self.create_builtin(*class, *name, args.as_slice(), *at, depth, room)
             }
-            Code::UpdateField(name, op, value, at) => {
-                self.update_field(*name, *op, value.get(), *at, depth, room)
-            }
-            Code::New(class, first, name, args, at) => self.create(
-                *class,
-                *first,
-                *name,
-                args.as_slice(),
-                *at,
-                depth,
-                room,
-            ),
             // No accepted script starts a thread yet.
             Code::Start(_, _, _, at) => self.raise(Fault::NoMethod, *at),
             Code::And(first, second, _) => self.both(first.get(), second.get(), depth, room),

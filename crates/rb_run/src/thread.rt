@@ -31,6 +31,7 @@ impl<O: OneStore, S: ShapeStore> ThreadStore for MainThread<O, S> {
         self.calls.call(step, call)
     }
 
+    #[inline(always)]
     fn make(&mut self, make: Make) -> Result<Ref, AllocError>
         ensures id { IfOk result (λ thing. thing.id ≡ next_id self.old.things) }
         ensures sort { IfOk result (λ thing. thing.sort ≡ sort_of make) }
@@ -41,12 +42,14 @@ impl<O: OneStore, S: ShapeStore> ThreadStore for MainThread<O, S> {
         self.things.make(make)
     }
 
+    #[inline(always)]
     fn holds(&self, id: Id) -> bool
         ensures { result ≡ is_some (held self.now.things id) }
     {
         self.things.holds(id)
     }
 
+    #[inline(always)]
     fn apply(&mut self, id: Id, act: Act) -> Result<Reply, AllocError>
         requires { IsSome (held self.old.things id) }
         ensures reply { IfOk result (λ reply. Gives self.old.things id (doing act) (said reply)) }

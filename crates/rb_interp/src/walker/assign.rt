@@ -154,7 +154,7 @@ impl<'p, O: ThreadStore + Drop> Walker<'p, O> {
         ensures kept { Keeps self.old.context.script.now self.old.context.program.now (λ S. fits S value.now) self.old.base room.old room.new }
         ensures came { Carries self.old.context.script.now self.old.context.program.now self.old.context.steps (me_of self.old.context.me) (λ S. fits S value.now) (λ S k sc d n. On (Eval (erase value.now)) (Then (RightOf (Int m) op at) ∷ k) sc d n) self.old.base depth self.old.left self.new.left room.old room.new (O.log self.old.store) (O.log self.new.store) (O.private self.old.store) (O.private self.new.store) (outcome result self.new.value self.new.leave) }
     {
-        let came = self.evaluate_call(value, depth, room);
+        let came = self.evaluate(value, depth, room);
         if is_left(came) {
             return came;
         }
@@ -191,7 +191,7 @@ impl<'p, O: ThreadStore + Drop> Walker<'p, O> {
             return came;
         }
         let arg = self.take(came);
-        self.operated(method, &receiver, arg, at)
+        self.call_with(&receiver, method, arg, at, depth)
     }
 
     /// A call of a method of an integer with one argument that came.
@@ -259,37 +259,6 @@ impl<'p, O: ThreadStore + Drop> Walker<'p, O> {
                 self.call_method(receiver, method, args.as_slice(), at)
             }
         }
-    }
-
-    /// An assignment with an operator to an element: no value that there is yet has elements.
-    #[cycle(walk)]
-    pub(super) fn read_element(
-        &mut self,
-        receiver: &'p Code,
-        index: &'p Code,
-        at: Span,
-        depth: u32,
-        room: &mut [Value],
-    ) -> Came
-        requires unended { has_end (O.log self.old.store).entries ≡ false }
-        requires steps { self.old.left ≤ self.old.context.steps }
-        ensures base { self.new.base ≡ self.old.base }
-        ensures context { self.new.context ≡ self.old.context }
-        ensures room { length room.new ≡ length room.old }
-        ensures less { self.new.left ≤ self.old.left }
-        ensures unended { has_end (O.log self.new.store).entries ≡ false }
-        ensures kept { (op : Op) (value : Tree) → Keeps self.old.context.script.now self.old.context.program.now (both (λ S. fits S receiver.now) (λ S. fits S index.now)) self.old.base room.old room.new }
-        ensures came { (op : Op) (value : Tree) → Carries self.old.context.script.now self.old.context.program.now self.old.context.steps (me_of self.old.context.me) (both (λ S. fits S receiver.now) (λ S. fits S index.now)) (λ S k sc d n. On (Eval (erase receiver.now)) (Then (IndexedBy (erase index.now) op value at) ∷ k) sc d n) self.old.base depth self.old.left self.new.left room.old room.new (O.log self.old.store) (O.log self.new.store) (O.private self.old.store) (O.private self.new.store) (outcome result self.new.value self.new.leave) }
-    {
-        let came = self.walk(receiver, depth, room);
-        if is_left(came) {
-            return came;
-        }
-        let came = self.walk(index, depth, room);
-        if is_left(came) {
-            return came;
-        }
-        self.raise(Fault::NoMethod, at)
     }
 
     /// An assignment with an operator to an attribute.

@@ -11,8 +11,8 @@ ghost use Rattle.rb_builtin.specs.Names.{builtin_of};
 ghost use Rattle.rb_code.specs.Erase.{erase, erase_block, erase_piece};
 ghost use Rattle.rb_code.specs.Resolved.{fits, block_fits, piece_fits, every};
 ghost use Rattle.rb_interp.specs.Outcome.{is_left, value_of, outcome};
-ghost use Rattle.rb_interp.specs.Carries.{Carries, Keeps, Passes, both, numbered, unanswered, called, printing, me_of};
-ghost use Rattle.rb_interp.specs.Methods.{HasNone, EntersWith, StoresWith};
+ghost use Rattle.rb_interp.specs.Carries.{Carries, Keeps, Passes, both, numbered, called, printing, me_of};
+ghost use Rattle.rb_interp.specs.Methods.{IsTarget, HasNone, EntersWith, StoresWith};
 ghost use Rattle.rb_interp.specs.Answers.{Passed, Settles};
 
 use super::Walker;
@@ -123,8 +123,42 @@ impl<'p, O: ThreadStore + Drop> Walker<'p, O> {
         let arg = self.take(came);
         match target_of(self.context.script, &receiver, name) {
             Some(target) => self.enter_with(target, arg, at, depth, room),
-            None => self.operated(method, &receiver, arg, at),
+            None => self.call_with(&receiver, method, arg, at, depth),
         }
+    }
+
+    /// The argument of a call of a method of the class of an object, which was found.
+    #[cycle(walk)]
+    #[inline(never)]
+    pub(super) fn operate_target(
+        &mut self,
+        target: Target<'p>,
+        name: NameId,
+        right: &'p Code,
+        at: Span,
+        depth: u32,
+        room: &mut [Value],
+    ) -> Came
+        requires unended { has_end (O.log self.old.store).entries ≡ false }
+        requires steps { self.old.left ≤ self.old.context.steps }
+        requires target { IsTarget self.old.context.script.now (me_of (Some target.object)) name target.object target.method.now }
+        ensures base { self.new.base ≡ self.old.base }
+        ensures context { self.new.context ≡ self.old.context }
+        ensures room { length room.new ≡ length room.old }
+        ensures less { self.new.left ≤ self.old.left }
+        ensures unended { has_end (O.log self.new.store).entries ≡ false }
+        ensures kept { Keeps self.old.context.script.now self.old.context.program.now (λ S. fits S right.now) self.old.base room.old room.new }
+        ensures came { Carries self.old.context.script.now self.old.context.program.now self.old.context.steps (me_of self.old.context.me) (λ S. fits S right.now) (λ S k sc d n. On (Eval (erase right.now)) (Then (Argument (OnReceiver (me_of (Some target.entry.object)) (text_of S name) None) [] [] at) ∷ k) sc d n) self.old.base depth self.old.left self.new.left room.old room.new (O.log self.old.store) (O.log self.new.store) (O.private self.old.store) (O.private self.new.store) (outcome result self.new.value self.new.leave) }
+    {
+        let came = self.evaluate(right, depth, room);
+        if is_left(came) {
+            return came;
+        }
+        if self.base >= room.len() {
+            return self.over(Cut::Memory);
+        }
+        self.pass(came, room);
+        self.enter(target.method, Some(target.object), 1, at, depth, room)
     }
 
     /// A call with a receiver, without a block.
@@ -164,10 +198,11 @@ impl<'p, O: ThreadStore + Drop> Walker<'p, O> {
         self.invoke(&receiver, method, name, args.len(), at, depth, room)
     }
 
-    /// An assignment by the call of a method of the script: no built-in one has such a name.
+    /// An assignment by the call of a method.
     #[cycle(walk)]
     pub(super) fn store_by(
         &mut self,
+        method: Option<Builtin>,
         receiver: &'p Code,
         name: NameId,
         args: &'p [Code],
@@ -182,8 +217,8 @@ impl<'p, O: ThreadStore + Drop> Walker<'p, O> {
         ensures room { length room.new ≡ length room.old }
         ensures less { self.new.left ≤ self.old.left }
         ensures unended { has_end (O.log self.new.store).entries ≡ false }
-        ensures kept { Keeps self.old.context.script.now self.old.context.program.now (unanswered name (both (λ S. fits S receiver.now) (λ S. every (map (fits S) args.now)))) self.old.base room.old room.new }
-        ensures came { Carries self.old.context.script.now self.old.context.program.now self.old.context.steps (me_of self.old.context.me) (unanswered name (both (λ S. fits S receiver.now) (λ S. every (map (fits S) args.now)))) (λ S k sc d n. On (Eval (erase receiver.now)) (Then (ReceiverToStore (text_of S name) (map erase args.now) at) ∷ k) sc d n) self.old.base depth self.old.left self.new.left room.old room.new (O.log self.old.store) (O.log self.new.store) (O.private self.old.store) (O.private self.new.store) (outcome result self.new.value self.new.leave) }
+        ensures kept { Keeps self.old.context.script.now self.old.context.program.now (numbered method name (both (λ S. fits S receiver.now) (λ S. every (map (fits S) args.now)))) self.old.base room.old room.new }
+        ensures came { Carries self.old.context.script.now self.old.context.program.now self.old.context.steps (me_of self.old.context.me) (numbered method name (both (λ S. fits S receiver.now) (λ S. every (map (fits S) args.now)))) (λ S k sc d n. On (Eval (erase receiver.now)) (Then (ReceiverToStore (text_of S name) (map erase args.now) at) ∷ k) sc d n) self.old.base depth self.old.left self.new.left room.old room.new (O.log self.old.store) (O.log self.new.store) (O.private self.old.store) (O.private self.new.store) (outcome result self.new.value self.new.leave) }
     {
         let came = self.walk(receiver, depth, room);
         if is_left(came) {
@@ -198,7 +233,13 @@ impl<'p, O: ThreadStore + Drop> Walker<'p, O> {
         }
         match target_of(self.context.script, &receiver, name) {
             Some(target) => self.store_with(target, args.len(), at, depth, room),
-            None => self.raise(Fault::NoMethod, at),
+            None => self.store_builtin(
+                &receiver,
+                method,
+                passed(room, before, args.len()),
+                at,
+                depth,
+            ),
         }
     }
 
@@ -265,6 +306,7 @@ impl<'p, O: ThreadStore + Drop> Walker<'p, O> {
                 Ok(rounds) => Ok(rounds),
                 Err(answer) => Err(Came::Int(answer)),
             },
+            Ok(_) => Err(self.over(Cut::Memory)),
             Err(_) => Err(self.over(Cut::Memory)),
         }
     }
@@ -414,8 +456,8 @@ impl<'p, O: ThreadStore + Drop> Walker<'p, O> {
         ensures room { length room.new ≡ length room.old }
         ensures less { self.new.left ≤ self.old.left }
         ensures unended { has_end (O.log self.new.store).entries ≡ false }
-        ensures kept { Keeps self.old.context.script.now self.old.context.program.now (printing form name (length args.now) (λ S. every (map (fits S) args.now))) self.old.base room.old room.new }
-        ensures came { Carries self.old.context.script.now self.old.context.program.now self.old.context.steps (me_of self.old.context.me) (printing form name (length args.now) (λ S. every (map (fits S) args.now))) (λ S k sc d n. On (Passing (ByName name) [] (map erase args.now) at) k sc d n) self.old.base depth self.old.left self.new.left room.old room.new (O.log self.old.store) (O.log self.new.store) (O.private self.old.store) (O.private self.new.store) (outcome result self.new.value self.new.leave) }
+        ensures kept { Keeps self.old.context.script.now self.old.context.program.now (printing form name (λ S. every (map (fits S) args.now))) self.old.base room.old room.new }
+        ensures came { Carries self.old.context.script.now self.old.context.program.now self.old.context.steps (me_of self.old.context.me) (printing form name (λ S. every (map (fits S) args.now))) (λ S k sc d n. On (Passing (ByName name) [] (map erase args.now) at) k sc d n) self.old.base depth self.old.left self.new.left room.old room.new (O.log self.old.store) (O.log self.new.store) (O.private self.old.store) (O.private self.new.store) (outcome result self.new.value self.new.leave) }
     {
         match self.own_target(name) {
             Some(target) => self.own(target, name, args, at, depth, room),
@@ -442,14 +484,17 @@ impl<'p, O: ThreadStore + Drop> Walker<'p, O> {
         ensures room { length room.new ≡ length room.old }
         ensures less { self.new.left ≤ self.old.left }
         ensures unended { has_end (O.log self.new.store).entries ≡ false }
-        ensures kept { Keeps self.old.context.script.now self.old.context.program.now (printing form name (length args.now) (λ S. every (map (fits S) args.now))) self.old.base room.old room.new }
-        ensures came { Carries self.old.context.script.now self.old.context.program.now self.old.context.steps (me_of self.old.context.me) (printing form name (length args.now) (λ S. every (map (fits S) args.now))) (λ S k sc d n. On (Passing (ByName name) [] (map erase args.now) at) k sc d n) self.old.base depth self.old.left self.new.left room.old room.new (O.log self.old.store) (O.log self.new.store) (O.private self.old.store) (O.private self.new.store) (outcome result self.new.value self.new.leave) }
+        ensures kept { Keeps self.old.context.script.now self.old.context.program.now (printing form name (λ S. every (map (fits S) args.now))) self.old.base room.old room.new }
+        ensures came { Carries self.old.context.script.now self.old.context.program.now self.old.context.steps (me_of self.old.context.me) (printing form name (λ S. every (map (fits S) args.now))) (λ S k sc d n. On (Passing (ByName name) [] (map erase args.now) at) k sc d n) self.old.base depth self.old.left self.new.left room.old room.new (O.log self.old.store) (O.log self.new.store) (O.private self.old.store) (O.private self.new.store) (outcome result self.new.value self.new.leave) }
     {
         let before = self.base;
         let came = self.arguments(args, depth, room);
         self.base = before;
         if is_left(came) {
             return came;
+        }
+        if let Form::Inspect = form {
+            return self.inspect_values(passed(room, before, args.len()), at, depth);
         }
         if let Some(style) = style_by(form, passed(room, before, args.len())) {
             return self.print_texts(style, args.len(), at, depth, room);
@@ -458,7 +503,7 @@ impl<'p, O: ThreadStore + Drop> Walker<'p, O> {
         if is_left(shown) {
             return shown;
         }
-        self.shown_value(form, passed(room, before, args.len()))
+        Came::Nil
     }
 
     /// Puts the value that came behind the frame.

@@ -264,6 +264,7 @@ impl<'p, O: ThreadStore + Drop> Walker<'p, O> {
     }
 
     /// What a call gives behind its body.
+    #[inline(always)]
     pub(super) fn out_of_call(&mut self, came: Came) -> Came
         ensures gives { outcome result self.new.value self.new.leave ≡ call_exit (outcome came self.old.value self.old.leave) }
         ensures base { self.new.base ≡ self.old.base }
@@ -274,6 +275,18 @@ impl<'p, O: ThreadStore + Drop> Walker<'p, O> {
         if !is_left(came) {
             return came;
         }
+        self.out_of_exit(came)
+    }
+
+    /// The same of a body that was left.
+    #[inline(never)]
+    fn out_of_exit(&mut self, came: Came) -> Came
+        ensures gives { is_left came ≡ true → outcome result self.new.value self.new.leave ≡ call_exit (outcome came self.old.value self.old.leave) }
+        ensures base { self.new.base ≡ self.old.base }
+        ensures left { self.new.left ≡ self.old.left }
+        ensures context { self.new.context ≡ self.old.context }
+        ensures store { self.new.store ≡ self.old.store }
+    {
         match self.leave {
             Leave::Break | Leave::Next => Came::Nil,
             Leave::Return => {

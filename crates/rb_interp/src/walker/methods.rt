@@ -64,12 +64,12 @@ impl<'p, O: ThreadStore + Drop> Walker<'p, O> {
         }
         let frame = room.split_at_mut(before).1;
         clear(frame, count, size);
-        let caller = self.context;
+        let caller = self.context.me;
         self.context.me = me;
         self.base = size;
         let came = self.body(method.body.as_slice(), depth, frame);
         self.base = before;
-        self.context = caller;
+        self.context.me = caller;
         self.out_of_call(came)
     }
 
@@ -125,7 +125,7 @@ impl<'p, O: ThreadStore + Drop> Walker<'p, O> {
     {
         match target_of(self.context.script, receiver, name) {
             Some(target) => self.enter(target.method, Some(target.object), count, at, depth, room),
-            None => self.call_method(receiver, method, passed(room, self.base, count), at),
+            None => { self.call_any(receiver, method, passed(room, self.base, count), at, depth) }
         }
     }
 

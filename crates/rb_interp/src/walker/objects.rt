@@ -1,7 +1,7 @@
 // Objects: `self`, instance variables and new objects.
 
 ghost use Rattle.std.specs.Prelude.{◌≡◌, ◌≤◌, ◌<◌, ℕ, false, List, [], ◌∷◌, length, map, slice_get, Some, None};
-ghost use Rattle.rb_model.specs.Values.{plain};
+ghost use Rattle.rb_model.specs.Values.{Int, plain};
 ghost use Rattle.rb_model.specs.Log.{has_end};
 ghost use Rattle.rb_model.specs.Doing.{doing};
 ghost use Rattle.rb_model.specs.Acts.{GetField};
@@ -35,25 +35,30 @@ impl<'p, O: ThreadStore + Drop> Walker<'p, O> {
     }
 
     /// Asks something of a thing. A thing that is not the thread's own would be shared, and nothing is yet.
-    pub(super) fn ask(&mut self, thing: Ref, act: Act) -> Came
+    #[inline(always)]
+    pub(super) fn ask(&mut self, thing: Ref, act: Act, at: Span) -> Came
         requires unended { has_end (O.log self.old.store).entries ≡ false }
         ensures base { self.new.base ≡ self.old.base }
         ensures left { self.new.left ≡ self.old.left }
         ensures context { self.new.context ≡ self.old.context }
         ensures log { O.log self.new.store ≡ O.log self.old.store }
-        ensures came { (at : Span) → Asks self.old.context.steps (me_of (Some thing)) (doing act) at self.old.left (O.log self.old.store) (O.private self.old.store) (O.private self.new.store) (outcome result self.new.value self.new.leave) }
+        ensures came { Asks self.old.context.steps (me_of (Some thing)) (doing act) at self.old.left (O.log self.old.store) (O.private self.old.store) (O.private self.new.store) (outcome result self.new.value self.new.leave) }
     {
         if !self.store.holds(thing.id) {
             return self.over(Cut::Memory);
         }
         match self.store.apply(thing.id, act) {
-            Ok(Reply::Value(value)) => self.give(value),
+            Ok(Reply::Value(value)) => self.hand(value),
             Ok(Reply::Done) => Came::Nil,
+            Ok(Reply::Elements(_)) => Came::Nil,
+            Ok(Reply::Pairs(_)) => Came::Nil,
+            Ok(Reply::Failed(fault)) => self.raise(fault, at),
             Err(_) => self.over(Cut::Memory),
         }
     }
 
     /// An instance variable of `self`.
+    #[inline(never)]
     pub(super) fn field(&mut self, name: NameId, at: Span) -> Came
         requires unended { has_end (O.log self.old.store).entries ≡ false }
         ensures base { self.new.base ≡ self.old.base }
@@ -64,11 +69,12 @@ impl<'p, O: ThreadStore + Drop> Walker<'p, O> {
     {
         match self.context.me {
             None => self.raise(Fault::NoMethod, at),
-            Some(object) => self.ask(object, Act::GetField(name)),
+            Some(object) => self.ask(object, Act::GetField(name), at),
         }
     }
 
     /// Writes the value that came to an instance variable of `self`, and gives it on.
+    #[inline(never)]
     pub(super) fn write_field(&mut self, name: NameId, came: Came, at: Span) -> Came
         requires unended { has_end (O.log self.old.store).entries ≡ false }
         requires came { is_left came ≡ false }
@@ -81,11 +87,45 @@ impl<'p, O: ThreadStore + Drop> Walker<'p, O> {
         let Some(object) = self.context.me else {
             return self.raise(Fault::NoMethod, at);
         };
+        match came {
+            Came::Int(n) => self.write_integer(object, name, n, at),
+            _ => self.write_value(object, name, came, at),
+        }
+    }
+
+    /// Writes an integer to an instance variable of an object, and gives it on.
+    #[inline(always)]
+    fn write_integer(&mut self, object: Ref, name: NameId, n: i64, at: Span) -> Came
+        requires unended { has_end (O.log self.old.store).entries ≡ false }
+        ensures base { self.new.base ≡ self.old.base }
+        ensures left { self.new.left ≡ self.old.left }
+        ensures context { self.new.context ≡ self.old.context }
+        ensures log { O.log self.new.store ≡ O.log self.old.store }
+        ensures came { WritesField self.old.context.steps (me_of (Some object)) name (Int n) at self.old.left (O.log self.old.store) (O.private self.old.store) (O.private self.new.store) (outcome result self.new.value self.new.leave) }
+    {
+        let done = self.ask(object, Act::SetField(name, Value::Int(n)), at);
+        if is_left(done) {
+            return done;
+        }
+        Came::Int(n)
+    }
+
+    /// Writes any value that came to an instance variable of an object, and gives it on.
+    #[inline(never)]
+    fn write_value(&mut self, object: Ref, name: NameId, came: Came, at: Span) -> Came
+        requires unended { has_end (O.log self.old.store).entries ≡ false }
+        requires came { is_left came ≡ false }
+        ensures base { self.new.base ≡ self.old.base }
+        ensures left { self.new.left ≡ self.old.left }
+        ensures context { self.new.context ≡ self.old.context }
+        ensures log { O.log self.new.store ≡ O.log self.old.store }
+        ensures came { WritesField self.old.context.steps (me_of (Some object)) name (value_of came self.old.value) at self.old.left (O.log self.old.store) (O.private self.old.store) (O.private self.new.store) (outcome result self.new.value self.new.leave) }
+    {
         let value = self.take(came);
         let Ok(copy) = value.share() else {
             return self.over(Cut::Memory);
         };
-        let done = self.ask(object, Act::SetField(name, copy));
+        let done = self.ask(object, Act::SetField(name, copy), at);
         if is_left(done) {
             return done;
         }
@@ -112,7 +152,7 @@ impl<'p, O: ThreadStore + Drop> Walker<'p, O> {
         ensures kept { Keeps self.old.context.script.now self.old.context.program.now (λ S. fits S value.now) self.old.base room.old room.new }
         ensures came { (step : Step) → Fields name at step → Carries self.old.context.script.now self.old.context.program.now self.old.context.steps (me_of self.old.context.me) (λ S. fits S value.now) (λ S k sc d n. On (Eval (erase value.now)) (Then step ∷ k) sc d n) self.old.base depth self.old.left self.new.left room.old room.new (O.log self.old.store) (O.log self.new.store) (O.private self.old.store) (O.private self.new.store) (outcome result self.new.value self.new.leave) }
     {
-        let came = self.walk(value, depth, room);
+        let came = self.evaluate(value, depth, room);
         if is_left(came) {
             return came;
         }

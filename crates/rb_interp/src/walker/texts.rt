@@ -8,7 +8,7 @@ ghost use Rattle.rb_interp.specs.Carries.{me_of};
 ghost use Rattle.rb_interp.specs.Texts.{Tells, TellsSlot, WritesTexts};
 
 use super::Walker;
-use crate::asked::asked_of;
+use crate::asked::{asked_of, is_lined};
 use crate::came::{Came, Cut, is_left};
 use rb_model::{Fault, ThreadStore, Value};
 use rb_render::{RenderFault, Style, add_value};
@@ -34,7 +34,7 @@ impl<'p, O: ThreadStore + Drop> Walker<'p, O> {
             return came;
         };
         let Some(target) = asked_of(self.context.program, self.context.script, &self.value) else {
-            return came;
+            return self.told_plain(came, at, depth);
         };
         let answer = self.enter(target.method, Some(target.object), 0, at, depth, room);
         if is_left(answer) {
@@ -125,6 +125,9 @@ impl<'p, O: ThreadStore + Drop> Walker<'p, O> {
     {
         let mut bytes = Vec::new(self.context.alloc);
         'values: for index in 0..count {
+            if is_lined(style, room, first + index) {
+                return self.over(Cut::Memory);
+            }
             let came = self.told_at(first + index, at, depth, room);
             if is_left(came) {
                 return came;

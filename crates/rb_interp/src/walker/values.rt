@@ -10,10 +10,9 @@ ghost use Rattle.rb_machine.specs.Methods.{deed};
 ghost use Rattle.rb_machine.specs.Texts.{max_bytes};
 ghost use Rattle.rb_builtin.specs.Names.{builtin_of};
 ghost use Rattle.rb_builtin.specs.Integers as integers;
-ghost use Rattle.rb_code.specs.Resolved.{form_takes};
 ghost use Rattle.rb_interp.specs.Outcome.{end_by, is_left, value_of, outcome, Gave, Over};
 ghost use Rattle.rb_interp.specs.Carries.{Shows, me_of};
-ghost use Rattle.rb_interp.specs.Answers.{OrMemory, Writes, outcome_of, shown_value, only_value};
+ghost use Rattle.rb_interp.specs.Answers.{OrMemory, Writes, outcome_of};
 ghost use Rattle.rb_interp.specs.Texts.{ShowsBytes, is_text};
 
 use super::Walker;
@@ -85,6 +84,21 @@ impl<'p, O: ThreadStore + Drop> Walker<'p, O> {
                 self.value = value;
                 Came::Other
             }
+        }
+    }
+
+    /// Gives a value that may well be an integer.
+    #[inline(always)]
+    pub(super) fn hand(&mut self, value: Value) -> Came
+        ensures gives { outcome result self.new.value self.new.leave ≡ Gave (plain value) }
+        ensures base { self.new.base ≡ self.old.base }
+        ensures left { self.new.left ≡ self.old.left }
+        ensures context { self.new.context ≡ self.old.context }
+        ensures store { self.new.store ≡ self.old.store }
+    {
+        match value {
+            Value::Int(n) => Came::Int(n),
+            value => self.give(value),
         }
     }
 
@@ -234,7 +248,7 @@ impl<'p, O: ThreadStore + Drop> Walker<'p, O> {
         }
     }
 
-    /// What a value answers to a method without a block.
+    /// What a value that is no array and no hash answers to a method without a block.
     pub(super) fn call_method(
         &mut self,
         receiver: &Value,
@@ -258,7 +272,13 @@ impl<'p, O: ThreadStore + Drop> Walker<'p, O> {
         ) {
             Ok(Deed::Give(value)) => self.give(value),
             Ok(Deed::Raise(fault)) => self.raise(fault, at),
-            Ok(Deed::Walk(_)) => self.raise(Fault::ArgumentCount, at),
+            Ok(Deed::Walk(_) | Deed::WalkOver(_, _) | Deed::WalkPairs(_)) => {
+                self.raise(Fault::ArgumentCount, at)
+            }
+            // Only arrays and hashes answer so, and they are called by `call_any`.
+            Ok(Deed::Ask(_, _, _) | Deed::Read(_, _) | Deed::Inspect(_)) => {
+                self.over(Cut::Memory)
+            }
             Err(_) => self.over(Cut::Memory),
         }
     }
@@ -328,33 +348,5 @@ impl<'p, O: ThreadStore + Drop> Walker<'p, O> {
             Answer::SinkFailed => self.over(Cut::Sink),
             Answer::Memory => self.over(Cut::Memory),
         }
-    }
-
-    /// What a call that shows values gives: `p` gives its one value.
-    pub(super) fn shown_value(&mut self, form: Form, args: &[Value]) -> Came
-        ensures gives { form_takes form (length args.now) ≡ true → OrMemory (Gave (shown_value form (map plain args.now))) (outcome result self.new.value self.new.leave) }
-        ensures base { self.new.base ≡ self.old.base }
-        ensures left { self.new.left ≡ self.old.left }
-        ensures context { self.new.context ≡ self.old.context }
-        ensures store { self.new.store ≡ self.old.store }
-    {
-        match form {
-            Form::Puts | Form::Print => Came::Nil,
-            Form::Inspect => self.only_value(args),
-        }
-    }
-
-    /// The one of values, or nil.
-    pub(super) fn only_value(&mut self, args: &[Value]) -> Came
-        ensures gives { OrMemory (Gave (only_value (map plain args.now))) (outcome result self.new.value self.new.leave) }
-        ensures base { self.new.base ≡ self.old.base }
-        ensures left { self.new.left ≡ self.old.left }
-        ensures context { self.new.context ≡ self.old.context }
-        ensures store { self.new.store ≡ self.old.store }
-    {
-        let [value] = args else {
-            return Came::Nil;
-        };
-        self.read_shared(value)
     }
 }

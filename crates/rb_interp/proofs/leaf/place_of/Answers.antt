@@ -1,6 +1,6 @@
 use Rattle.std.proofs.Common.{sym, ap}
 use Rattle.rb_tree.specs.Place.{place}
-use Rattle.rb_code.proofs.Showing.{shows-nil, shows-false, shows-true, shows-self_ref, shows-field, shows-set_field, shows-update_field, shows-new, shows-start, shows-own, shows-int, shows-sym, shows-str, shows-local, shows-set_local, shows-update_local, shows-update_element, shows-update_attribute, shows-store, shows-operate, shows-send, shows-walk, shows-function, shows-print, shows-and, shows-or, shows-not, shows-if, shows-while, shows-return, shows-break, shows-next}
+use Rattle.rb_code.proofs.Showing.{shows-array, shows-hash, shows-new_builtin, shows-nil, shows-false, shows-true, shows-self_ref, shows-field, shows-set_field, shows-update_field, shows-new, shows-start, shows-own, shows-int, shows-sym, shows-str, shows-local, shows-set_local, shows-update_local, shows-update_element, shows-update_attribute, shows-store, shows-operate, shows-send, shows-walk, shows-function, shows-print, shows-and, shows-or, shows-not, shows-if, shows-while, shows-return, shows-break, shows-next}
 use Rattle.rb_interp.proofs.leaf.place_of.Goals as goal
 
 pub returns-in-Nil : goal.returns-in-Nil
@@ -36,8 +36,17 @@ returns-in-UpdateElement c = sym (ap place (shows-update_element c.args.code.now
 pub returns-in-UpdateAttribute : goal.returns-in-UpdateAttribute
 returns-in-UpdateAttribute c = sym (ap place (shows-update_attribute c.args.code.now _ _ _ _ _ _ _ c.in-UpdateAttribute.is))
 
+pub returns-in-Array : goal.returns-in-Array
+returns-in-Array c = sym (ap place (shows-array c.args.code.now _ _ c.in-Array.is))
+
+pub returns-in-Hash : goal.returns-in-Hash
+returns-in-Hash c = sym (ap place (shows-hash c.args.code.now _ _ c.in-Hash.is))
+
+pub returns-in-NewBuiltin : goal.returns-in-NewBuiltin
+returns-in-NewBuiltin c = sym (ap place (shows-new_builtin c.args.code.now _ _ _ _ c.in-NewBuiltin.is))
+
 pub returns-in-Store : goal.returns-in-Store
-returns-in-Store c = sym (ap place (shows-store c.args.code.now _ _ _ _ c.in-Store.is))
+returns-in-Store c = sym (ap place (shows-store c.args.code.now _ _ _ _ _ c.in-Store.is))
 
 pub returns-in-Operate : goal.returns-in-Operate
 returns-in-Operate c = sym (ap place (shows-operate c.args.code.now _ _ _ _ _ c.in-Operate.is))

@@ -1,18 +1,18 @@
 use Rattle.rb_tree.specs.declared.node.Program.{Program}
 use Rattle.rb_machine.proofs.Down.{begin_left}
 use Rattle.rb_tree.specs.declared.node.Node.{out-Node}
-use Rattle.rb_interp.specs.Answers.{OrMemory, outcome_of, shown_value}
+use Rattle.rb_interp.specs.Answers.{OrMemory, outcome_of}
 use Rattle.rb_interp.specs.Carries.{numbered, goes_on, plainly, updating, scope_of, written_by, printing, me_of}
 use Rattle.rb_code.proofs.Slots.{slot_within}
 use Rattle.std.proofs.Common.{rules, to_z, of_z, w64, ◌≡◌, ap, sym, ◌∙◌, refl, ℕ, List, [], ◌∷◌, ◌++◌, take, drop, map, length, ◌+◌, ◌-◌, ◌<◌, ◌≤◌, Some, None, true, false, arith}
 use Rattle.std.proofs.lemmas.List.{drop_all}
 use Rattle.std.specs.Prelude.{codes, pos, ◌+ℤ◌, ◌≤ℤ◌, slice_get, slice_set}
 use Rattle.rb_model.specs.Values.{Nil, Int, plain}
-use Rattle.rb_machine.specs.Control.{Then, Under, Rest, AssignTo, ReturnOf, Test, Again, RightOfAnd, RightOfOr, Negate, Choose, Argument, OnReceiver, IndexedBy, IndexOf, MemberOf, ReadOf, RightOf, WriteTo, ReceiverOf, Instead, OfLocal, OfField, OfElement, OfAttribute, Creating, FieldTo, On, Eval, Storing, ByName, ReceiverToStore, PieceOf, Counting, Turn, Frame, JoinTo, TextOf, WriteBehind}
+use Rattle.rb_machine.specs.Control.{Listing, Pairing, Then, Under, Rest, AssignTo, ReturnOf, Test, Again, RightOfAnd, RightOfOr, Negate, Choose, Argument, OnReceiver, IndexedBy, IndexOf, MemberOf, ReadOf, RightOf, WriteTo, ReceiverOf, Instead, OfLocal, OfField, OfElement, OfAttribute, Creating, FieldTo, On, Eval, Storing, ByName, ReceiverToStore, PieceOf, Counting, Turn, Frame, JoinTo, TextOf, WriteBehind}
 use Rattle.rb_code.specs.Erase.{erase, erase_piece, erase_block, erase_method}
 use Rattle.rb_code.specs.Resolved.{fits, every, if_some, block_fits}
-use Rattle.rb_code.proofs.Showing.{shows-nil, shows-false, shows-true, shows-self_ref, shows-field, shows-set_field, shows-update_field, shows-new, shows-start, shows-own, shows-int, shows-sym, shows-local, shows-and, shows-or, shows-not, shows-if, shows-break, shows-next, shows-set_local, shows-while, shows-return, shows-str, shows-update_local, shows-update_element, shows-update_attribute, shows-store, shows-operate, shows-send, shows-walk, shows-function, shows-print}
-use Rattle.rb_code.proofs.Fitting.{fits-local, fits-set_field, fits-update_field, fits-new, fits-own, fits-and, fits-or, fits-not, fits-if, fits-set_local, fits-while, fits-return, fits-str, fits-update_local, fits-update_element, fits-update_attribute, fits-store, fits-operate, fits-send, fits-walk, fits-function, fits-print}
+use Rattle.rb_code.proofs.Showing.{shows-array, shows-hash, shows-new_builtin, shows-nil, shows-false, shows-true, shows-self_ref, shows-field, shows-set_field, shows-update_field, shows-new, shows-start, shows-own, shows-int, shows-sym, shows-local, shows-and, shows-or, shows-not, shows-if, shows-break, shows-next, shows-set_local, shows-while, shows-return, shows-str, shows-update_local, shows-update_element, shows-update_attribute, shows-store, shows-operate, shows-send, shows-walk, shows-function, shows-print}
+use Rattle.rb_code.proofs.Fitting.{fits-array, fits-hash, fits-new_builtin, fits-local, fits-set_field, fits-update_field, fits-new, fits-own, fits-and, fits-or, fits-not, fits-if, fits-set_local, fits-while, fits-return, fits-str, fits-update_local, fits-update_element, fits-update_attribute, fits-store, fits-operate, fits-send, fits-walk, fits-function, fits-print}
 use Rattle.rb_interp.specs.Outcome.{value_of, outcome}
 use Rattle.rb_interp.proofs.Moves.{gives, test_true, test_false, on, same, begins, follows, counts, too_many, too_deep, left}
 use Rattle.rb_interp.proofs.Lists.{two, fst, snd, next_item, len_set, len_map, len_args, get_set, fst_two, nothing, front, there}
@@ -26,9 +26,9 @@ use Rattle.rb_interp.proofs.Quick.{calls_pair, updates}
 use Rattle.rb_interp.proofs.Calls.{calls, no_such, none_plain}
 use Rattle.rb_interp.proofs.Places.{operator_number, or_else_stays, or_else_goes, and_then_stays, and_then_goes, operates, reads, attribute_is, target_local, target_field, target_element, target_attribute}
 use mathlib.Core.Logic.{inl}
-use Rattle.rb_machine.specs.Call.{operator, last_value, enter}
+use Rattle.rb_machine.specs.Call.{operator, last_value, enter, print, text_by, own_text}
 use Rattle.rb_interp.proofs.Arguments.{passing, passed, placed, joined, only_left, only_came, over_left}
-use Rattle.rb_interp.proofs.Prints.{by_form, printing_is, shown, by_text}
+use Rattle.rb_interp.proofs.Prints.{by_form, printing_is, by_text}
 use Rattle.std.specs.Option.{option_map, option_copied}
 use Rattle.rb_code.specs.Dispatch.{method_at}
 use Rattle.rb_machine.specs.Begin.{begin_return}
@@ -37,6 +37,9 @@ use Rattle.std.proofs.lemmas.Int.{ints, to_z-of_z}
 use Rattle.rb_code.specs.Layout.{bound}
 use Rattle.rb_interp.proofs.Turns.{some_left, none_left, last_done, ends_within, deeper, opens, closes, closes_out, cut, answers_block, block_turns, takes_is}
 use Rattle.rb_machine.specs.Methods.{deed}
+use Rattle.rb_interp.proofs.Elements.{calls_builtin, stores_builtin, writes_element, built_from, parts_are}
+use Rattle.rb_builtin.specs.declared.builtin.Builtin.TheVariants as builtin
+use Rattle.rb_code.specs.Resolved.{form_text}
 use Rattle.rb_interp.proofs.Named.{unnamed_is, found_nowhere}
 use Rattle.rb_interp.proofs.Frames.{enters, other_count, frame_lies, enter_left, by_receiver, blocked, by_own, by_number, function_right}
 use Rattle.rb_interp.proofs.Targets.{operator_none, update_none, writer_some, writer_right, writer_none, writer_me}
@@ -48,7 +51,7 @@ use Rattle.rb_interp.specs.declared.came.Came.TheVariants as came
 use Rattle.rb_render.specs.Forms.{style_of}
 use Rattle.rb_model.specs.declared.value.Value.TheVariants as held
 use Rattle.rb_machine.proofs.Printing.{behind_fits, behind_long}
-use Rattle.rb_interp.proofs.Texts.{registers_unasked, told_enters, told_gives, text_left, write_left, copy_came, copy_left, told_itself, told_leaving, told_answer, told_by_class, told_passes, told_joins, told_writes, read_item, next_value, no_value, asks_next, shows_all}
+use Rattle.rb_interp.proofs.Texts.{registers_unasked, registers_plain, told_enters, told_gives, text_left, write_left, copy_came, copy_left, told_itself, told_leaving, told_answer, told_by_class, told_passes, told_joins, told_writes, read_item, next_value, no_value, asks_next, shows_all, gives_nil}
 use Rattle.rb_interp.proofs.walker.Walker.+walk.Goals as goal
 
 pub walk_here-returns-then-self-eq0-clause-came : goal.walk_here-returns-then-self-eq0-clause-came
@@ -542,39 +545,6 @@ repeat-turns-preserved-then-is_left g m c =
           tested_again S _ start _ w.new.self.leave w.new.self.value _ (erase c.args.condition.now) (map erase c.args.body.now) k _ _ _ (ap goes_on (sym z) ∙ (sym c.goes_on.ensures ∙ c.if-not-goes_on.false)) (comes S _ start _ _ _ _ _ _ _ _ (sym z) e1);
     }
 
-pub read_element-returns-then-is_left-clause-came : goal.read_element-returns-then-is_left-clause-came
-read_element-returns-then-is_left-clause-came g m c = λ op value S start k names size st e l a.
-    let w = c.walk-came in
-    let e1 = w.ensures.came S start (Then (IndexedBy (erase c.args.index.now) op value c.args.at) ∷ k) names size st e (sub (fits S c.args.receiver.now) l (fst _ _ l.fits)) a in
-    passes S _ start _ w.result w.new.self.value w.new.self.leave _ (IndexedBy (erase c.args.index.now) op value c.args.at) k _ _ _ (sym c.is_left.ensures ∙ c.if-is_left.true) e1
-
-pub read_element-returns-then-is_left-2-clause-came : goal.read_element-returns-then-is_left-2-clause-came
-read_element-returns-then-is_left-2-clause-came g m c = λ op value S start k names size st e l a.
-    let w = c.walk-came in
-    let e1 = w.ensures.came S start (Then (IndexedBy (erase c.args.index.now) op value c.args.at) ∷ k) names size st e (sub (fits S c.args.receiver.now) l (fst _ _ l.fits)) a in
-    let first = value_of w.result w.new.self.value in
-    let g1 = given w.result w.new.self.value w.new.self.leave (sym c.is_left.ensures ∙ c.if-is_left.false) e1 in
-    let u = c.walk-came-2 in
-    let under = moved _ _ w.ensures.base w.ensures.room (sub (fits S c.args.index.now) l (snd _ _ l.fits)) in
-    let f = rw w.ensures.context at u.ensures.came in
-    let e2 = f S start (Then (IndexOf first op value c.args.at) ∷ k) names size st e under (on _ g1 refl) in
-    passes S _ start _ u.result u.new.self.value u.new.self.leave _ (IndexOf first op value c.args.at) k _ _ _ (sym c.is_left-2.ensures ∙ c.if-is_left-2.true) e2
-
-pub read_element-returns-clause-came : goal.read_element-returns-clause-came
-read_element-returns-clause-came g m c = λ op value S start k names size st e l a.
-    let w = c.walk-came in
-    let e1 = w.ensures.came S start (Then (IndexedBy (erase c.args.index.now) op value c.args.at) ∷ k) names size st e (sub (fits S c.args.receiver.now) l (fst _ _ l.fits)) a in
-    let first = value_of w.result w.new.self.value in
-    let g1 = given w.result w.new.self.value w.new.self.leave (sym c.is_left.ensures ∙ c.if-is_left.false) e1 in
-    let u = c.walk-came-2 in
-    let under = moved _ _ w.ensures.base w.ensures.room (sub (fits S c.args.index.now) l (snd _ _ l.fits)) in
-    let f = rw w.ensures.context at u.ensures.came in
-    let e2 = f S start (Then (IndexOf first op value c.args.at) ∷ k) names size st e under (on _ g1 refl) in
-    let second = value_of u.result u.new.self.value in
-    let g2 = given u.result u.new.self.value u.new.self.leave (sym c.is_left-2.ensures ∙ c.if-is_left-2.false) e2 in
-    let o = c.raise.ensures in
-    rw (o.gives, o.left, o.store) (same (on _ g2 refl) (no_such S first (codes "[]") (second ∷ []) None c.args.at (Then (ReadOf (OfElement first second) op value c.args.at) ∷ k) _ _ _ (operator_none c.args.self.now.context.script.now S st first (codes "[]") refl) refl))
-
 pub update_local-returns-then-is_left-clause-came : goal.update_local-returns-then-is_left-clause-came
 update_local-returns-then-is_left-clause-came g m c = λ name S start k names size st e l a.
     let len : length names ≤ length c.args.room.now = omega (arith, l.within, l.below, l.room) in
@@ -787,18 +757,53 @@ begin_slow_update-returns-in-UpdateLocal-clause-came g m c = λ S start k names 
 pub begin_other-returns-in-UpdateElement-clause-kept : goal.begin_other-returns-in-UpdateElement-clause-kept
 begin_other-returns-in-UpdateElement-clause-kept g m c = λ S names size st e l i p q.
     let x = c.in-UpdateElement in
-    let s = sym (ap (λ d. fits S d names size) x.is ∙ fits-update_element S names size x.receiver x.index x.field-2 x.field-3 x.at) ∙ l.fits in
-    let both = fst_two (fits S x.receiver names size) (fits S x.index names size) (fits S x.field-3 names size) s in
-    let under = sub _ l (rw (c.get.ensures, c.get-in-UpdateElement.ensures) both) in
-    c.read_element.ensures.kept x.field-2 (erase x.field-3) S names size st e under i p q
+    let s = sym (ap (λ d. fits S d names size) x.is ∙ fits-update_element S names size x.receiver x.index x.op x.value x.at) ∙ l.fits in
+    let under = sub _ l (rw (c.get.ensures, c.get-in-UpdateElement.ensures, c.get-in-UpdateElement-2.ensures) s) in
+    c.update_element.ensures.kept S names size st e under i p q
 
 pub begin_other-returns-in-UpdateElement-clause-came : goal.begin_other-returns-in-UpdateElement-clause-came
 begin_other-returns-in-UpdateElement-clause-came g m c = λ S start k names size st e l a.
     let x = c.in-UpdateElement in
-    let s = sym (ap (λ d. fits S d names size) x.is ∙ fits-update_element S names size x.receiver x.index x.field-2 x.field-3 x.at) ∙ l.fits in
-    let both = fst_two (fits S x.receiver names size) (fits S x.index names size) (fits S x.field-3 names size) s in
-    let under = sub _ l (rw (c.get.ensures, c.get-in-UpdateElement.ensures) both) in
-    c.read_element.ensures.came x.field-2 (erase x.field-3) S start k names size st e under (rw (c.get.ensures, c.get-in-UpdateElement.ensures) (same (begins _ _ k _ _ _ (shows-update_element c.args.code.now x.receiver x.index x.field-2 x.field-3 x.at x.is) a) (target_element S (erase x.receiver) (erase x.index) x.field-2 (erase x.field-3) x.at k (scope_of (me_of c.args.self.now.context.me) names c.args.room.now) c.args.depth c.args.self.now.left)))
+    let s = sym (ap (λ d. fits S d names size) x.is ∙ fits-update_element S names size x.receiver x.index x.op x.value x.at) ∙ l.fits in
+    let under = sub _ l (rw (c.get.ensures, c.get-in-UpdateElement.ensures, c.get-in-UpdateElement-2.ensures) s) in
+    c.update_element.ensures.came S start k names size st e under (rw (c.get.ensures, c.get-in-UpdateElement.ensures, c.get-in-UpdateElement-2.ensures) (same (begins _ _ k _ _ _ (shows-update_element c.args.code.now x.receiver x.index x.op x.value x.at x.is) a) (target_element S (erase x.receiver) (erase x.index) x.op (erase x.value) x.at k (scope_of (me_of c.args.self.now.context.me) names c.args.room.now) c.args.depth c.args.self.now.left)))
+
+pub begin_other-returns-in-Array-clause-kept : goal.begin_other-returns-in-Array-clause-kept
+begin_other-returns-in-Array-clause-kept g m c = λ S names size st e l i p q.
+    let x = c.in-Array in
+    let s = sym (ap (λ d. fits S d names size) x.is ∙ fits-array S names size x.items x.field-1) ∙ l.fits in
+    c.array.ensures.kept x.field-1 S names size st e (sub _ l (rw c.as_slice-in-Array.ensures s)) i p q
+
+pub begin_other-returns-in-Array-clause-came : goal.begin_other-returns-in-Array-clause-came
+begin_other-returns-in-Array-clause-came g m c = λ S start k names size st e l a.
+    let x = c.in-Array in
+    let s = sym (ap (λ d. fits S d names size) x.is ∙ fits-array S names size x.items x.field-1) ∙ l.fits in
+    c.array.ensures.came x.field-1 S start k names size st e (sub _ l (rw c.as_slice-in-Array.ensures s)) (rw c.as_slice-in-Array.ensures (begins _ _ k _ _ _ (shows-array c.args.code.now x.items x.field-1 x.is) a))
+
+pub begin_other-returns-in-Hash-clause-kept : goal.begin_other-returns-in-Hash-clause-kept
+begin_other-returns-in-Hash-clause-kept g m c = λ S names size st e l i p q.
+    let x = c.in-Hash in
+    let s = sym (ap (λ d. fits S d names size) x.is ∙ fits-hash S names size x.items x.at) ∙ l.fits in
+    c.hash.ensures.kept S names size st e (sub _ l (rw c.as_slice-in-Hash.ensures (snd _ _ s))) i p q
+
+pub begin_other-returns-in-Hash-clause-came : goal.begin_other-returns-in-Hash-clause-came
+begin_other-returns-in-Hash-clause-came g m c = λ S start k names size st e l a.
+    let x = c.in-Hash in
+    let s = sym (ap (λ d. fits S d names size) x.is ∙ fits-hash S names size x.items x.at) ∙ l.fits in
+    let b = passing (map erase x.items) (parts_are (fits S) erase x.items (fst _ _ s)) (begins _ _ k _ _ _ (shows-hash c.args.code.now x.items x.at x.is) a) in
+    c.hash.ensures.came S start k names size st e (sub _ l (rw c.as_slice-in-Hash.ensures (snd _ _ s))) (rw c.as_slice-in-Hash.ensures b)
+
+pub begin_other-returns-in-NewBuiltin-clause-kept : goal.begin_other-returns-in-NewBuiltin-clause-kept
+begin_other-returns-in-NewBuiltin-clause-kept g m c = λ S names size st e l i p q.
+    let x = c.in-NewBuiltin in
+    let s = sym (ap (λ d. fits S d names size) x.is ∙ fits-new_builtin S names size x.class x.name x.args x.at) ∙ l.fits in
+    c.create_builtin.ensures.kept S names size st e (sub _ l (rw c.as_slice-in-NewBuiltin.ensures s)) i p q
+
+pub begin_other-returns-in-NewBuiltin-clause-came : goal.begin_other-returns-in-NewBuiltin-clause-came
+begin_other-returns-in-NewBuiltin-clause-came g m c = λ S start k names size st e l a.
+    let x = c.in-NewBuiltin in
+    let s = sym (ap (λ d. fits S d names size) x.is ∙ fits-new_builtin S names size x.class x.name x.args x.at) ∙ l.fits in
+    c.create_builtin.ensures.came S start k names size st e (sub _ l (rw c.as_slice-in-NewBuiltin.ensures s)) (rw c.as_slice-in-NewBuiltin.ensures (begins _ _ k _ _ _ (shows-new_builtin c.args.code.now x.class x.name x.args x.at x.is) a))
 
 pub begin_other-returns-in-UpdateAttribute-clause-kept : goal.begin_other-returns-in-UpdateAttribute-clause-kept
 begin_other-returns-in-UpdateAttribute-clause-kept g m c = λ S names size st e l i p q.
@@ -817,31 +822,29 @@ begin_other-returns-in-UpdateAttribute-clause-came g m c = λ S start k names si
 pub begin_other-returns-in-Store-clause-kept : goal.begin_other-returns-in-Store-clause-kept
 begin_other-returns-in-Store-clause-kept g m c = λ S names size st e l i p q.
     let x = c.in-Store in
-    let s = sym (ap (λ d. fits S d names size) x.is ∙ fits-store S names size x.receiver x.name x.args x.at) ∙ l.fits in
+    let s = sym (ap (λ d. fits S d names size) x.is ∙ fits-store S names size x.method x.receiver x.name x.args x.at) ∙ l.fits in
     let under = sub _ l (rw (c.get-in-Store.ensures, c.as_slice-in-Store.ensures) s) in
     c.store_by.ensures.kept S names size st e under i p q
 
 pub begin_other-returns-in-Store-clause-came : goal.begin_other-returns-in-Store-clause-came
 begin_other-returns-in-Store-clause-came g m c = λ S start k names size st e l a.
     let x = c.in-Store in
-    let s = sym (ap (λ d. fits S d names size) x.is ∙ fits-store S names size x.receiver x.name x.args x.at) ∙ l.fits in
+    let s = sym (ap (λ d. fits S d names size) x.is ∙ fits-store S names size x.method x.receiver x.name x.args x.at) ∙ l.fits in
     let under = sub _ l (rw (c.get-in-Store.ensures, c.as_slice-in-Store.ensures) s) in
-    c.store_by.ensures.came S start k names size st e under (rw (c.get-in-Store.ensures, c.as_slice-in-Store.ensures) (begins _ _ k _ _ _ (shows-store c.args.code.now x.receiver x.name x.args x.at x.is) a))
+    c.store_by.ensures.came S start k names size st e under (rw (c.get-in-Store.ensures, c.as_slice-in-Store.ensures) (begins _ _ k _ _ _ (shows-store c.args.code.now x.method x.receiver x.name x.args x.at x.is) a))
 
 pub begin_other-returns-in-Print-clause-kept : goal.begin_other-returns-in-Print-clause-kept
 begin_other-returns-in-Print-clause-kept g m c = λ S names size st e l i p q.
     let x = c.in-Print in
     let r = sym (ap (λ d. fits S d names size) x.is ∙ fits-print S names size x.form x.name x.args x.at) ∙ l.fits in
-    let s = rw (len_map (fits S) x.args) at r in
-    let under = sub (printing x.form x.name (length c.as_slice-in-Print.result.now) (λ S. every (map (fits S) c.as_slice-in-Print.result.now)) S) l (rw c.as_slice-in-Print.ensures s) in
+    let under = sub (printing x.form x.name (λ S. every (map (fits S) c.as_slice-in-Print.result.now)) S) l (rw c.as_slice-in-Print.ensures r) in
     c.begin_print.ensures.kept S names size st e under i p q
 
 pub begin_other-returns-in-Print-clause-came : goal.begin_other-returns-in-Print-clause-came
 begin_other-returns-in-Print-clause-came g m c = λ S start k names size st e l a.
     let x = c.in-Print in
     let r = sym (ap (λ d. fits S d names size) x.is ∙ fits-print S names size x.form x.name x.args x.at) ∙ l.fits in
-    let s = rw (len_map (fits S) x.args) at r in
-    let under = sub (printing x.form x.name (length c.as_slice-in-Print.result.now) (λ S. every (map (fits S) c.as_slice-in-Print.result.now)) S) l (rw c.as_slice-in-Print.ensures s) in
+    let under = sub (printing x.form x.name (λ S. every (map (fits S) c.as_slice-in-Print.result.now)) S) l (rw c.as_slice-in-Print.ensures r) in
     c.begin_print.ensures.came S start k names size st e under (rw c.as_slice-in-Print.ensures (begins _ _ k _ _ _ (shows-print c.args.code.now x.form x.name x.args x.at x.is) a))
 
 pub begin_other-returns-in-Return-clause-kept : goal.begin_other-returns-in-Return-clause-kept
@@ -1214,6 +1217,24 @@ begin-returns-in-If-clause-kept g m c = c.begin_choice.ensures.kept
 pub begin-returns-in-If-clause-came : goal.begin-returns-in-If-clause-came
 begin-returns-in-If-clause-came g m c = c.begin_choice.ensures.came
 
+pub begin-returns-in-SetField-clause-kept : goal.begin-returns-in-SetField-clause-kept
+begin-returns-in-SetField-clause-kept g m c = c.begin_set_field.ensures.kept
+
+pub begin-returns-in-SetField-clause-came : goal.begin-returns-in-SetField-clause-came
+begin-returns-in-SetField-clause-came g m c = c.begin_set_field.ensures.came
+
+pub begin-returns-in-UpdateField-clause-kept : goal.begin-returns-in-UpdateField-clause-kept
+begin-returns-in-UpdateField-clause-kept g m c = c.begin_update_field.ensures.kept
+
+pub begin-returns-in-UpdateField-clause-came : goal.begin-returns-in-UpdateField-clause-came
+begin-returns-in-UpdateField-clause-came g m c = c.begin_update_field.ensures.came
+
+pub begin-returns-in-New-clause-kept : goal.begin-returns-in-New-clause-kept
+begin-returns-in-New-clause-kept g m c = c.begin_new.ensures.kept
+
+pub begin-returns-in-New-clause-came : goal.begin-returns-in-New-clause-came
+begin-returns-in-New-clause-came g m c = c.begin_new.ensures.came
+
 pub begin-returns-in_default-clause-kept : goal.begin-returns-in_default-clause-kept
 begin-returns-in_default-clause-kept g m c = c.begin_other.ensures.kept
 
@@ -1257,6 +1278,21 @@ begin_function-returns-in_default-clause-came g m c = λ S start k names size st
 
 pub begin_choice-returns-in_default-clause-came : goal.begin_choice-returns-in_default-clause-came
 begin_choice-returns-in_default-clause-came g m c = λ S start k names size st e l a.
+    let o = c.over.ensures in
+    rw (o.gives, o.left, o.store) (_, a, begin_left S (out-Node (erase c.args.code.now)) k (scope_of (me_of c.args.self.now.context.me) names c.args.room.now) c.args.depth c.args.self.now.left)
+
+pub begin_set_field-returns-in_default-clause-came : goal.begin_set_field-returns-in_default-clause-came
+begin_set_field-returns-in_default-clause-came g m c = λ S start k names size st e l a.
+    let o = c.over.ensures in
+    rw (o.gives, o.left, o.store) (_, a, begin_left S (out-Node (erase c.args.code.now)) k (scope_of (me_of c.args.self.now.context.me) names c.args.room.now) c.args.depth c.args.self.now.left)
+
+pub begin_update_field-returns-in_default-clause-came : goal.begin_update_field-returns-in_default-clause-came
+begin_update_field-returns-in_default-clause-came g m c = λ S start k names size st e l a.
+    let o = c.over.ensures in
+    rw (o.gives, o.left, o.store) (_, a, begin_left S (out-Node (erase c.args.code.now)) k (scope_of (me_of c.args.self.now.context.me) names c.args.room.now) c.args.depth c.args.self.now.left)
+
+pub begin_new-returns-in_default-clause-came : goal.begin_new-returns-in_default-clause-came
+begin_new-returns-in_default-clause-came g m c = λ S start k names size st e l a.
     let o = c.over.ensures in
     rw (o.gives, o.left, o.store) (_, a, begin_left S (out-Node (erase c.args.code.now)) k (scope_of (me_of c.args.self.now.context.me) names c.args.room.now) c.args.depth c.args.self.now.left)
 
@@ -1315,6 +1351,26 @@ begin_slow_operate-returns-in-Some-held_alone-clause-came g m c = λ S start k n
     let b = begins _ _ k _ _ _ (shows-operate c.args.code.now x.method x.name x.left x.right x.at x.is) a in
     rw (o.left, o.store)
     (calls_pair S _ start _ _ k _ names size c.args.depth c.args.self.now.left c.args.room.now x.name first second x.at (plain c.in-Some.receiver.now) vs.0 _ (none_plain S (plain c.in-Some.receiver.now) (text_of S x.name) c.in-Some.ensures.plain) fl fr len c.if-self-gt1.true c.if-depth-lt-MAX_DEPTH.true c.in-Some.ensures.held vs.2 given (rw (c.get-left.ensures, c.get-right.ensures) b))
+
+pub begin_slow_operate-returns-in-Some-local_target-clause-kept : goal.begin_slow_operate-returns-in-Some-local_target-clause-kept
+begin_slow_operate-returns-in-Some-local_target-clause-kept g m c = λ S names size st e l i p q.
+    let x = c.in-Operate in
+    let s = sym (ap (λ d. fits S d names size) x.is ∙ fits-operate S names size x.method x.name x.left x.right x.at) ∙ l.fits in
+    let fr : fits S c.get-right.result.now names size ≡ true = rw c.get-right.ensures (snd _ _ (snd _ _ s)) in
+    c.operate_target.ensures.kept S names size st e (sub _ l fr) i p q
+
+pub begin_slow_operate-returns-in-Some-local_target-clause-came : goal.begin_slow_operate-returns-in-Some-local_target-clause-came
+begin_slow_operate-returns-in-Some-local_target-clause-came g m c = λ S start k names size st e l a.
+    let x = c.in-Operate in
+    let s = sym (ap (λ d. fits S d names size) x.is ∙ fits-operate S names size x.method x.name x.left x.right x.at) ∙ l.fits in
+    let fl : fits S c.get-left.result.now names size ≡ true = rw c.get-left.ensures (fst _ _ (snd _ _ s)) in
+    let fr : fits S c.get-right.result.now names size ≡ true = rw c.get-right.ensures (snd _ _ (snd _ _ s)) in
+    let len : length names ≤ length c.args.room.now = omega (arith, l.within, l.below, l.room) in
+    let more : 0 < c.args.self.now.left = omega (arith, c.if-self-gt1.true) in
+    let b = begins _ _ k _ _ _ (shows-operate c.args.code.now x.method x.name x.left x.right x.at x.is) a in
+    let waits = Then (ReceiverOf (text_of S x.name) (erase c.get-right.result.now ∷ []) None x.at) ∷ k in
+    let e1 = c.in-Some-local_target.ensures.held S _ names size c.args.depth c.args.self.now.left start _ _ waits (me_of c.args.self.now.context.me) fl len more c.if-depth-lt-MAX_DEPTH.true (rw (c.get-left.ensures, c.get-right.ensures) b) in
+    c.operate_target.ensures.came S start k names size st e (sub _ l fr) (on _ (on _ e1 refl) refl)
 
 pub begin_slow_operate-returns-after-self-gt1-clause-kept : goal.begin_slow_operate-returns-after-self-gt1-clause-kept
 begin_slow_operate-returns-after-self-gt1-clause-kept g m c = λ S names size st e l i p q.
@@ -1435,6 +1491,54 @@ operate_integer-returns-clause-came g m c = λ name S start k names size st e l 
     let d = rw (z, w.ensures.context, sym e) at d0 in
     rw (o.left, o.store) (calls S _ start _ _ (Int c.args.m) (text_of S name) (value_of w.result w.new.self.value ∷ []) c.args.at k _ _ _ _ (none_plain S (Int c.args.m) (text_of S name) refl) d (on _ (on _ g1 refl) refl))
 
+pub operate_target-returns-then-is_left-clause-kept : goal.operate_target-returns-then-is_left-clause-kept
+operate_target-returns-then-is_left-clause-kept g m c = λ S names size st e l i p q. c.evaluate-came.ensures.kept S names size st e l i p q
+
+pub operate_target-returns-then-is_left-clause-came : goal.operate_target-returns-then-is_left-clause-came
+operate_target-returns-then-is_left-clause-came g m c = λ S start k names size st e l a.
+    let w = c.evaluate-came in
+    let step = Argument (OnReceiver (me_of (Some c.args.target.object)) (text_of S c.args.name) None) [] [] c.args.at in
+    let come = w.ensures.came S start (Then step ∷ k) names size st e l a in
+    passes S _ start _ w.result w.new.self.value w.new.self.leave _ step k _ _ _ (sym c.is_left.ensures ∙ c.if-is_left.true) come
+
+pub operate_target-returns-then-self-room-clause-kept : goal.operate_target-returns-then-self-room-clause-kept
+operate_target-returns-then-self-room-clause-kept g m c = λ S names size st e l i p q. c.evaluate-came.ensures.kept S names size st e l i p q
+
+pub operate_target-returns-then-self-room-clause-came : goal.operate_target-returns-then-self-room-clause-came
+operate_target-returns-then-self-room-clause-came g m c = λ S start k names size st e l a.
+    let w = c.evaluate-came in
+    let step = Argument (OnReceiver (me_of (Some c.args.target.object)) (text_of S c.args.name) None) [] [] c.args.at in
+    let come = w.ensures.came S start (Then step ∷ k) names size st e l a in
+    let g1 = given w.result w.new.self.value w.new.self.leave (sym c.is_left.ensures ∙ c.if-is_left.false) come in
+    let o = c.over.ensures in
+    rw (o.gives, o.left, o.store) (_, g1, refl)
+
+pub operate_target-returns-clause-kept : goal.operate_target-returns-clause-kept
+operate_target-returns-clause-kept g m c = λ S names size st e l i p q.
+    let w = c.evaluate-came in
+    let t = c.pass.ensures in
+    c.enter.ensures.kept i (omega (arith, q, t.base, w.ensures.base))
+    ∙ (ap (λ r. slice_get r i) t.passed.2 ∙ (get_set w.new.room w.new.self.base i t.passed.0 (λ z. omega (arith, z, q, w.ensures.base)) ∙ w.ensures.kept S names size st e l i p q))
+
+pub operate_target-returns-clause-came : goal.operate_target-returns-clause-came
+operate_target-returns-clause-came g m c = λ S start k names size st e l a.
+    let w = c.evaluate-came in
+    let t = c.pass.ensures in
+    let p = t.passed in
+    let to = me_of (Some c.args.target.object) in
+    let method = erase_method c.args.target.method.now in
+    let x = value_of w.result w.new.self.value in
+    let target = c.requires.target in
+    let come = w.ensures.came S start (Then (Argument (OnReceiver to (text_of S c.args.name) None) [] [] c.args.at) ∷ k) names size st e l a in
+    let g1 = given w.result w.new.self.value w.new.self.leave (sym c.is_left.ensures ∙ c.if-is_left.false) come in
+    let g2 = same (on _ (on _ g1 refl) refl) (by_receiver S to to (text_of S c.args.name) method (x ∷ []) c.args.at k _ _ _ (target.finds S st) refl) in
+    let entered = same g2 (ap (λ v. enter S method to (v ∷ []) c.args.at k (scope_of (me_of c.args.self.now.context.me) names w.new.room) c.args.depth w.new.self.left) (sym p.1)) in
+    let base = w.new.self.base in
+    let below : length names ≤ base = omega (arith, l.within, l.below, w.ensures.base) in
+    let within : base < length w.new.room = omega (arith, c.if-self-room.false) in
+    let f = rw (t.context, t.left, t.store, t.base, w.ensures.context, p.2) at c.enter.ensures.came in
+    f S start k names st e (target.right S st) below (omega (arith, within, len_set w.new.room base p.0)) (placed method to c.args.at k _ _ (me_of c.args.self.now.context.me) names base w.new.room p.0 below within entered)
+
 pub operate_value-returns-then-is_left-clause-kept : goal.operate_value-returns-then-is_left-clause-kept
 operate_value-returns-then-is_left-clause-kept g m c = λ S names size st e l i p q.
     let t = c.take-receiver in
@@ -1472,10 +1576,11 @@ operate_value-returns-clause-came g m c = λ S start k names size st e l a.
     let come = f S start (Then step ∷ k) names size st e under a in
     let g1 = given w.result w.new.self.value w.new.self.leave (sym c.is_left.ensures ∙ c.if-is_left.false) come in
     let y = c.take-arg in
-    let o = c.operated.ensures in
+    let o = c.call_with.ensures in
     let number = same_is (builtin_of (text_of S c.args.name)) c.args.method (fst _ _ l.fits) in
-    let d = rw (y.ensures.context, w.ensures.context, t.ensures.context, sym e, t.ensures.value, y.ensures.value) at o.gives (text_of S c.args.name) number in
-    rw (o.left, o.store, y.ensures.left, y.ensures.store) (calls S _ start _ _ first (text_of S c.args.name) (value_of w.result w.new.self.value ∷ []) c.args.at k _ _ _ _ ((rw (y.ensures.context, w.ensures.context, t.ensures.context, t.ensures.value) at (c.target_of.ensures.none c.in-None.is)) S st) d (on _ (on _ g1 refl) refl))
+    let f1 = rw (y.ensures.context, w.ensures.context, t.ensures.context, t.ensures.value, y.ensures.value, y.ensures.left, y.ensures.store) at o.came in
+    let none = (rw (y.ensures.context, w.ensures.context, t.ensures.context, t.ensures.value) at (c.target_of.ensures.none c.in-None.is)) S st in
+    rw (o.log, y.ensures.store) (calls_builtin S _ start _ _ _ _ _ _ _ _ _ c.args.self.now.context.program.now c.args.method first (text_of S c.args.name) (value_of w.result w.new.self.value ∷ []) c.args.at none number e f1 (on _ (on _ g1 refl) refl))
 
 pub combine-returns-in-Int-clause-kept : goal.combine-returns-in-Int-clause-kept
 combine-returns-in-Int-clause-kept g m c = c.combine_integer.ensures.kept
@@ -1493,21 +1598,21 @@ pub combine-returns-in_default-clause-came : goal.combine-returns-in_default-cla
 combine-returns-in_default-clause-came g m c = c.combine_value.ensures.came
 
 pub combine_integer-returns-then-is_left-clause-kept : goal.combine_integer-returns-then-is_left-clause-kept
-combine_integer-returns-then-is_left-clause-kept g m c = c.evaluate_call-came.ensures.kept
+combine_integer-returns-then-is_left-clause-kept g m c = c.evaluate-came.ensures.kept
 
 pub combine_integer-returns-then-is_left-clause-came : goal.combine_integer-returns-then-is_left-clause-came
 combine_integer-returns-then-is_left-clause-came g m c = λ S start k names size st e l a.
-    let w = c.evaluate_call-came in
+    let w = c.evaluate-came in
     let step = RightOf (Int c.args.m) c.args.op c.args.at in
     let come = w.ensures.came S start (Then step ∷ k) names size st e l a in
     passes S _ start _ w.result w.new.self.value w.new.self.leave _ step k _ _ _ (sym c.is_left.ensures ∙ c.if-is_left.true) come
 
 pub combine_integer-returns-clause-kept : goal.combine_integer-returns-clause-kept
-combine_integer-returns-clause-kept g m c = c.evaluate_call-came.ensures.kept
+combine_integer-returns-clause-kept g m c = c.evaluate-came.ensures.kept
 
 pub combine_integer-returns-clause-came : goal.combine_integer-returns-clause-came
 combine_integer-returns-clause-came g m c = λ S start k names size st e l a.
-    let w = c.evaluate_call-came in
+    let w = c.evaluate-came in
     let step = RightOf (Int c.args.m) c.args.op c.args.at in
     let come = w.ensures.came S start (Then step ∷ k) names size st e l a in
     let none = sym c.is_left.ensures ∙ c.if-is_left.false in
@@ -1537,10 +1642,11 @@ combine_value-returns-clause-came g m c = λ S start k names size st e l a.
     let e1 = f S start (Then (RightOf (value_of c.args.current c.args.self.now.value) c.args.op c.args.at) ∷ k) names size st e under a in
     let g1 = given w.result w.new.self.value w.new.self.leave (sym c.is_left.ensures ∙ c.if-is_left.false) e1 in
     let y = c.take-arg in
-    let o = c.operated.ensures in
+    let o = c.call_with.ensures in
+    let v = value_of c.args.current c.args.self.now.value in
     let number = operator_number S c.args.op ∙ sym c.method_of-method.ensures in
-    let d = rw (y.ensures.context, w.ensures.context, t.ensures.context, sym e, t.ensures.value, y.ensures.value) at o.gives (operator S c.args.op) number in
-    rw (o.left, o.store, y.ensures.left, y.ensures.store) (calls S _ start _ _ (value_of c.args.current c.args.self.now.value) (operator S c.args.op) (value_of w.result w.new.self.value ∷ []) c.args.at k _ _ _ _ (update_none c.args.self.now.context.script.now S st (value_of c.args.current c.args.self.now.value) c.args.op) d (on _ g1 refl))
+    let f1 = rw (y.ensures.context, w.ensures.context, t.ensures.context, t.ensures.value, y.ensures.value, y.ensures.left, y.ensures.store) at o.came in
+    rw (o.log, y.ensures.store) (calls_builtin S _ start _ _ _ _ _ _ _ _ _ c.args.self.now.context.program.now c.method_of-method.result v (operator S c.args.op) (value_of w.result w.new.self.value ∷ []) c.args.at (update_none c.args.self.now.context.script.now S st v c.args.op) number e f1 (on _ g1 refl))
 
 pub combine_value-returns-then-is_left-clause-kept : goal.combine_value-returns-then-is_left-clause-kept
 combine_value-returns-then-is_left-clause-kept g m c = λ S names size st e l i p q.
@@ -1739,8 +1845,9 @@ pub invoke-returns-in-None-clause-came : goal.invoke-returns-in-None-clause-came
 invoke-returns-in-None-clause-came g m c = λ S start k names st e number le long a.
     let v = plain c.args.receiver.now in
     let args = map plain (take c.args.count (drop c.args.self.now.base c.args.room.now)) in
-    let m1 = rw (sym e, c.passed.ensures long) at (c.call_method.ensures.gives (text_of S c.args.name) number) in
-    rw (c.call_method.ensures.left, c.call_method.ensures.store) (calls S _ start _ _ v (text_of S c.args.name) args c.args.at k _ _ _ _ (c.target_of.ensures.none c.in-None.is S st) m1 a)
+    let o = c.call_any.ensures in
+    let f = rw (c.passed.ensures long) at o.came in
+    rw o.log (calls_builtin S _ start _ _ _ _ _ _ _ _ _ c.args.self.now.context.program.now c.args.method v (text_of S c.args.name) args c.args.at (c.target_of.ensures.none c.in-None.is S st) number e f a)
 
 pub own-returns-then-is_left-clause-kept : goal.own-returns-then-is_left-clause-kept
 own-returns-then-is_left-clause-kept g m c = λ S names size st e l i p q.
@@ -1837,13 +1944,13 @@ begin_function-returns-in-None-clause-came g m c = λ S start k names size st e 
 
 pub begin_print-returns-in-Some-clause-kept : goal.begin_print-returns-in-Some-clause-kept
 begin_print-returns-in-Some-clause-kept g m c = λ S names size st e l i p q.
-    let right = printing_is S c.args.form c.args.name (length c.args.args.now) (λ s. every (map (fits s) c.args.args.now)) names size l.fits in
-    c.own.ensures.kept S names size st e (sub (every (map (fits S) c.args.args.now)) l right.3) i p q
+    let right = printing_is S c.args.form c.args.name (λ s. every (map (fits s) c.args.args.now)) names size l.fits in
+    c.own.ensures.kept S names size st e (sub (every (map (fits S) c.args.args.now)) l right.2) i p q
 
 pub begin_print-returns-in-Some-clause-came : goal.begin_print-returns-in-Some-clause-came
 begin_print-returns-in-Some-clause-came g m c = λ S start k names size st e l a.
-    let right = printing_is S c.args.form c.args.name (length c.args.args.now) (λ s. every (map (fits s) c.args.args.now)) names size l.fits in
-    c.own.ensures.came S start k names size st e (sub (every (map (fits S) c.args.args.now)) l right.3) a
+    let right = printing_is S c.args.form c.args.name (λ s. every (map (fits s) c.args.args.now)) names size l.fits in
+    c.own.ensures.came S start k names size st e (sub (every (map (fits S) c.args.args.now)) l right.2) a
 
 pub operate_value-returns-in-Some-clause-kept : goal.operate_value-returns-in-Some-clause-kept
 operate_value-returns-in-Some-clause-kept g m c = λ S names size st e l i p q.
@@ -1950,7 +2057,7 @@ write_member-returns-then-is_left-clause-came g m c = λ name S start k names st
     let to = me_of (Some c.in-Some.target.object) in
     let is = c.in-Some.ensures.some in
     let entered = same a (by_receiver S receiver to (text_of S name ++ codes "=") (erase_method meth) (v ∷ []) c.args.at (Then (Instead v) ∷ k) _ _ _ (writer_some script S st receiver c.args.writer name c.in-Some.target.object meth writes is) (writer_me script receiver c.args.writer c.in-Some.target.object meth is)) in
-    let same_value : plain c.in-Ok.copy ≡ v = c.in-Ok.ensures ∙ t.ensures.value in
+    let same_value : plain c.in-Ok.copy ≡ v = c.in-Ok.ensures.value ∙ t.ensures.value in
     let f = rw (t.ensures.context, t.ensures.left, t.ensures.store, same_value) at y.ensures.came in
     let come = f S start (Then (Instead v) ∷ k) names st e (writer_right script S st receiver c.args.writer c.in-Some.target.object meth is) (omega (arith, le, t.ensures.base)) (omega (arith, bound_, t.ensures.base)) entered in
     passes S _ start _ y.result y.new.self.value y.new.self.leave _ (Instead v) k _ _ _ (sym c.is_left.ensures ∙ c.if-is_left.true) come
@@ -1969,7 +2076,7 @@ write_member-returns-clause-came g m c = λ name S start k names st e writes fre
     let to = me_of (Some c.in-Some.target.object) in
     let is = c.in-Some.ensures.some in
     let entered = same a (by_receiver S receiver to (text_of S name ++ codes "=") (erase_method meth) (v ∷ []) c.args.at (Then (Instead v) ∷ k) _ _ _ (writer_some script S st receiver c.args.writer name c.in-Some.target.object meth writes is) (writer_me script receiver c.args.writer c.in-Some.target.object meth is)) in
-    let same_value : plain c.in-Ok.copy ≡ v = c.in-Ok.ensures ∙ t.ensures.value in
+    let same_value : plain c.in-Ok.copy ≡ v = c.in-Ok.ensures.value ∙ t.ensures.value in
     let f = rw (t.ensures.context, t.ensures.left, t.ensures.store, same_value) at y.ensures.came in
     let come = f S start (Then (Instead v) ∷ k) names st e (writer_right script S st receiver c.args.writer c.in-Some.target.object meth is) (omega (arith, le, t.ensures.base)) (omega (arith, bound_, t.ensures.base)) entered in
     let g1 = given y.result y.new.self.value y.new.self.leave (sym c.is_left.ensures ∙ c.if-is_left.false) come in
@@ -2190,8 +2297,12 @@ store_by-returns-clause-came g m c = λ S start k names size st e l a.
     let came = sym c.is_left-2.ensures ∙ c.if-is_left-2.false in
     let values = map plain (take (length c.args.args.now) (drop t.new.self.base r.new.room)) in
     let none = (rw (r.ensures.context, t.ensures.context, w.ensures.context, t.ensures.value) at (c.target_of.ensures.none c.in-None.is)) S st in
-    let o = c.raise.ensures in
-    rw (o.gives, o.left, o.store) (same (on _ (p.1 came) refl) (no_such S v (text_of S c.args.name) values None c.args.at (Then (Instead (last_value S values)) ∷ k) _ _ _ none (fst _ _ l.fits)))
+    let base = t.new.self.base in
+    let long : base + length c.args.args.now ≤ length r.new.room = omega (arith, r.ensures.base came, r.ensures.fits under.room) in
+    let o = c.store_builtin.ensures in
+    let number = same_is (builtin_of (text_of S c.args.name)) c.args.method (fst _ _ l.fits) in
+    let h1 = rw (r.ensures.context, t.ensures.context, w.ensures.context, t.ensures.value, c.passed.ensures long, o.log) at (o.came (text_of S c.args.name) number) in
+    rw o.log (stores_builtin S _ start _ _ _ _ _ _ _ _ _ c.args.self.now.context.program.now v (text_of S c.args.name) values c.args.at none e h1 (on _ (p.1 came) refl))
 
 -- ---- objects
 
@@ -2205,60 +2316,60 @@ begin_other-returns-in-Start-clause-came g m c = λ S start k names size st e l 
     let o = c.raise.ensures in
     rw (o.gives, o.left, o.store) (begins _ _ k _ _ _ (shows-start c.args.code.now _ _ _ c.in-Start.at c.in-Start.is) a)
 
-pub begin_other-returns-in-Field-clause-came : goal.begin_other-returns-in-Field-clause-came
-begin_other-returns-in-Field-clause-came g m c = λ S start k names size st e l a.
+pub begin-returns-in-Field-clause-came : goal.begin-returns-in-Field-clause-came
+begin-returns-in-Field-clause-came g m c = λ S start k names size st e l a.
     let o = c.field.ensures in
     rw (o.left, o.log) (o.came S start k _ c.args.depth (begins _ _ k _ _ _ (shows-field c.args.code.now c.in-Field.name c.in-Field.at c.in-Field.is) a))
 
-pub begin_other-returns-in-SetField-clause-kept : goal.begin_other-returns-in-SetField-clause-kept
-begin_other-returns-in-SetField-clause-kept g m c = λ S names size st e l i p q.
+pub begin_set_field-returns-in-SetField-clause-kept : goal.begin_set_field-returns-in-SetField-clause-kept
+begin_set_field-returns-in-SetField-clause-kept g m c = λ S names size st e l i p q.
     let x = c.in-SetField in
     let s = sym (ap (λ d. fits S d names size) x.is ∙ fits-set_field S names size x.name x.value x.at) ∙ l.fits in
-    c.set_field.ensures.kept S names size st e (sub _ l (rw c.get-in-SetField.ensures s)) i p q
+    c.set_field.ensures.kept S names size st e (sub _ l (rw c.get.ensures s)) i p q
 
-pub begin_other-returns-in-SetField-clause-came : goal.begin_other-returns-in-SetField-clause-came
-begin_other-returns-in-SetField-clause-came g m c = λ S start k names size st e l a.
+pub begin_set_field-returns-in-SetField-clause-came : goal.begin_set_field-returns-in-SetField-clause-came
+begin_set_field-returns-in-SetField-clause-came g m c = λ S start k names size st e l a.
     let x = c.in-SetField in
     let s = sym (ap (λ d. fits S d names size) x.is ∙ fits-set_field S names size x.name x.value x.at) ∙ l.fits in
-    c.set_field.ensures.came (FieldTo x.name x.at) fielded S start k names size st e (sub _ l (rw c.get-in-SetField.ensures s)) (rw c.get-in-SetField.ensures (begins _ _ k _ _ _ (shows-set_field c.args.code.now x.name x.value x.at x.is) a))
+    c.set_field.ensures.came (FieldTo x.name x.at) fielded S start k names size st e (sub _ l (rw c.get.ensures s)) (rw c.get.ensures (begins _ _ k _ _ _ (shows-set_field c.args.code.now x.name x.value x.at x.is) a))
 
-pub begin_other-returns-in-UpdateField-clause-kept : goal.begin_other-returns-in-UpdateField-clause-kept
-begin_other-returns-in-UpdateField-clause-kept g m c = λ S names size st e l i p q.
+pub begin_update_field-returns-in-UpdateField-clause-kept : goal.begin_update_field-returns-in-UpdateField-clause-kept
+begin_update_field-returns-in-UpdateField-clause-kept g m c = λ S names size st e l i p q.
     let x = c.in-UpdateField in
     let s = sym (ap (λ d. fits S d names size) x.is ∙ fits-update_field S names size x.name x.op x.value x.at) ∙ l.fits in
-    c.update_field.ensures.kept S names size st e (sub _ l (rw c.get-in-UpdateField.ensures s)) i p q
+    c.update_field.ensures.kept S names size st e (sub _ l (rw c.get.ensures s)) i p q
 
-pub begin_other-returns-in-UpdateField-clause-came : goal.begin_other-returns-in-UpdateField-clause-came
-begin_other-returns-in-UpdateField-clause-came g m c = λ S start k names size st e l a.
+pub begin_update_field-returns-in-UpdateField-clause-came : goal.begin_update_field-returns-in-UpdateField-clause-came
+begin_update_field-returns-in-UpdateField-clause-came g m c = λ S start k names size st e l a.
     let x = c.in-UpdateField in
     let s = sym (ap (λ d. fits S d names size) x.is ∙ fits-update_field S names size x.name x.op x.value x.at) ∙ l.fits in
     let b = same (begins _ _ k _ _ _ (shows-update_field c.args.code.now x.name x.op x.value x.at x.is) a) (target_field S x.name x.op (erase x.value) x.at k (scope_of (me_of c.args.self.now.context.me) names c.args.room.now) c.args.depth c.args.self.now.left) in
-    c.update_field.ensures.came S start k names size st e (sub _ l (rw c.get-in-UpdateField.ensures s)) (rw c.get-in-UpdateField.ensures b)
+    c.update_field.ensures.came S start k names size st e (sub _ l (rw c.get.ensures s)) (rw c.get.ensures b)
 
-pub begin_other-returns-in-New-clause-kept : goal.begin_other-returns-in-New-clause-kept
-begin_other-returns-in-New-clause-kept g m c = λ S names size st e l i p q.
+pub begin_new-returns-in-New-clause-kept : goal.begin_new-returns-in-New-clause-kept
+begin_new-returns-in-New-clause-kept g m c = λ S names size st e l i p q.
     let x = c.in-New in
     let s = sym (ap (λ d. fits S d names size) x.is ∙ fits-new S names size x.class x.first x.name x.args x.at) ∙ l.fits in
-    c.create.ensures.kept S names size st e (sub _ l (rw c.as_slice-in-New.ensures s)) i p q
+    c.create.ensures.kept S names size st e (sub _ l (rw c.as_slice.ensures s)) i p q
 
-pub begin_other-returns-in-New-clause-came : goal.begin_other-returns-in-New-clause-came
-begin_other-returns-in-New-clause-came g m c = λ S start k names size st e l a.
+pub begin_new-returns-in-New-clause-came : goal.begin_new-returns-in-New-clause-came
+begin_new-returns-in-New-clause-came g m c = λ S start k names size st e l a.
     let x = c.in-New in
     let s = sym (ap (λ d. fits S d names size) x.is ∙ fits-new S names size x.class x.first x.name x.args x.at) ∙ l.fits in
-    c.create.ensures.came S start k names size st e (sub _ l (rw c.as_slice-in-New.ensures s)) (rw c.as_slice-in-New.ensures (begins _ _ k _ _ _ (shows-new c.args.code.now x.class x.first x.name x.args x.at x.is) a))
+    c.create.ensures.came S start k names size st e (sub _ l (rw c.as_slice.ensures s)) (rw c.as_slice.ensures (begins _ _ k _ _ _ (shows-new c.args.code.now x.class x.first x.name x.args x.at x.is) a))
 
 pub set_field-returns-then-is_left-clause-came : goal.set_field-returns-then-is_left-clause-came
 set_field-returns-then-is_left-clause-came g m c = λ step is S start k names size st e l a.
-    let w = c.walk-came in
+    let w = c.evaluate-came in
     let come = w.ensures.came S start (Then step ∷ k) names size st e l a in
     passes S _ start _ w.result w.new.self.value w.new.self.leave _ step k _ _ _ (sym c.is_left.ensures ∙ c.if-is_left.true) come
 
 pub set_field-returns-clause-kept : goal.set_field-returns-clause-kept
-set_field-returns-clause-kept g m c = λ S names size st e l i p q. c.walk-came.ensures.kept S names size st e l i p q
+set_field-returns-clause-kept g m c = λ S names size st e l i p q. c.evaluate-came.ensures.kept S names size st e l i p q
 
 pub set_field-returns-clause-came : goal.set_field-returns-clause-came
 set_field-returns-clause-came g m c = λ step is S start k names size st e l a.
-    let w = c.walk-came in
+    let w = c.evaluate-came in
     let come = w.ensures.came S start (Then step ∷ k) names size st e l a in
     let g1 = given w.result w.new.self.value w.new.self.leave (sym c.is_left.ensures ∙ c.if-is_left.false) come in
     let f = rw w.ensures.context at c.write_field.ensures.came in
@@ -2559,12 +2670,16 @@ send_block-returns-in-Some-clause-came g m c = λ S start k names size st e l a.
 
 pub told-returns-in_default-clause-came : goal.told-returns-in_default-clause-came
 told-returns-in_default-clause-came g m c = λ S start k names st e n b a.
-    told_itself S _ start _ _ c.args.at k _ _ _ c.args.self.now.context.program.now c.args.came c.args.self.now.value c.args.self.now.leave e c.requires.came (registers_unasked S c.args.came c.args.self.now.value c.requires.came c.in_default.not-Other) a
+    told_itself S _ start _ _ c.args.at k _ _ _ c.args.self.now.context.program.now c.args.came c.args.self.now.value c.args.self.now.leave e c.requires.came (registers_unasked S c.args.came c.args.self.now.value c.requires.came c.in_default.not-Other) (registers_plain c.args.came c.args.self.now.value c.requires.came c.in_default.not-Other) a
 
 pub told-returns-in_default-asked_of-clause-came : goal.told-returns-in_default-asked_of-clause-came
 told-returns-in_default-asked_of-clause-came g m c = λ S start k names st e n b a.
     let none = c.asked_of.ensures.none c.in_default-asked_of.is S st e in
-    told_itself S _ start _ _ c.args.at k _ _ _ c.args.self.now.context.program.now c.args.came c.args.self.now.value c.args.self.now.leave e c.requires.came (rw c.in-Other.is none) a
+    let o = c.told_plain.ensures in
+    let v = value_of c.args.came c.args.self.now.value in
+    let sc = scope_of (me_of c.args.self.now.context.me) names c.args.room.now in
+    let own : own_text S v ≡ None = rw c.in-Other.is none in
+    o.came S start k sc e (same a (ap (λ m. text_by S m v c.args.at k sc c.args.depth c.args.self.now.left) own))
 
 pub told-returns-then-is_left-clause-came : goal.told-returns-then-is_left-clause-came
 told-returns-then-is_left-clause-came g m c = λ S start k names st e n b a.
@@ -2618,7 +2733,7 @@ told_at-returns-clause-came g m c = λ v there S start k names st e n b a.
 pub print_texts-returns-then-room-first-clause-came : goal.print_texts-returns-then-room-first-clause-came
 print_texts-returns-then-room-first-clause-came g m c = λ S start k names st e n b a.
     let o = c.over.ensures in
-    rw (o.gives, o.left, o.store) (_, a, write_left S (style_of c.args.style) _ c.args.at k _ _ _)
+    rw (o.gives, o.left, o.store) (_, a, write_left S (style_of c.args.style) [] _ c.args.at k _ _ _)
 
 pub print_texts-returns-clause-came : goal.print_texts-returns-clause-came
 print_texts-returns-clause-came g m c = c.print_from-came.ensures.came
@@ -2634,12 +2749,17 @@ print_from-returns-then-is_left-clause-came g m c = λ S start k names st e n b 
     let next = next_value c.args.room.now c.args.first c.args.count loop.index found.0 c.values-test.true before in
     let rest = drop (loop.index + 1) (map plain (take c.args.count (drop c.args.first c.args.room.now))) in
     let step = WriteBehind (style_of c.args.style) loop.bytes.items rest c.args.at in
-    let asks = asks_next S _ start _ _ (style_of c.args.style) loop.bytes.items _ c.args.at k _ _ _ (plain found.0) rest next (inv.came S start k names st e n a) in
+    let asks = asks_next S _ start _ _ (style_of c.args.style) loop.bytes.items _ c.args.at k _ _ _ (plain found.0) rest next (rw found.1 at c.is_lined.ensures) c.if-is_lined.false (inv.came S start k names st e n a) in
     let t = c.told_at-came in
     let f = rw (inv.context, inv.base) at (t.ensures.came found.0 found.1) in
     let come = f S start (Then step ∷ k) names st e (omega (arith, n, c.requires.behind)) (omega (arith, c.requires.behind, c.requires.within, inv.room)) asks in
     let left = sym c.is_left.ensures ∙ c.if-is_left.true in
     passes S _ start _ t.result t.new.self.value t.new.self.leave _ step k _ _ _ left (told_passes S _ start _ _ k _ _ _ (Then step) c.args.self.now.context.program.now t.result t.new.self.value t.new.self.leave left come)
+
+pub print_from-returns-then-is_lined-clause-came : goal.print_from-returns-then-is_lined-clause-came
+print_from-returns-then-is_lined-clause-came g m c = λ S start k names st e n b a.
+    let o = c.over.ensures in
+    rw (o.gives, o.left, o.store) (_, c.values.invariant.came S start k names st e n a, write_left S (style_of c.args.style) c.values.bytes.items _ c.args.at k _ _ _)
 
 pub print_from-returns-in-Err-TooLong-clause-came : goal.print_from-returns-in-Err-TooLong-clause-came
 print_from-returns-in-Err-TooLong-clause-came g m c = λ S start k names st e n b a.
@@ -2652,7 +2772,7 @@ print_from-returns-in-Err-TooLong-clause-came g m c = λ S start k names st e n 
     let next = next_value c.args.room.now c.args.first c.args.count loop.index found.0 c.values-test.true before in
     let rest = drop (loop.index + 1) (map plain (take c.args.count (drop c.args.first c.args.room.now))) in
     let step = WriteBehind (style_of c.args.style) loop.bytes.items rest c.args.at in
-    let asks = asks_next S _ start _ _ (style_of c.args.style) loop.bytes.items _ c.args.at k _ _ _ (plain found.0) rest next (inv.came S start k names st e n a) in
+    let asks = asks_next S _ start _ _ (style_of c.args.style) loop.bytes.items _ c.args.at k _ _ _ (plain found.0) rest next (rw found.1 at c.is_lined.ensures) c.if-is_lined.false (inv.came S start k names st e n a) in
     let t = c.told_at-came in
     let f = rw (inv.context, inv.base) at (t.ensures.came found.0 found.1) in
     let come = f S start (Then step ∷ k) names st e (omega (arith, n, c.requires.behind)) (omega (arith, c.requires.behind, c.requires.within, inv.room)) asks in
@@ -2674,20 +2794,20 @@ print_from-returns-in-Err-Memory-clause-came g m c = λ S start k names st e n b
     let next = next_value c.args.room.now c.args.first c.args.count loop.index found.0 c.values-test.true before in
     let rest = drop (loop.index + 1) (map plain (take c.args.count (drop c.args.first c.args.room.now))) in
     let step = WriteBehind (style_of c.args.style) loop.bytes.items rest c.args.at in
-    let asks = asks_next S _ start _ _ (style_of c.args.style) loop.bytes.items _ c.args.at k _ _ _ (plain found.0) rest next (inv.came S start k names st e n a) in
+    let asks = asks_next S _ start _ _ (style_of c.args.style) loop.bytes.items _ c.args.at k _ _ _ (plain found.0) rest next (rw found.1 at c.is_lined.ensures) c.if-is_lined.false (inv.came S start k names st e n a) in
     let t = c.told_at-came in
     let f = rw (inv.context, inv.base) at (t.ensures.came found.0 found.1) in
     let come = f S start (Then step ∷ k) names st e (omega (arith, n, c.requires.behind)) (omega (arith, c.requires.behind, c.requires.within, inv.room)) asks in
     let gives = told_gives S _ start _ _ (Then step ∷ k) _ _ _ c.args.self.now.context.program.now t.result t.new.self.value t.new.self.leave (sym c.is_left.ensures ∙ c.if-is_left.false) come in
     let v = c.take-value.ensures in
-    let o = c.over.ensures in
+    let o = c.over-in-Err-Memory.ensures in
     rw (o.gives, o.left, o.store, v.left, v.store) (_, gives, refl)
 
 pub print_from-returns-then-is_left-2-clause-came : goal.print_from-returns-then-is_left-2-clause-came
 print_from-returns-then-is_left-2-clause-came g m c = λ S start k names st e n b a.
     let inv = c.values.invariant in
     let none = no_value c.args.room.now c.args.first c.args.count c.values.index c.requires.within c.values-test.false in
-    let shows = shows_all S _ start _ _ (style_of c.args.style) c.values.bytes.items _ c.args.at k _ _ _ none (inv.came S start k names st e n a) in
+    let shows = shows_all S _ start _ _ (style_of c.args.style) c.values.bytes.items _ c.args.at k _ _ _ none (gives_nil S c.args.style) (inv.came S start k names st e n a) in
     let z = c.show_bytes-shown in
     let f = rw inv.context at z.ensures.came in
     let come = f S start _ (Instead Nil) c.args.at k _ _ shows in
@@ -2697,7 +2817,7 @@ pub print_from-returns-clause-came : goal.print_from-returns-clause-came
 print_from-returns-clause-came g m c = λ S start k names st e n b a.
     let inv = c.values.invariant in
     let none = no_value c.args.room.now c.args.first c.args.count c.values.index c.requires.within c.values-test.false in
-    let shows = shows_all S _ start _ _ (style_of c.args.style) c.values.bytes.items _ c.args.at k _ _ _ none (inv.came S start k names st e n a) in
+    let shows = shows_all S _ start _ _ (style_of c.args.style) c.values.bytes.items _ c.args.at k _ _ _ none (gives_nil S c.args.style) (inv.came S start k names st e n a) in
     let z = c.show_bytes-shown in
     let f = rw inv.context at z.ensures.came in
     let come = f S start _ (Instead Nil) c.args.at k _ _ shows in
@@ -2706,16 +2826,16 @@ print_from-returns-clause-came g m c = λ S start k names st e n b a.
 pub print-returns-then-is_left-clause-came : goal.print-returns-then-is_left-clause-came
 print-returns-then-is_left-clause-came g m c = λ S start k names size st e l a.
     let r = c.arguments-came in
-    let right = printing_is S c.args.form c.args.name (length c.args.args.now) (λ s. every (map (fits s) c.args.args.now)) names size l.fits in
-    let under = sub (every (map (fits S) c.args.args.now)) l right.3 in
+    let right = printing_is S c.args.form c.args.name (λ s. every (map (fits s) c.args.args.now)) names size l.fits in
+    let under = sub (every (map (fits S) c.args.args.now)) l right.2 in
     let p = r.ensures.came (ByName c.args.name) c.args.at S start k names size st e under a in
     p.0 (sym c.is_left.ensures ∙ c.if-is_left.true)
 
 pub print-returns-in-Some-clause-came : goal.print-returns-in-Some-clause-came
 print-returns-in-Some-clause-came g m c = λ S start k names size st e l a.
     let r = c.arguments-came in
-    let right = printing_is S c.args.form c.args.name (length c.args.args.now) (λ s. every (map (fits s) c.args.args.now)) names size l.fits in
-    let under = sub (every (map (fits S) c.args.args.now)) l right.3 in
+    let right = printing_is S c.args.form c.args.name (λ s. every (map (fits s) c.args.args.now)) names size l.fits in
+    let under = sub (every (map (fits S) c.args.args.now)) l right.2 in
     let p = r.ensures.came (ByName c.args.name) c.args.at S start k names size st e under a in
     let came = sym c.is_left.ensures ∙ c.if-is_left.false in
     let base = c.args.self.now.base in
@@ -2725,56 +2845,71 @@ print-returns-in-Some-clause-came g m c = λ S start k names size st e l a.
     let many : length values ≡ count = len_map plain (take count (drop base r.new.room)) ∙ len_args r.new.room base count long in
     let sc = scope_of (me_of c.args.self.now.context.me) names r.new.room in
     let prints = same (on _ (p.1 came) refl) (by_form S c.args.form c.args.name values c.args.at k sc _ _ (c.requires.alone S st) right.0 right.1) in
-    let by = rw (c.passed.ensures long) at c.in-Some.ensures.some in
+    let by = rw (c.passed-2.ensures long) at c.in-Some.ensures.some in
     let f = rw r.ensures.context at c.print_texts.ensures.came in
     f S start k names st e (omega (arith, l.within, l.below)) long (same prints (by S c.args.at k sc _ _))
+
+pub print-returns-in-Inspect-clause-came : goal.print-returns-in-Inspect-clause-came
+print-returns-in-Inspect-clause-came g m c = λ S start k names size st e l a.
+    let r = c.arguments-came in
+    let right = printing_is S c.args.form c.args.name (λ s. every (map (fits s) c.args.args.now)) names size l.fits in
+    let under = sub (every (map (fits S) c.args.args.now)) l right.2 in
+    let p = r.ensures.came (ByName c.args.name) c.args.at S start k names size st e under a in
+    let came = sym c.is_left.ensures ∙ c.if-is_left.false in
+    let base = c.args.self.now.base in
+    let count = length c.args.args.now in
+    let long : base + count ≤ length r.new.room = omega (arith, r.ensures.base came, r.ensures.fits l.room) in
+    let values = map plain (take count (drop base r.new.room)) in
+    let sc = scope_of (me_of c.args.self.now.context.me) names r.new.room in
+    let prints = same (on _ (p.1 came) refl) (by_form S c.args.form c.args.name values c.args.at k sc _ _ (c.requires.alone S st) right.0 right.1) in
+    let f = rw (r.ensures.context, c.passed.ensures long) at c.inspect_values.ensures.came in
+    f S start k sc e (same prints (ap (λ x. print S (form_text x) values c.args.at k sc c.args.depth r.new.self.left) c.in-Inspect.is))
+
+pub print-returns-in-Inspect-clause-kept : goal.print-returns-in-Inspect-clause-kept
+print-returns-in-Inspect-clause-kept g m c = λ S names size st e l i p q.
+    let right = printing_is S c.args.form c.args.name (λ s. every (map (fits s) c.args.args.now)) names size l.fits in
+    c.arguments-came.ensures.kept S names size st e (sub (every (map (fits S) c.args.args.now)) l right.2) i p q
 
 pub print-returns-then-is_left-2-clause-came : goal.print-returns-then-is_left-2-clause-came
 print-returns-then-is_left-2-clause-came g m c = λ S start k names size st e l a.
     let r = c.arguments-came in
-    let right = printing_is S c.args.form c.args.name (length c.args.args.now) (λ s. every (map (fits s) c.args.args.now)) names size l.fits in
-    let under = sub (every (map (fits S) c.args.args.now)) l right.3 in
+    let right = printing_is S c.args.form c.args.name (λ s. every (map (fits s) c.args.args.now)) names size l.fits in
+    let under = sub (every (map (fits S) c.args.args.now)) l right.2 in
     let p = r.ensures.came (ByName c.args.name) c.args.at S start k names size st e under a in
     let came = sym c.is_left.ensures ∙ c.if-is_left.false in
     let base = c.args.self.now.base in
     let count = length c.args.args.now in
     let long : base + count ≤ length r.new.room = omega (arith, r.ensures.base came, r.ensures.fits l.room) in
     let values = map plain (take count (drop base r.new.room)) in
-    let many : length values ≡ count = len_map plain (take count (drop base r.new.room)) ∙ len_args r.new.room base count long in
     let sc = scope_of (me_of c.args.self.now.context.me) names r.new.room in
     let prints = same (on _ (p.1 came) refl) (by_form S c.args.form c.args.name values c.args.at k sc _ _ (c.requires.alone S st) right.0 right.1) in
-    let step = Instead (shown_value c.args.form values) in
-    let none = rw (c.passed.ensures long) at (c.in_default.ensures.none refl) in
-    let q = quietly S _ start _ _ _ _ (by_text S c.args.form values c.args.at k sc _ _ (rw many right.2) none) prints in
+    let none = rw (c.passed-2.ensures long) at (c.in_default-style_by.ensures.none refl) in
+    let q = quietly S _ start _ _ _ _ (by_text S c.args.form values c.args.at k sc _ _ c.in_default.not-Inspect none) prints in
     let z = c.show-shown in
-    let f = rw (r.ensures.context, sym e, c.passed-2.ensures long) at (z.ensures.came S start (g.O.ThreadStore.private r.new.self.store) step k sc c.args.depth) in
+    let f = rw (r.ensures.context, sym e, c.passed-3.ensures long) at (z.ensures.came S start (g.O.ThreadStore.private r.new.self.store) (Instead Nil) k sc c.args.depth) in
     let show = f q in
-    rw (z.ensures.left, z.ensures.private) (passes S _ start _ z.result z.new.self.value z.new.self.leave _ step k _ _ _ (sym c.is_left-2.ensures ∙ c.if-is_left-2.true) show)
+    rw (z.ensures.left, z.ensures.private) (passes S _ start _ z.result z.new.self.value z.new.self.leave _ (Instead Nil) k _ _ _ (sym c.is_left-2.ensures ∙ c.if-is_left-2.true) show)
 
 pub print-returns-clause-came : goal.print-returns-clause-came
 print-returns-clause-came g m c = λ S start k names size st e l a.
     let r = c.arguments-came in
-    let right = printing_is S c.args.form c.args.name (length c.args.args.now) (λ s. every (map (fits s) c.args.args.now)) names size l.fits in
-    let under = sub (every (map (fits S) c.args.args.now)) l right.3 in
+    let right = printing_is S c.args.form c.args.name (λ s. every (map (fits s) c.args.args.now)) names size l.fits in
+    let under = sub (every (map (fits S) c.args.args.now)) l right.2 in
     let p = r.ensures.came (ByName c.args.name) c.args.at S start k names size st e under a in
     let came = sym c.is_left.ensures ∙ c.if-is_left.false in
     let base = c.args.self.now.base in
     let count = length c.args.args.now in
     let long : base + count ≤ length r.new.room = omega (arith, r.ensures.base came, r.ensures.fits l.room) in
     let values = map plain (take count (drop base r.new.room)) in
-    let many : length values ≡ count = len_map plain (take count (drop base r.new.room)) ∙ len_args r.new.room base count long in
     let sc = scope_of (me_of c.args.self.now.context.me) names r.new.room in
     let prints = same (on _ (p.1 came) refl) (by_form S c.args.form c.args.name values c.args.at k sc _ _ (c.requires.alone S st) right.0 right.1) in
-    let step = Instead (shown_value c.args.form values) in
-    let none = rw (c.passed.ensures long) at (c.in_default.ensures.none refl) in
-    let q = quietly S _ start _ _ _ _ (by_text S c.args.form values c.args.at k sc _ _ (rw many right.2) none) prints in
+    let none = rw (c.passed-2.ensures long) at (c.in_default-style_by.ensures.none refl) in
+    let q = quietly S _ start _ _ _ _ (by_text S c.args.form values c.args.at k sc _ _ c.in_default.not-Inspect none) prints in
     let z = c.show-shown in
-    let f = rw (r.ensures.context, sym e, c.passed-2.ensures long) at (z.ensures.came S start (g.O.ThreadStore.private r.new.self.store) step k sc c.args.depth) in
+    let f = rw (r.ensures.context, sym e, c.passed-3.ensures long) at (z.ensures.came S start (g.O.ThreadStore.private r.new.self.store) (Instead Nil) k sc c.args.depth) in
     let show = f q in
     let g1 = given z.result z.new.self.value z.new.self.leave (sym c.is_left-2.ensures ∙ c.if-is_left-2.false) show in
-    let o = c.shown_value.ensures in
-    let m1 = rw (c.passed-3.ensures long) at o.gives in
-    rw (o.left, z.ensures.left, o.store, z.ensures.private) (shown S _ start _ _ _ k _ _ _ c.args.form values _ (m1 (rw (len_args r.new.room base count long) right.2)) g1)
+    rw (z.ensures.left, z.ensures.private) (on _ g1 refl)
 
 pub print_from-values-preserved : goal.print_from-values-preserved
 print_from-values-preserved g m c =
@@ -2799,7 +2934,7 @@ print_from-values-preserved g m c =
           let next = next_value c.args.room.now c.args.first c.args.count loop.index found.0 c.values-test.true before in
           let rest = drop (loop.index + 1) (map plain (take c.args.count (drop c.args.first c.args.room.now))) in
           let step = WriteBehind (style_of c.args.style) loop.bytes.items rest c.args.at in
-          let asks = asks_next S _ start _ _ (style_of c.args.style) loop.bytes.items _ c.args.at k _ _ _ (plain found.0) rest next (inv.came S start k names st e n a) in
+          let asks = asks_next S _ start _ _ (style_of c.args.style) loop.bytes.items _ c.args.at k _ _ _ (plain found.0) rest next (rw found.1 at c.is_lined.ensures) c.if-is_lined.false (inv.came S start k names st e n a) in
           let t = c.told_at-came in
           let f = rw (inv.context, inv.base) at (t.ensures.came found.0 found.1) in
           let come = f S start (Then step ∷ k) names st e (omega (arith, n, c.requires.behind)) (omega (arith, c.requires.behind, c.requires.within, inv.room)) asks in
@@ -2988,23 +3123,23 @@ text-pieces-preserved g m c =
 
 pub print-returns-then-is_left-clause-kept : goal.print-returns-then-is_left-clause-kept
 print-returns-then-is_left-clause-kept g m c = λ S names size st e l i p q.
-    let right = printing_is S c.args.form c.args.name (length c.args.args.now) (λ s. every (map (fits s) c.args.args.now)) names size l.fits in
-    c.arguments-came.ensures.kept S names size st e (sub (every (map (fits S) c.args.args.now)) l right.3) i p q
+    let right = printing_is S c.args.form c.args.name (λ s. every (map (fits s) c.args.args.now)) names size l.fits in
+    c.arguments-came.ensures.kept S names size st e (sub (every (map (fits S) c.args.args.now)) l right.2) i p q
 
 pub print-returns-in-Some-clause-kept : goal.print-returns-in-Some-clause-kept
 print-returns-in-Some-clause-kept g m c = λ S names size st e l i p q.
-    let right = printing_is S c.args.form c.args.name (length c.args.args.now) (λ s. every (map (fits s) c.args.args.now)) names size l.fits in
-    c.print_texts.ensures.kept i (omega (arith, q)) ∙ c.arguments-came.ensures.kept S names size st e (sub (every (map (fits S) c.args.args.now)) l right.3) i p q
+    let right = printing_is S c.args.form c.args.name (λ s. every (map (fits s) c.args.args.now)) names size l.fits in
+    c.print_texts.ensures.kept i (omega (arith, q)) ∙ c.arguments-came.ensures.kept S names size st e (sub (every (map (fits S) c.args.args.now)) l right.2) i p q
 
 pub print-returns-then-is_left-2-clause-kept : goal.print-returns-then-is_left-2-clause-kept
 print-returns-then-is_left-2-clause-kept g m c = λ S names size st e l i p q.
-    let right = printing_is S c.args.form c.args.name (length c.args.args.now) (λ s. every (map (fits s) c.args.args.now)) names size l.fits in
-    c.arguments-came.ensures.kept S names size st e (sub (every (map (fits S) c.args.args.now)) l right.3) i p q
+    let right = printing_is S c.args.form c.args.name (λ s. every (map (fits s) c.args.args.now)) names size l.fits in
+    c.arguments-came.ensures.kept S names size st e (sub (every (map (fits S) c.args.args.now)) l right.2) i p q
 
 pub print-returns-clause-kept : goal.print-returns-clause-kept
 print-returns-clause-kept g m c = λ S names size st e l i p q.
-    let right = printing_is S c.args.form c.args.name (length c.args.args.now) (λ s. every (map (fits s) c.args.args.now)) names size l.fits in
-    c.arguments-came.ensures.kept S names size st e (sub (every (map (fits S) c.args.args.now)) l right.3) i p q
+    let right = printing_is S c.args.form c.args.name (λ s. every (map (fits s) c.args.args.now)) names size l.fits in
+    c.arguments-came.ensures.kept S names size st e (sub (every (map (fits S) c.args.args.now)) l right.2) i p q
 
 pub text-returns-then-is_left-clause-kept : goal.text-returns-then-is_left-clause-kept
 text-returns-then-is_left-clause-kept g m c = λ S names size st e l i p q.
@@ -3045,3 +3180,273 @@ text-returns-then-len-gt-MAX_BYTES-clause-kept g m c = λ S names size st e l i 
           let walked = f S names size st e under i p (omega (arith, q, inv.base)) ∙ inv.kept S names size st e l i p q in
           rw x.room-is (x.told-told.ensures.kept i (omega (arith, q, inv.base, x.walk-came.ensures.base)) ∙ walked)
     ]
+
+-- ---- arrays, hashes and elements
+
+pub array-returns-then-is_left-clause-kept : goal.array-returns-then-is_left-clause-kept
+array-returns-then-is_left-clause-kept g m c = λ at S names size st e l i p q. c.arguments-came.ensures.kept S names size st e l i p q
+
+pub array-returns-then-is_left-clause-came : goal.array-returns-then-is_left-clause-came
+array-returns-then-is_left-clause-came g m c = λ at S start k names size st e l a.
+    (c.arguments-came.ensures.came Listing at S start k names size st e l a).0 (sym c.is_left.ensures ∙ c.if-is_left.true)
+
+pub array-returns-clause-kept : goal.array-returns-clause-kept
+array-returns-clause-kept g m c = λ at S names size st e l i p q. c.arguments-came.ensures.kept S names size st e l i p q
+
+pub array-returns-clause-came : goal.array-returns-clause-came
+array-returns-clause-came g m c = λ at S start k names size st e l a.
+    let y = c.arguments-came in
+    let both = y.ensures.came Listing at S start k names size st e l a in
+    let none = sym c.is_left.ensures ∙ c.if-is_left.false in
+    let long : c.args.self.now.base + length c.args.items.now ≤ length y.new.room = omega (arith, y.ensures.base none, y.ensures.fits l.room) in
+    let f = rw (y.ensures.context, c.passed.ensures long) at c.list.ensures.came in
+    rw c.list.ensures.left (f c.args.depth S start k _ e (on _ (both.1 none) refl))
+
+pub hash-returns-then-is_left-clause-kept : goal.hash-returns-then-is_left-clause-kept
+hash-returns-then-is_left-clause-kept g m c = λ S names size st e l i p q. c.arguments-came.ensures.kept S names size st e l i p q
+
+pub hash-returns-then-is_left-clause-came : goal.hash-returns-then-is_left-clause-came
+hash-returns-then-is_left-clause-came g m c = λ S start k names size st e l a.
+    (c.arguments-came.ensures.came Pairing c.args.at S start k names size st e l a).0 (sym c.is_left.ensures ∙ c.if-is_left.true)
+
+pub hash-returns-clause-kept : goal.hash-returns-clause-kept
+hash-returns-clause-kept g m c = λ S names size st e l i p q. c.arguments-came.ensures.kept S names size st e l i p q
+
+pub hash-returns-clause-came : goal.hash-returns-clause-came
+hash-returns-clause-came g m c = λ S start k names size st e l a.
+    let y = c.arguments-came in
+    let both = y.ensures.came Pairing c.args.at S start k names size st e l a in
+    let none = sym c.is_left.ensures ∙ c.if-is_left.false in
+    let long : c.args.self.now.base + length c.args.items.now ≤ length y.new.room = omega (arith, y.ensures.base none, y.ensures.fits l.room) in
+    let f = rw (y.ensures.context, c.passed.ensures long) at c.pairs.ensures.came in
+    rw c.pairs.ensures.left (f c.args.depth S start k _ e (on _ (both.1 none) refl))
+
+pub create_builtin-returns-then-is_left-clause-kept : goal.create_builtin-returns-then-is_left-clause-kept
+create_builtin-returns-then-is_left-clause-kept g m c = λ S names size st e l i p q.
+    c.arguments-came.ensures.kept S names size st e (sub (every (map (fits S) c.args.args.now)) l (snd _ _ l.fits)) i p q
+
+pub create_builtin-returns-then-is_left-clause-came : goal.create_builtin-returns-then-is_left-clause-came
+create_builtin-returns-then-is_left-clause-came g m c = λ S start k names size st e l a.
+    let both = c.arguments-came.ensures.came (Creating c.args.name) c.args.at S start k names size st e (sub (every (map (fits S) c.args.args.now)) l (snd _ _ l.fits)) a in
+    both.0 (sym c.is_left.ensures ∙ c.if-is_left.true)
+
+pub create_builtin-returns-clause-kept : goal.create_builtin-returns-clause-kept
+create_builtin-returns-clause-kept g m c = λ S names size st e l i p q.
+    c.arguments-came.ensures.kept S names size st e (sub (every (map (fits S) c.args.args.now)) l (snd _ _ l.fits)) i p q
+
+pub create_builtin-returns-clause-came : goal.create_builtin-returns-clause-came
+create_builtin-returns-clause-came g m c = λ S start k names size st e l a.
+    let y = c.arguments-came in
+    let both = y.ensures.came (Creating c.args.name) c.args.at S start k names size st e (sub (every (map (fits S) c.args.args.now)) l (snd _ _ l.fits)) a in
+    let none = sym c.is_left.ensures ∙ c.if-is_left.false in
+    let count = length c.args.args.now in
+    let base = c.args.self.now.base in
+    let long : base + count ≤ length y.new.room = omega (arith, y.ensures.base none, y.ensures.fits l.room) in
+    let values = map plain (take count (drop base y.new.room)) in
+    let f = rw (y.ensures.context, c.passed.ensures long) at c.build.ensures.came in
+    rw c.build.ensures.left (f c.args.depth S start k _ e (same (on _ (both.1 none) refl) (built_from S c.args.class c.args.name values c.args.at k _ _ _ (fst _ _ l.fits))))
+
+pub set_element-returns-then-is_left-clause-came : goal.set_element-returns-then-is_left-clause-came
+set_element-returns-then-is_left-clause-came g m c = λ S start k names size st e l a.
+    let w = c.walk-came in
+    let step = WriteTo (OfElement (plain c.args.receiver.now) (plain c.args.index)) c.args.at in
+    let come = w.ensures.came S start (Then step ∷ k) names size st e l a in
+    passes S _ start _ w.result w.new.self.value w.new.self.leave _ step k _ _ _ (sym c.is_left.ensures ∙ c.if-is_left.true) come
+
+pub set_element-returns-clause-kept : goal.set_element-returns-clause-kept
+set_element-returns-clause-kept g m c = λ S names size st e l i p q. c.walk-came.ensures.kept S names size st e l i p q
+
+pub set_element-returns-clause-came : goal.set_element-returns-clause-came
+set_element-returns-clause-came g m c = λ S start k names size st e l a.
+    let w = c.walk-came in
+    let v = plain c.args.receiver.now in
+    let step = WriteTo (OfElement v (plain c.args.index)) c.args.at in
+    let come = w.ensures.came S start (Then step ∷ k) names size st e l a in
+    let g1 = given w.result w.new.self.value w.new.self.leave (sym c.is_left.ensures ∙ c.if-is_left.false) come in
+    let o = c.write_element.ensures in
+    let f = rw w.ensures.context at o.came in
+    rw o.log (writes_element S _ start _ _ _ _ _ _ _ _ _ c.args.self.now.context.program.now v (value_of w.result w.new.self.value) (plain c.args.index) c.args.at (operator_none c.args.self.now.context.script.now S st v (codes "[]=") refl) e (rw o.log at f) (on _ g1 refl))
+
+pub update_at-returns-then-is_true_now-clause-came : goal.update_at-returns-then-is_true_now-clause-came
+update_at-returns-then-is_true_now-clause-came g m c = λ S start k names size st e l a.
+    let t = sym (c.is_true_now.ensures c.requires.came) ∙ c.if-is_true_now.true in
+    comes S _ start _ _ k _ _ _ _ _ (gave c.args.current c.args.self.now.value c.args.self.now.leave c.requires.came) (or_else_stays S _ start _ (value_of c.args.current c.args.self.now.value) (OfElement (plain c.args.receiver.now) (plain c.args.index)) c.args.op (erase c.args.value.now) c.args.at c.in-OrElse.is t a)
+
+pub update_at-returns-else-is_true_now-clause-came : goal.update_at-returns-else-is_true_now-clause-came
+update_at-returns-else-is_true_now-clause-came g m c = λ S start k names size st e l a.
+    let t = sym (c.is_true_now.ensures c.requires.came) ∙ c.if-is_true_now.false in
+    c.set_element.ensures.came S start k names size st e l (or_else_goes S _ start _ (value_of c.args.current c.args.self.now.value) (OfElement (plain c.args.receiver.now) (plain c.args.index)) c.args.op (erase c.args.value.now) c.args.at c.in-OrElse.is t a)
+
+pub update_at-returns-then-not-is_true_now-clause-came : goal.update_at-returns-then-not-is_true_now-clause-came
+update_at-returns-then-not-is_true_now-clause-came g m c = λ S start k names size st e l a.
+    let t = sym (c.is_true_now-in-AndThen.ensures c.requires.came) ∙ c.if-not-is_true_now.true in
+    comes S _ start _ _ k _ _ _ _ _ (gave c.args.current c.args.self.now.value c.args.self.now.leave c.requires.came) (and_then_stays S _ start _ (value_of c.args.current c.args.self.now.value) (OfElement (plain c.args.receiver.now) (plain c.args.index)) c.args.op (erase c.args.value.now) c.args.at c.in-AndThen.is t a)
+
+pub update_at-returns-else-not-is_true_now-clause-came : goal.update_at-returns-else-not-is_true_now-clause-came
+update_at-returns-else-not-is_true_now-clause-came g m c = λ S start k names size st e l a.
+    let t = sym (c.is_true_now-in-AndThen.ensures c.requires.came) ∙ c.if-not-is_true_now.false in
+    c.set_element-in-AndThen.ensures.came S start k names size st e l (and_then_goes S _ start _ (value_of c.args.current c.args.self.now.value) (OfElement (plain c.args.receiver.now) (plain c.args.index)) c.args.op (erase c.args.value.now) c.args.at c.in-AndThen.is t a)
+
+pub update_at-returns-then-is_left-clause-came : goal.update_at-returns-then-is_left-clause-came
+update_at-returns-then-is_left-clause-came g m c = λ S start k names size st e l a.
+    let y = c.combine-made in
+    let place = OfElement (plain c.args.receiver.now) (plain c.args.index) in
+    let e2 = y.ensures.came S start (Then (WriteTo place c.args.at) ∷ k) names size st e l (operates S _ start _ (value_of c.args.current c.args.self.now.value) place c.args.op (erase c.args.value.now) c.args.at c.in_default.not-OrElse c.in_default.not-AndThen a) in
+    passes S _ start _ y.result y.new.self.value y.new.self.leave _ (WriteTo place c.args.at) k _ _ _ (sym c.is_left.ensures ∙ c.if-is_left.true) e2
+
+pub update_at-returns-else-is_left-clause-kept : goal.update_at-returns-else-is_left-clause-kept
+update_at-returns-else-is_left-clause-kept g m c = λ S names size st e l i p q. c.combine-made.ensures.kept S names size st e l i p q
+
+pub update_at-returns-else-is_left-clause-came : goal.update_at-returns-else-is_left-clause-came
+update_at-returns-else-is_left-clause-came g m c = λ S start k names size st e l a.
+    let y = c.combine-made in
+    let v = plain c.args.receiver.now in
+    let place = OfElement v (plain c.args.index) in
+    let e2 = y.ensures.came S start (Then (WriteTo place c.args.at) ∷ k) names size st e l (operates S _ start _ (value_of c.args.current c.args.self.now.value) place c.args.op (erase c.args.value.now) c.args.at c.in_default.not-OrElse c.in_default.not-AndThen a) in
+    let g2 = given y.result y.new.self.value y.new.self.leave (sym c.is_left.ensures ∙ c.if-is_left.false) e2 in
+    let o = c.write_element.ensures in
+    let f = rw y.ensures.context at o.came in
+    rw o.log (writes_element S _ start _ _ _ _ _ _ _ _ _ c.args.self.now.context.program.now v (value_of y.result y.new.self.value) (plain c.args.index) c.args.at (operator_none c.args.self.now.context.script.now S st v (codes "[]=") refl) e (rw o.log at f) (on _ g2 refl))
+
+pub update_element-returns-then-is_left-clause-kept : goal.update_element-returns-then-is_left-clause-kept
+update_element-returns-then-is_left-clause-kept g m c = λ S names size st e l i p q.
+    let w = c.walk-came in
+    let before = w.ensures.kept S names size st e (sub (fits S c.args.receiver.now) l (fst _ _ l.fits)) i p q in
+    before
+
+pub update_element-returns-then-is_left-clause-came : goal.update_element-returns-then-is_left-clause-came
+update_element-returns-then-is_left-clause-came g m c = λ S start k names size st e l a.
+    let w = c.walk-came in
+    let e1 = w.ensures.came S start (Then (IndexedBy (erase c.args.index.now) c.args.op (erase c.args.value.now) c.args.at) ∷ k) names size st e (sub (fits S c.args.receiver.now) l (fst _ _ l.fits)) a in
+    passes S _ start _ w.result w.new.self.value w.new.self.leave _ (IndexedBy (erase c.args.index.now) c.args.op (erase c.args.value.now) c.args.at) k _ _ _ (sym c.is_left.ensures ∙ c.if-is_left.true) e1
+
+pub update_element-returns-then-is_left-2-clause-kept : goal.update_element-returns-then-is_left-2-clause-kept
+update_element-returns-then-is_left-2-clause-kept g m c = λ S names size st e l i p q.
+    let w = c.walk-came in
+    let before = w.ensures.kept S names size st e (sub (fits S c.args.receiver.now) l (fst _ _ l.fits)) i p q in
+    let t = c.take-receiver in
+    let u = c.walk-came-2 in
+    let base = t.ensures.base ∙ w.ensures.base in
+    let under = moved _ _ base w.ensures.room (sub (fits S c.args.index.now) l (fst _ _ (snd _ _ l.fits))) in
+    let f = rw (t.ensures.context, w.ensures.context) at u.ensures.kept in
+    let behind = f S names size st e under i p (omega (arith, q, base)) ∙ before in
+    behind
+
+pub update_element-returns-then-is_left-2-clause-came : goal.update_element-returns-then-is_left-2-clause-came
+update_element-returns-then-is_left-2-clause-came g m c = λ S start k names size st e l a.
+    let w = c.walk-came in
+    let e1 = w.ensures.came S start (Then (IndexedBy (erase c.args.index.now) c.args.op (erase c.args.value.now) c.args.at) ∷ k) names size st e (sub (fits S c.args.receiver.now) l (fst _ _ l.fits)) a in
+    let first = value_of w.result w.new.self.value in
+    let g1 = given w.result w.new.self.value w.new.self.leave (sym c.is_left.ensures ∙ c.if-is_left.false) e1 in
+    let t = c.take-receiver in
+    let u = c.walk-came-2 in
+    let under = moved _ _ (t.ensures.base ∙ w.ensures.base) w.ensures.room (sub (fits S c.args.index.now) l (fst _ _ (snd _ _ l.fits))) in
+    let f = rw (t.ensures.context, w.ensures.context, t.ensures.left, t.ensures.store) at u.ensures.came in
+    let e2 = f S start (Then (IndexOf first c.args.op (erase c.args.value.now) c.args.at) ∷ k) names size st e under (on _ g1 refl) in
+    passes S _ start _ u.result u.new.self.value u.new.self.leave _ (IndexOf first c.args.op (erase c.args.value.now) c.args.at) k _ _ _ (sym c.is_left-2.ensures ∙ c.if-is_left-2.true) e2
+
+pub update_element-returns-in_default-clause-kept : goal.update_element-returns-in_default-clause-kept
+update_element-returns-in_default-clause-kept g m c = λ S names size st e l i p q.
+    let w = c.walk-came in
+    let before = w.ensures.kept S names size st e (sub (fits S c.args.receiver.now) l (fst _ _ l.fits)) i p q in
+    let t = c.take-receiver in
+    let u = c.walk-came-2 in
+    let base = t.ensures.base ∙ w.ensures.base in
+    let under = moved _ _ base w.ensures.room (sub (fits S c.args.index.now) l (fst _ _ (snd _ _ l.fits))) in
+    let f = rw (t.ensures.context, w.ensures.context) at u.ensures.kept in
+    let behind = f S names size st e under i p (omega (arith, q, base)) ∙ before in
+    behind
+
+pub update_element-returns-in_default-clause-came : goal.update_element-returns-in_default-clause-came
+update_element-returns-in_default-clause-came g m c = λ S start k names size st e l a.
+    let w = c.walk-came in
+    let e1 = w.ensures.came S start (Then (IndexedBy (erase c.args.index.now) c.args.op (erase c.args.value.now) c.args.at) ∷ k) names size st e (sub (fits S c.args.receiver.now) l (fst _ _ l.fits)) a in
+    let first = value_of w.result w.new.self.value in
+    let g1 = given w.result w.new.self.value w.new.self.leave (sym c.is_left.ensures ∙ c.if-is_left.false) e1 in
+    let t = c.take-receiver in
+    let u = c.walk-came-2 in
+    let under = moved _ _ (t.ensures.base ∙ w.ensures.base) w.ensures.room (sub (fits S c.args.index.now) l (fst _ _ (snd _ _ l.fits))) in
+    let f = rw (t.ensures.context, w.ensures.context, t.ensures.left, t.ensures.store) at u.ensures.came in
+    let e2 = f S start (Then (IndexOf first c.args.op (erase c.args.value.now) c.args.at) ∷ k) names size st e under (on _ g1 refl) in
+    let second = value_of u.result u.new.self.value in
+    let g2 = given u.result u.new.self.value u.new.self.leave (sym c.is_left-2.ensures ∙ c.if-is_left-2.false) e2 in
+    let y = c.take-index in
+    let o = c.over.ensures in
+    rw (o.gives, o.left, o.store, y.ensures.left, y.ensures.store) (_, g2, refl)
+
+pub update_element-returns-then-is_left-3-clause-kept : goal.update_element-returns-then-is_left-3-clause-kept
+update_element-returns-then-is_left-3-clause-kept g m c = λ S names size st e l i p q.
+    let w = c.walk-came in
+    let before = w.ensures.kept S names size st e (sub (fits S c.args.receiver.now) l (fst _ _ l.fits)) i p q in
+    let t = c.take-receiver in
+    let u = c.walk-came-2 in
+    let base = t.ensures.base ∙ w.ensures.base in
+    let under = moved _ _ base w.ensures.room (sub (fits S c.args.index.now) l (fst _ _ (snd _ _ l.fits))) in
+    let f = rw (t.ensures.context, w.ensures.context) at u.ensures.kept in
+    let behind = f S names size st e under i p (omega (arith, q, base)) ∙ before in
+    behind
+
+pub update_element-returns-then-is_left-3-clause-came : goal.update_element-returns-then-is_left-3-clause-came
+update_element-returns-then-is_left-3-clause-came g m c = λ S start k names size st e l a.
+    let w = c.walk-came in
+    let e1 = w.ensures.came S start (Then (IndexedBy (erase c.args.index.now) c.args.op (erase c.args.value.now) c.args.at) ∷ k) names size st e (sub (fits S c.args.receiver.now) l (fst _ _ l.fits)) a in
+    let first = value_of w.result w.new.self.value in
+    let g1 = given w.result w.new.self.value w.new.self.leave (sym c.is_left.ensures ∙ c.if-is_left.false) e1 in
+    let t = c.take-receiver in
+    let u = c.walk-came-2 in
+    let under = moved _ _ (t.ensures.base ∙ w.ensures.base) w.ensures.room (sub (fits S c.args.index.now) l (fst _ _ (snd _ _ l.fits))) in
+    let f = rw (t.ensures.context, w.ensures.context, t.ensures.left, t.ensures.store) at u.ensures.came in
+    let e2 = f S start (Then (IndexOf first c.args.op (erase c.args.value.now) c.args.at) ∷ k) names size st e under (on _ g1 refl) in
+    let second = value_of u.result u.new.self.value in
+    let g2 = given u.result u.new.self.value u.new.self.leave (sym c.is_left-2.ensures ∙ c.if-is_left-2.false) e2 in
+    let y = c.take-index in
+    let r = c.call_with-current in
+    let same_copy : plain c.in-Ok.copy ≡ second = c.in-Ok.ensures.value ∙ y.ensures.value in
+    let f3 = rw (y.ensures.context, u.ensures.context, t.ensures.context, w.ensures.context, y.ensures.left, y.ensures.store, t.ensures.value, same_copy) at r.ensures.came in
+    let reads = ReadOf (OfElement first second) c.args.op (erase c.args.value.now) c.args.at in
+    let none = operator_none c.args.self.now.context.script.now S st first (codes "[]") refl in
+    let e3 = calls_builtin S _ start _ _ _ _ _ _ _ _ _ c.args.self.now.context.program.now (Some builtin.Index) first (codes "[]") (second ∷ []) c.args.at none refl e f3 (on _ g2 refl) in
+    rw (r.ensures.log, y.ensures.store) (passes S _ start _ r.result r.new.self.value r.new.self.leave _ reads k _ _ _ (sym c.is_left-3.ensures ∙ c.if-is_left-3.true) e3)
+
+pub update_element-returns-clause-kept : goal.update_element-returns-clause-kept
+update_element-returns-clause-kept g m c = λ S names size st e l i p q.
+    let w = c.walk-came in
+    let before = w.ensures.kept S names size st e (sub (fits S c.args.receiver.now) l (fst _ _ l.fits)) i p q in
+    let t = c.take-receiver in
+    let u = c.walk-came-2 in
+    let base = t.ensures.base ∙ w.ensures.base in
+    let under = moved _ _ base w.ensures.room (sub (fits S c.args.index.now) l (fst _ _ (snd _ _ l.fits))) in
+    let f = rw (t.ensures.context, w.ensures.context) at u.ensures.kept in
+    let behind = f S names size st e under i p (omega (arith, q, base)) ∙ before in
+    let y = c.take-index in
+    let r = c.call_with-current in
+    let all = r.ensures.base ∙ (y.ensures.base ∙ (u.ensures.base ∙ base)) in
+    let last = moved _ _ all (u.ensures.room ∙ w.ensures.room) (sub (fits S c.args.value.now) l (snd _ _ (snd _ _ l.fits))) in
+    let f1 = rw (r.ensures.context, y.ensures.context, u.ensures.context, t.ensures.context, w.ensures.context) at c.update_at.ensures.kept in
+    f1 S names size st e last i p (omega (arith, q, all)) ∙ behind
+
+pub update_element-returns-clause-came : goal.update_element-returns-clause-came
+update_element-returns-clause-came g m c = λ S start k names size st e l a.
+    let w = c.walk-came in
+    let e1 = w.ensures.came S start (Then (IndexedBy (erase c.args.index.now) c.args.op (erase c.args.value.now) c.args.at) ∷ k) names size st e (sub (fits S c.args.receiver.now) l (fst _ _ l.fits)) a in
+    let first = value_of w.result w.new.self.value in
+    let g1 = given w.result w.new.self.value w.new.self.leave (sym c.is_left.ensures ∙ c.if-is_left.false) e1 in
+    let t = c.take-receiver in
+    let u = c.walk-came-2 in
+    let under = moved _ _ (t.ensures.base ∙ w.ensures.base) w.ensures.room (sub (fits S c.args.index.now) l (fst _ _ (snd _ _ l.fits))) in
+    let f = rw (t.ensures.context, w.ensures.context, t.ensures.left, t.ensures.store) at u.ensures.came in
+    let e2 = f S start (Then (IndexOf first c.args.op (erase c.args.value.now) c.args.at) ∷ k) names size st e under (on _ g1 refl) in
+    let second = value_of u.result u.new.self.value in
+    let g2 = given u.result u.new.self.value u.new.self.leave (sym c.is_left-2.ensures ∙ c.if-is_left-2.false) e2 in
+    let y = c.take-index in
+    let r = c.call_with-current in
+    let same_copy : plain c.in-Ok.copy ≡ second = c.in-Ok.ensures.value ∙ y.ensures.value in
+    let f3 = rw (y.ensures.context, u.ensures.context, t.ensures.context, w.ensures.context, y.ensures.left, y.ensures.store, t.ensures.value, same_copy) at r.ensures.came in
+    let reads = ReadOf (OfElement first second) c.args.op (erase c.args.value.now) c.args.at in
+    let none = operator_none c.args.self.now.context.script.now S st first (codes "[]") refl in
+    let e3 = calls_builtin S _ start _ _ _ _ _ _ _ _ _ c.args.self.now.context.program.now (Some builtin.Index) first (codes "[]") (second ∷ []) c.args.at none refl e f3 (on _ g2 refl) in
+    let g3 = given r.result r.new.self.value r.new.self.leave (sym c.is_left-3.ensures ∙ c.if-is_left-3.false) e3 in
+    let all = r.ensures.base ∙ (y.ensures.base ∙ (u.ensures.base ∙ (t.ensures.base ∙ w.ensures.base))) in
+    let last = moved _ _ all (u.ensures.room ∙ w.ensures.room) (sub (fits S c.args.value.now) l (snd _ _ (snd _ _ l.fits))) in
+    let h1 = rw (r.ensures.context, y.ensures.context, u.ensures.context, t.ensures.context, w.ensures.context, t.ensures.value, y.ensures.value, r.ensures.log, y.ensures.store) at c.update_at.ensures.came in
+    h1 S start k names size st e last g3

@@ -29,7 +29,7 @@ abbrev pub decreases-set_local : goal.decreases-set_local
 decreases-set_local g l = 24 * (1001 - l.depth) + 4
 
 abbrev pub decreases-update_local : goal.decreases-update_local
-decreases-update_local g l = 24 * (1001 - l.depth) + 6
+decreases-update_local g l = 24 * (1001 - l.depth) + 7
 
 abbrev pub decreases-operate : goal.decreases-operate
 decreases-operate g l = 24 * (1001 - l.depth) + 8
@@ -64,11 +64,26 @@ decreases-print_from g l = 24 * (1001 - l.depth) + 8
 abbrev pub decreases-print_texts : goal.decreases-print_texts
 decreases-print_texts g l = 24 * (1001 - l.depth) + 9
 
-abbrev pub decreases-read_element : goal.decreases-read_element
-decreases-read_element g l = 24 * (1001 - l.depth) + 4
+abbrev pub decreases-array : goal.decreases-array
+decreases-array g l = 24 * (1001 - l.depth) + 7
+
+abbrev pub decreases-hash : goal.decreases-hash
+decreases-hash g l = 24 * (1001 - l.depth) + 7
+
+abbrev pub decreases-create_builtin : goal.decreases-create_builtin
+decreases-create_builtin g l = 24 * (1001 - l.depth) + 7
+
+abbrev pub decreases-set_element : goal.decreases-set_element
+decreases-set_element g l = 24 * (1001 - l.depth) + 4
+
+abbrev pub decreases-update_at : goal.decreases-update_at
+decreases-update_at g l = 24 * (1001 - l.depth) + 7
+
+abbrev pub decreases-update_element : goal.decreases-update_element
+decreases-update_element g l = 24 * (1001 - l.depth) + 8
 
 abbrev pub decreases-combine : goal.decreases-combine
-decreases-combine g l = 24 * (1001 - l.depth) + 5
+decreases-combine g l = 24 * (1001 - l.depth) + 6
 
 abbrev pub decreases-update_attribute : goal.decreases-update_attribute
 decreases-update_attribute g l = 24 * (1001 - l.depth) + 10
@@ -130,6 +145,18 @@ decreases-begin_function g l = 24 * (1001 - l.depth) + 8
 abbrev pub decreases-begin_choice : goal.decreases-begin_choice
 decreases-begin_choice g l = 24 * (1001 - l.depth) + 8
 
+abbrev pub decreases-begin_set_field : goal.decreases-begin_set_field
+decreases-begin_set_field g l = 24 * (1001 - l.depth) + 12
+
+abbrev pub decreases-begin_update_field : goal.decreases-begin_update_field
+decreases-begin_update_field g l = 24 * (1001 - l.depth) + 12
+
+abbrev pub decreases-begin_new : goal.decreases-begin_new
+decreases-begin_new g l = 24 * (1001 - l.depth) + 12
+
+abbrev pub decreases-operate_target : goal.decreases-operate_target
+decreases-operate_target g l = 24 * (1001 - l.depth) + 6
+
 abbrev pub decreases-begin_other : goal.decreases-begin_other
 decreases-begin_other g l = 24 * (1001 - l.depth) + 12
 
@@ -140,10 +167,10 @@ abbrev pub decreases-operate_value : goal.decreases-operate_value
 decreases-operate_value g l = 24 * (1001 - l.depth) + 7
 
 abbrev pub decreases-combine_integer : goal.decreases-combine_integer
-decreases-combine_integer g l = 24 * (1001 - l.depth) + 4
+decreases-combine_integer g l = 24 * (1001 - l.depth) + 5
 
 abbrev pub decreases-combine_value : goal.decreases-combine_value
-decreases-combine_value g l = 24 * (1001 - l.depth) + 4
+decreases-combine_value g l = 24 * (1001 - l.depth) + 5
 
 abbrev pub decreases-evaluate : goal.decreases-evaluate
 decreases-evaluate g l = 24 * (1001 - l.depth) + 4
@@ -167,10 +194,10 @@ abbrev pub decreases-begin_print : goal.decreases-begin_print
 decreases-begin_print g l = 24 * (1001 - l.depth) + 11
 
 abbrev pub decreases-set_field : goal.decreases-set_field
-decreases-set_field g l = 24 * (1001 - l.depth) + 4
+decreases-set_field g l = 24 * (1001 - l.depth) + 5
 
 abbrev pub decreases-update_field : goal.decreases-update_field
-decreases-update_field g l = 24 * (1001 - l.depth) + 6
+decreases-update_field g l = 24 * (1001 - l.depth) + 7
 
 abbrev pub decreases-initialize : goal.decreases-initialize
 decreases-initialize g l = 24 * (1001 - l.depth) + 6

@@ -7,4 +7,4 @@ returns-in-None-clause-came g c = λ S start k sc d a.
 
 pub returns-in-Some-clause-came : goal.returns-in-Some-clause-came
 returns-in-Some-clause-came g c = λ S start k sc d a.
-    c.ask.ensures.came c.args.at S start k sc d (rw c.in-Some.is at a)
+    c.ask.ensures.came S start k sc d (rw c.in-Some.is at a)

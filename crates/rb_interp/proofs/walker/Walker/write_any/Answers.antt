@@ -12,7 +12,7 @@ returns-in_default-share-clause-written g c = rw c.over-in_default-share.ensures
 
 pub returns-in-Ok-clause-written : goal.returns-in-Ok-clause-written
 returns-in-Ok-clause-written g c =
-    rw (ap (λ r. value_of r c.args.self.now.value) c.in-Other.is) (wrote c.in-Ok.copy c.in-Ok.ensures refl)
+    rw (ap (λ r. value_of r c.args.self.now.value) c.in-Other.is) (wrote c.in-Ok.copy c.in-Ok.ensures.value refl)
 
 pub returns-in_default : goal.returns-in_default
 returns-in_default g c =

@@ -1,36 +1,15 @@
-use Rattle.std.proofs.Common.{◌≡◌, ◌∷◌, ◌∙◌, refl, sym}
-use Rattle.rb_model.specs.Values.{plain}
-use Rattle.rb_machine.specs.Control.{Then, Instead}
+use Rattle.std.proofs.Common.{◌≡◌, refl, ap, rules, to_z, of_z, w64}
+use Rattle.rb_model.specs.Values.{Int}
 use Rattle.rb_interp.specs.Outcome.{value_of}
-use Rattle.rb_interp.proofs.Moves.{on}
-use Rattle.rb_interp.proofs.Outcomes.{given, passes}
 use Rattle.rb_interp.proofs.walker.Walker.write_field.Goals as goal
 
 pub returns-in_default-clause-came : goal.returns-in_default-clause-came
 returns-in_default-clause-came g c = λ S start k sc d a.
     rw (c.raise.ensures.gives, c.raise.ensures.store) (rw c.in_default.is at a)
 
-pub returns-in_default-share-clause-came : goal.returns-in_default-share-clause-came
-returns-in_default-share-clause-came g c = λ S start k sc d a.
-    rw (c.over.ensures.gives, c.over.ensures.store, c.take-value.ensures.store) (_, rw c.in-Some.is at a, refl)
-
-pub returns-then-is_left-clause-came : goal.returns-then-is_left-clause-came
-returns-then-is_left-clause-came g c = λ S start k sc d a.
-    let v = value_of c.args.came c.args.self.now.value in
-    let t = c.take-value.ensures in
-    let y = c.ask-done in
-    let same_value : plain c.in-Ok.copy ≡ v = c.in-Ok.ensures ∙ t.value in
-    let f = rw (t.context, t.left, t.store, same_value) at y.ensures.came in
-    let come = f c.args.at S start (Then (Instead v) ∷ k) sc d (rw c.in-Some.is at a) in
-    passes S _ start _ y.result y.new.self.value y.new.self.leave _ (Instead v) k _ _ _ (sym c.is_left.ensures ∙ c.if-is_left.true) come
-
-pub returns-clause-came : goal.returns-clause-came
-returns-clause-came g c = λ S start k sc d a.
-    let v = value_of c.args.came c.args.self.now.value in
-    let t = c.take-value.ensures in
-    let y = c.ask-done in
-    let same_value : plain c.in-Ok.copy ≡ v = c.in-Ok.ensures ∙ t.value in
-    let f = rw (t.context, t.left, t.store, same_value) at y.ensures.came in
-    let come = f c.args.at S start (Then (Instead v) ∷ k) sc d (rw c.in-Some.is at a) in
-    let g1 = given y.result y.new.self.value y.new.self.leave (sym c.is_left.ensures ∙ c.if-is_left.false) come in
-    rw (c.give.ensures.gives, c.give.ensures.store, t.value) (on _ g1 refl)
+pub returns-in-Int-clause-came : goal.returns-in-Int-clause-came
+returns-in-Int-clause-came g c = λ S start k sc d a.
+    let z : to_z w64 (of_z w64 c.in-Int.n) ≡ c.in-Int.n = search rules in
+    let v : value_of c.args.came c.args.self.now.value ≡ Int c.in-Int.n = ap (λ r. value_of r c.args.self.now.value) c.in-Int.is in
+    let f = rw z at c.write_integer.ensures.came in
+    f S start k sc d (rw (c.in-Some.is, v) at a)

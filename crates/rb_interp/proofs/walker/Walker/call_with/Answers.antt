@@ -1,0 +1,18 @@
+use Rattle.std.proofs.Common.{◌∷◌, [], None}
+use Rattle.rb_model.specs.Values.{plain}
+use Rattle.rb_machine.specs.Call.{answered}
+use Rattle.rb_machine.specs.Methods.{deed}
+use Rattle.rb_interp.specs.Answers.{outcome_of}
+use Rattle.rb_interp.proofs.Calls.{left_answered, answers, or_memory}
+use Rattle.rb_interp.proofs.walker.Walker.call_with.Goals as goal
+
+pub returns-then-is_collection-clause-came : goal.returns-then-is_collection-clause-came
+returns-then-is_collection-clause-came g c = rw c.as_slice.ensures at c.call_any.ensures.came
+
+pub returns-clause-came : goal.returns-clause-came
+returns-clause-came g c = λ name e S start k sc p a.
+    let o = c.operated.ensures in
+    let answer = deed c.args.self.now.context.program.now (plain c.args.receiver.now) name (plain c.args.arg ∷ []) None in
+    rw (o.store, o.left)
+    (or_memory S _ start _ _ k sc _ _ (outcome_of answer c.args.at) _ (answered S answer None c.args.at k sc c.args.depth c.args.self.now.left) (o.gives name e) a (left_answered S answer c.args.at k sc _ _)
+    (answers S _ start _ _ answer c.args.at k sc _ _ a))

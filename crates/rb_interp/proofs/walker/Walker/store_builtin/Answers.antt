@@ -1,0 +1,27 @@
+use Rattle.std.proofs.Common.{◌∷◌, ◌∙◌, map, refl, sym}
+use Rattle.rb_model.specs.Values.{plain}
+use Rattle.rb_machine.specs.Control.{Then, Instead}
+use Rattle.rb_machine.specs.Call.{last_value}
+use Rattle.rb_interp.proofs.Calls.{left_answered}
+use Rattle.rb_interp.proofs.Moves.{on}
+use Rattle.rb_interp.proofs.Outcomes.{given, passes}
+use Rattle.rb_interp.proofs.walker.Walker.store_builtin.Goals as goal
+
+pub returns-in_default-clause-came : goal.returns-in_default-clause-came
+returns-in_default-clause-came g c = λ name e S start k sc p a.
+    rw (c.over.ensures.gives, c.over.ensures.store, c.over.ensures.left) (_, a, left_answered S _ c.args.at _ sc _ _)
+
+pub returns-then-is_left-clause-came : goal.returns-then-is_left-clause-came
+returns-then-is_left-clause-came g c = λ name e S start k sc p a.
+    let y = c.call_any-came in
+    let step = Instead (last_value S (map plain c.args.args.now)) in
+    let come = y.ensures.came name e S start (Then step ∷ k) sc p a in
+    rw y.ensures.log (passes S _ start _ y.result y.new.self.value y.new.self.leave _ step k sc _ _ (sym c.is_left.ensures ∙ c.if-is_left.true) come)
+
+pub returns-clause-came : goal.returns-clause-came
+returns-clause-came g c = λ name e S start k sc p a.
+    let y = c.call_any-came in
+    let step = Instead (last_value S (map plain c.args.args.now)) in
+    let come = y.ensures.came name e S start (Then step ∷ k) sc p a in
+    let g1 = given y.result y.new.self.value y.new.self.leave (sym c.is_left.ensures ∙ c.if-is_left.false) come in
+    rw (c.give.ensures.gives, c.give.ensures.store, c.give.ensures.left, y.ensures.log, c.in-Ok.ensures S) (on _ g1 refl)

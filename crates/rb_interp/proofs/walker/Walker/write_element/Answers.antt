@@ -1,0 +1,34 @@
+use Rattle.std.proofs.Common.{◌≡◌, [], ◌∷◌, ◌∙◌, map, refl, sym, ap}
+use Rattle.std.specs.Prelude.{codes}
+use Rattle.rb_model.specs.Values.{Value as Val, plain}
+use Rattle.rb_machine.specs.Control.{Then, Instead}
+use Rattle.rb_interp.specs.Outcome.{value_of}
+use Rattle.rb_interp.proofs.Collections.{writes_so}
+use Rattle.rb_interp.proofs.Moves.{on, same}
+use Rattle.rb_interp.proofs.Outcomes.{given, passes}
+use Rattle.rb_interp.proofs.walker.Walker.write_element.Goals as goal
+
+pub returns-then-is_left-clause-came : goal.returns-then-is_left-clause-came
+returns-then-is_left-clause-came g c = λ S start k sc p a.
+    let v = value_of c.args.came c.args.self.now.value in
+    let t = c.take-value.ensures in
+    let y = c.call_any-done in
+    let same_value : plain c.in-Ok.copy ≡ v = c.in-Ok.ensures.value ∙ t.value in
+    let args = ap (map plain) c.as_slice.ensures ∙ ap (λ (w : Val). plain c.args.index ∷ w ∷ []) same_value in
+    let f = rw (t.context, t.left, t.store) at y.ensures.came in
+    let come = f (codes "[]=") refl S start (Then (Instead v) ∷ k) sc p (same a (writes_so S _ _ (plain c.args.receiver.now) (plain c.args.index) v c.args.at (Then (Instead v) ∷ k) sc _ _ p args)) in
+    let log = y.ensures.log ∙ ap (g.O.ThreadStore.log) t.store in
+    rw log (passes S _ start _ y.result y.new.self.value y.new.self.leave _ (Instead v) k sc _ _ (sym c.is_left.ensures ∙ c.if-is_left.true) come)
+
+pub returns-clause-came : goal.returns-clause-came
+returns-clause-came g c = λ S start k sc p a.
+    let v = value_of c.args.came c.args.self.now.value in
+    let t = c.take-value.ensures in
+    let y = c.call_any-done in
+    let same_value : plain c.in-Ok.copy ≡ v = c.in-Ok.ensures.value ∙ t.value in
+    let args = ap (map plain) c.as_slice.ensures ∙ ap (λ (w : Val). plain c.args.index ∷ w ∷ []) same_value in
+    let f = rw (t.context, t.left, t.store) at y.ensures.came in
+    let come = f (codes "[]=") refl S start (Then (Instead v) ∷ k) sc p (same a (writes_so S _ _ (plain c.args.receiver.now) (plain c.args.index) v c.args.at (Then (Instead v) ∷ k) sc _ _ p args)) in
+    let log = y.ensures.log ∙ ap (g.O.ThreadStore.log) t.store in
+    let g1 = given y.result y.new.self.value y.new.self.leave (sym c.is_left.ensures ∙ c.if-is_left.false) come in
+    rw (c.give.ensures.gives, c.give.ensures.store, c.give.ensures.left, log, t.value) (on _ g1 refl)

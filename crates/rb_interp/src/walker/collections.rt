@@ -1,0 +1,327 @@
+// Arrays and hashes: new ones, what they answer without a block, and how they are written.
+
+ghost use Rattle.std.specs.Prelude.{◌≡◌, ◌≤◌, ◌∷◌, [], ℕ, List, None, pos, false, map, IfOk, IfErr};
+ghost use Rattle.rb_model.specs.Values.{Int, plain, same, truth};
+ghost use Rattle.rb_model.specs.Things.{Elements};
+ghost use Rattle.rb_model.specs.Ends.{Memory};
+ghost use Rattle.rb_model.specs.Log.{has_end};
+ghost use Rattle.rb_model.specs.Doing.{doing, made, said};
+ghost use Rattle.rb_machine.specs.Methods as table;
+ghost use Rattle.rb_machine.specs.Methods.{deed};
+ghost use Rattle.rb_builtin.specs.Names.{builtin_of};
+ghost use Rattle.rb_builtin.specs.Deeds.{answer_of, step_of, thing_of, use_of};
+ghost use Rattle.rb_interp.specs.Outcome.{Gave, Over, is_left, outcome, value_of};
+ghost use Rattle.rb_interp.specs.Collections.{CallsBuiltin, Comes, Reads, answering, building, filling, making, pairing, storing, writing_element};
+
+use super::Walker;
+use crate::came::{Came, Cut, is_left};
+use crate::gathering::{copies, filled, has_bad_key, is_collection, pairs_in, parts_of};
+use crate::slots::last_of;
+use rb_builtin::{Behind, Builtin, Deed, Purpose, deed_of};
+use rb_code::BuiltinClass;
+use rb_model::{Act, Fault, Make, Ref, Reply, ThreadStore, Value};
+use rb_tree::Span;
+
+/// How many elements an array may have.
+const MAX_ELEMENTS: i64 = 16_777_216;
+
+impl<'p, O: ThreadStore + Drop> Walker<'p, O> {
+    /// Makes a thing, and gives a reference to it.
+    pub(super) fn make(&mut self, make: Make) -> Came
+        requires unended { has_end (O.log self.old.store).entries ≡ false }
+        ensures base { self.new.base ≡ self.old.base }
+        ensures left { self.new.left ≡ self.old.left }
+        ensures context { self.new.context ≡ self.old.context }
+        ensures log { O.log self.new.store ≡ O.log self.old.store }
+        ensures came { (depth : ℕ) → Comes self.old.context.steps (making (made make)) self.old.context.program.now depth self.old.left self.old.left (O.log self.old.store) (O.log self.new.store) (O.private self.old.store) (O.private self.new.store) (outcome result self.new.value self.new.leave) }
+    {
+        match self.store.make(make) {
+            Ok(thing) => self.give(Value::Ref(thing)),
+            Err(_) => self.over(Cut::Memory),
+        }
+    }
+
+    /// A new array of these values.
+    pub(super) fn list(&mut self, values: &[Value]) -> Came
+        requires unended { has_end (O.log self.old.store).entries ≡ false }
+        ensures base { self.new.base ≡ self.old.base }
+        ensures left { self.new.left ≡ self.old.left }
+        ensures context { self.new.context ≡ self.old.context }
+        ensures log { O.log self.new.store ≡ O.log self.old.store }
+        ensures came { (depth : ℕ) → Comes self.old.context.steps (making (Elements (map plain values.now))) self.old.context.program.now depth self.old.left self.old.left (O.log self.old.store) (O.log self.new.store) (O.private self.old.store) (O.private self.new.store) (outcome result self.new.value self.new.leave) }
+    {
+        match copies(self.context.alloc, values) {
+            Ok(values) => self.make(Make::Elements(values)),
+            Err(_) => self.over(Cut::Memory),
+        }
+    }
+
+    /// A new hash of keys and values by turns.
+    pub(super) fn pairs(&mut self, values: &[Value], at: Span) -> Came
+        requires unended { has_end (O.log self.old.store).entries ≡ false }
+        ensures base { self.new.base ≡ self.old.base }
+        ensures left { self.new.left ≡ self.old.left }
+        ensures context { self.new.context ≡ self.old.context }
+        ensures log { O.log self.new.store ≡ O.log self.old.store }
+        ensures came { (depth : ℕ) → Comes self.old.context.steps (pairing (map plain values.now) at) self.old.context.program.now depth self.old.left self.old.left (O.log self.old.store) (O.log self.new.store) (O.private self.old.store) (O.private self.new.store) (outcome result self.new.value self.new.leave) }
+    {
+        let Ok(pairs) = pairs_in(self.context.alloc, values) else {
+            return self.over(Cut::Memory);
+        };
+        if has_bad_key(pairs.as_slice()) {
+            return self.raise(Fault::BadKey, at);
+        }
+        self.make(Make::Pairs(pairs))
+    }
+
+    /// A new array of so many times a value.
+    pub(super) fn fill(&mut self, count: &Value, value: &Value, at: Span) -> Came
+        requires unended { has_end (O.log self.old.store).entries ≡ false }
+        ensures base { self.new.base ≡ self.old.base }
+        ensures left { self.new.left ≡ self.old.left }
+        ensures context { self.new.context ≡ self.old.context }
+        ensures log { O.log self.new.store ≡ O.log self.old.store }
+        ensures came { (depth : ℕ) → Comes self.old.context.steps (filling (plain count.now) (plain value.now) at) self.old.context.program.now depth self.old.left self.old.left (O.log self.old.store) (O.log self.new.store) (O.private self.old.store) (O.private self.new.store) (outcome result self.new.value self.new.leave) }
+    {
+        let Value::Int(count) = count else {
+            return self.raise(Fault::TypeMismatch, at);
+        };
+        if *count < 0 {
+            return self.raise(Fault::IndexTooSmall, at);
+        }
+        if *count > MAX_ELEMENTS {
+            return self.raise(Fault::ArrayTooLong, at);
+        }
+        match filled(self.context.alloc, *count as usize, value) {
+            Ok(values) => self.make(Make::Elements(values)),
+            Err(_) => self.over(Cut::Memory),
+        }
+    }
+
+    /// A new thing of a class that is built in.
+    pub(super) fn build(&mut self, class: BuiltinClass, args: &[Value], at: Span) -> Came
+        requires unended { has_end (O.log self.old.store).entries ≡ false }
+        ensures base { self.new.base ≡ self.old.base }
+        ensures left { self.new.left ≡ self.old.left }
+        ensures context { self.new.context ≡ self.old.context }
+        ensures log { O.log self.new.store ≡ O.log self.old.store }
+        ensures came { (depth : ℕ) → Comes self.old.context.steps (building class (map plain args.now) at) self.old.context.program.now depth self.old.left self.old.left (O.log self.old.store) (O.log self.new.store) (O.private self.old.store) (O.private self.new.store) (outcome result self.new.value self.new.leave) }
+    {
+        match (class, args) {
+            (BuiltinClass::Array, []) => self.make(Make::Elements(Vec::new(self.context.alloc))),
+            (BuiltinClass::Array, [count]) => self.fill(count, &Value::Nil, at),
+            (BuiltinClass::Array, [count, value]) => self.fill(count, value, at),
+            (BuiltinClass::Hash, []) => self.make(Make::Pairs(Vec::new(self.context.alloc))),
+            _ => self.raise(Fault::ArgumentCount, at),
+        }
+    }
+
+    /// Reads a collection by one copy. None is where memory is wanted.
+    pub(super) fn copied(&mut self, thing: Ref) -> Result<Reply, Came>
+        requires unended { has_end (O.log self.old.store).entries ≡ false }
+        ensures base { self.new.base ≡ self.old.base }
+        ensures left { self.new.left ≡ self.old.left }
+        ensures context { self.new.context ≡ self.old.context }
+        ensures log { O.log self.new.store ≡ O.log self.old.store }
+        ensures reads { IfOk result (λ reply. Reads self.old.context.steps thing (said reply) self.old.left (O.log self.old.store) (O.private self.old.store) (O.private self.new.store)) }
+        ensures wants { IfErr result (λ came. outcome came self.new.value self.new.leave ≡ Over Memory) }
+        ensures private { IfErr result (λ came. O.private self.new.store ≡ O.private self.old.store) }
+    {
+        if !self.store.holds(thing.id) {
+            return Err(self.over(Cut::Memory));
+        }
+        match self.store.apply(thing.id, Act::Copy) {
+            Ok(reply) => Ok(reply),
+            Err(_) => Err(self.over(Cut::Memory)),
+        }
+    }
+
+    /// An array of the keys or the values of a hash.
+    fn read_hash(&mut self, thing: Ref, purpose: Purpose, at: Span) -> Came
+        requires unended { has_end (O.log self.old.store).entries ≡ false }
+        ensures base { self.new.base ≡ self.old.base }
+        ensures left { self.new.left ≡ self.old.left }
+        ensures context { self.new.context ≡ self.old.context }
+        ensures log { O.log self.new.store ≡ O.log self.old.store }
+        ensures came { (depth : ℕ) → Comes self.old.context.steps (answering (table.Reads (thing_of thing) (use_of purpose)) at) self.old.context.program.now depth self.old.left self.old.left (O.log self.old.store) (O.log self.new.store) (O.private self.old.store) (O.private self.new.store) (outcome result self.new.value self.new.leave) }
+    {
+        match self.copied(thing) {
+            Ok(Reply::Pairs(pairs)) => match parts_of(self.context.alloc, pairs, purpose) {
+                Ok(values) => self.make(Make::Elements(values)),
+                Err(_) => self.over(Cut::Memory),
+            },
+            // Never, as a hash answers with its pairs.
+            Ok(_) => self.over(Cut::Memory),
+            Err(came) => came,
+        }
+    }
+
+    /// What is answered behind the reply of a thing.
+    fn ask_behind(&mut self, thing: Ref, act: Act, behind: Behind, at: Span) -> Came
+        requires unended { has_end (O.log self.old.store).entries ≡ false }
+        ensures base { self.new.base ≡ self.old.base }
+        ensures left { self.new.left ≡ self.old.left }
+        ensures context { self.new.context ≡ self.old.context }
+        ensures log { O.log self.new.store ≡ O.log self.old.store }
+        ensures came { (depth : ℕ) → Comes self.old.context.steps (answering (table.Asks (thing_of thing) (doing act) (step_of behind thing)) at) self.old.context.program.now depth self.old.left self.old.left (O.log self.old.store) (O.log self.new.store) (O.private self.old.store) (O.private self.new.store) (outcome result self.new.value self.new.leave) }
+    {
+        let came = self.ask(thing, act, at);
+        if is_left(came) {
+            return came;
+        }
+        match behind {
+            Behind::Reply => came,
+            Behind::Receiver => self.give(Value::Ref(thing)),
+            Behind::IsZero => self.is_zero(came),
+        }
+    }
+
+    /// Whether the value that came is zero.
+    fn is_zero(&self, came: Came) -> Came
+        requires came { is_left came ≡ false }
+        ensures { outcome result self.now.value self.now.leave ≡ Gave (truth (same (value_of came self.now.value) (Int (pos 0)))) }
+    {
+        match came {
+            Came::Int(0) => Came::True,
+            Came::Other => match self.value {
+                Value::Int(0) => Came::True,
+                _ => Came::False,
+            },
+            _ => Came::False,
+        }
+    }
+
+    /// What a method without a block answers.
+    fn do_deed(&mut self, deed: Deed, at: Span, depth: u32) -> Came
+        requires unended { has_end (O.log self.old.store).entries ≡ false }
+        ensures base { self.new.base ≡ self.old.base }
+        ensures less { self.new.left ≤ self.old.left }
+        ensures context { self.new.context ≡ self.old.context }
+        ensures log { O.log self.new.store ≡ O.log self.old.store }
+        ensures came { Comes self.old.context.steps (answering (answer_of deed) at) self.old.context.program.now depth self.old.left self.new.left (O.log self.old.store) (O.log self.new.store) (O.private self.old.store) (O.private self.new.store) (outcome result self.new.value self.new.leave) }
+    {
+        match deed {
+            Deed::Give(value) => self.give(value),
+            Deed::Raise(fault) => self.raise(fault, at),
+            Deed::Walk(_) | Deed::WalkOver(_, _) | Deed::WalkPairs(_) => {
+                self.raise(Fault::ArgumentCount, at)
+            }
+            Deed::Ask(thing, act, behind) => self.ask_behind(thing, act, behind, at),
+            Deed::Read(thing, purpose) => self.read_hash(thing, purpose, at),
+            Deed::Inspect(thing) => self.inspected(thing, at, depth),
+        }
+    }
+
+    /// The call of a built-in method of any value, without a block.
+    pub(super) fn call_any(
+        &mut self,
+        receiver: &Value,
+        method: Option<Builtin>,
+        args: &[Value],
+        at: Span,
+        depth: u32,
+    ) -> Came
+        requires unended { has_end (O.log self.old.store).entries ≡ false }
+        ensures base { self.new.base ≡ self.old.base }
+        ensures less { self.new.left ≤ self.old.left }
+        ensures context { self.new.context ≡ self.old.context }
+        ensures log { O.log self.new.store ≡ O.log self.old.store }
+        ensures came { CallsBuiltin self.old.context.steps self.old.context.program.now method (plain receiver.now) (map plain args.now) at depth self.old.left self.new.left (O.log self.old.store) (O.private self.old.store) (O.private self.new.store) (outcome result self.new.value self.new.leave) }
+    {
+        match deed_of(
+            self.context.alloc,
+            self.context.program,
+            receiver,
+            method,
+            args,
+            None,
+        ) {
+            Ok(deed) => self.do_deed(deed, at, depth),
+            Err(_) => self.over(Cut::Memory),
+        }
+    }
+
+    /// The call of a built-in method of any value, with one argument.
+    pub(super) fn call_with(
+        &mut self,
+        receiver: &Value,
+        method: Option<Builtin>,
+        arg: Value,
+        at: Span,
+        depth: u32,
+    ) -> Came
+        requires unended { has_end (O.log self.old.store).entries ≡ false }
+        ensures base { self.new.base ≡ self.old.base }
+        ensures less { self.new.left ≤ self.old.left }
+        ensures context { self.new.context ≡ self.old.context }
+        ensures log { O.log self.new.store ≡ O.log self.old.store }
+        ensures came { CallsBuiltin self.old.context.steps self.old.context.program.now method (plain receiver.now) (plain arg ∷ []) at depth self.old.left self.new.left (O.log self.old.store) (O.private self.old.store) (O.private self.new.store) (outcome result self.new.value self.new.leave) }
+    {
+        if is_collection(receiver) {
+            let args = [arg];
+            return self.call_any(receiver, method, args.as_slice(), at, depth);
+        }
+        self.operated(method, receiver, arg, at)
+    }
+
+    /// An assignment by the call of a built-in method, whose value is the last argument.
+    pub(super) fn store_builtin(
+        &mut self,
+        receiver: &Value,
+        method: Option<Builtin>,
+        args: &[Value],
+        at: Span,
+        depth: u32,
+    ) -> Came
+        requires unended { has_end (O.log self.old.store).entries ≡ false }
+        ensures base { self.new.base ≡ self.old.base }
+        ensures less { self.new.left ≤ self.old.left }
+        ensures context { self.new.context ≡ self.old.context }
+        ensures log { O.log self.new.store ≡ O.log self.old.store }
+        ensures came { (name : List ℕ) → builtin_of name ≡ method → Comes self.old.context.steps (storing (deed self.old.context.program.now (plain receiver.now) name (map plain args.now) None) (map plain args.now) at) self.old.context.program.now depth self.old.left self.new.left (O.log self.old.store) (O.log self.new.store) (O.private self.old.store) (O.private self.new.store) (outcome result self.new.value self.new.leave) }
+    {
+        let Ok(last) = last_of(args) else {
+            return self.over(Cut::Memory);
+        };
+        let came = self.call_any(receiver, method, args, at, depth);
+        if is_left(came) {
+            return came;
+        }
+        self.give(last)
+    }
+
+    /// Writes the value that came to an element, and gives it on.
+    pub(super) fn write_element(
+        &mut self,
+        came: Came,
+        receiver: &Value,
+        index: Value,
+        at: Span,
+        depth: u32,
+    ) -> Came
+        requires unended { has_end (O.log self.old.store).entries ≡ false }
+        requires came { is_left came ≡ false }
+        ensures base { self.new.base ≡ self.old.base }
+        ensures less { self.new.left ≤ self.old.left }
+        ensures context { self.new.context ≡ self.old.context }
+        ensures log { O.log self.new.store ≡ O.log self.old.store }
+        ensures came { Comes self.old.context.steps (writing_element (value_of came self.old.value) (plain receiver.now) (plain index) at) self.old.context.program.now depth self.old.left self.new.left (O.log self.old.store) (O.log self.new.store) (O.private self.old.store) (O.private self.new.store) (outcome result self.new.value self.new.leave) }
+    {
+        let value = self.take(came);
+        let Ok(copy) = value.share() else {
+            return self.over(Cut::Memory);
+        };
+        let args = [index, copy];
+        let done = self.call_any(
+            receiver,
+            Some(Builtin::SetIndex),
+            args.as_slice(),
+            at,
+            depth,
+        );
+        if is_left(done) {
+            return done;
+        }
+        self.give(value)
+    }
+}

@@ -1,0 +1,223 @@
+// Texts of collections, and what `p` writes: nothing of them calls a method of the script.
+
+ghost use Rattle.std.specs.Prelude.{◌≡◌, ◌≤◌, ◌<◌, ◌+◌, ℕ, [], true, false, length, map, Err, OnOk, IfOk};
+ghost use Rattle.rb_model.specs.Values.{Value as Val, Str, To, plain};
+ghost use Rattle.rb_model.specs.Doing.{said};
+ghost use Rattle.rb_model.specs.Log.{has_end};
+ghost use Rattle.rb_machine.specs.Control.{On, Drafting, Inspected};
+ghost use Rattle.rb_machine.specs.Call.{raised};
+ghost use Rattle.rb_machine.specs.Drafts.{draft_of};
+ghost use Rattle.rb_builtin.specs.Deeds.{thing_of};
+ghost use Rattle.rb_interp.specs.Answers.{OrMemory};
+ghost use Rattle.rb_interp.specs.Outcome.{Gave, is_left, outcome, value_of};
+ghost use Rattle.rb_interp.specs.Texts.{as_text};
+ghost use Rattle.rb_interp.specs.Collections.{Advances, Comes, Opens, ReadsTo, Shortens, drafting, inspecting_behind, showing, text_end, valuing, work_of};
+
+use super::Walker;
+use crate::came::{Came, Cut, is_left};
+use crate::gathering::has_collection;
+use rb_model::{Fault, Ref, Reply, SharedText, Sort, ThreadStore, Value};
+use rb_render::{Draft, Form, RenderFault, TextForm, Want};
+use rb_tree::Span;
+
+/// How many nodes may be under evaluation at once, and collections whose text is being made.
+const MAX_DEPTH: usize = 1000;
+
+/// Gives what was copied of a collection to a text.
+fn give_copy(draft: &mut Draft, thing: Ref, reply: Reply) -> Result<(), RenderFault>
+    ensures given { OnOk result (ReadsTo (thing_of thing) (said reply) draft.old (λ at k sc d left. On (Drafting draft.new at) k sc d left)) }
+    ensures too_long { result ≡ Err RenderFault.TooLong → ReadsTo (thing_of thing) (said reply) draft.old (λ at k sc d left. raised Fault.TextTooLong at left) }
+    ensures work { OnOk result (work_of draft.new ≤ 1 + length draft.old.begun) }
+{
+    match reply {
+        Reply::Elements(values) => draft.give_elements(thing, values),
+        Reply::Pairs(pairs) => draft.give_pairs(thing, pairs),
+        // Never, as a collection answers with what is in it.
+        _ => Err(RenderFault::Memory),
+    }
+}
+
+/// Whether so many nodes under evaluation and collections that are begun are as many as there may be.
+fn is_too_deep(depth: u32, begun: usize) -> bool
+    ensures deep { result ≡ true → 1000 ≤ depth + begun }
+    ensures fits { result ≡ false → depth + begun < 1000 }
+{
+    if depth as usize >= MAX_DEPTH {
+        return true;
+    }
+    begun >= MAX_DEPTH - depth as usize
+}
+
+/// Whether a text needs nothing more.
+fn is_finished(want: &Want) -> bool
+    ensures { result ≡ true → want.now ≡ Want.Finished }
+{
+    match want {
+        Want::Finished => true,
+        _ => false,
+    }
+}
+
+impl<'p, O: ThreadStore + Drop> Walker<'p, O> {
+    /// Gives bytes as a text.
+    fn give_bytes(&mut self, bytes: Vec<u8>) -> Came
+        ensures gives { OrMemory (Gave (Str bytes.items)) (outcome result self.new.value self.new.leave) }
+        ensures base { self.new.base ≡ self.old.base }
+        ensures left { self.new.left ≡ self.old.left }
+        ensures context { self.new.context ≡ self.old.context }
+        ensures store { self.new.store ≡ self.old.store }
+    {
+        match SharedText::from_vec(self.context.alloc, bytes) {
+            Ok(text) => self.give(Value::Str(text)),
+            Err(_) => self.over(Cut::Memory),
+        }
+    }
+
+    /// The thread ends since there is no text.
+    fn end_text(&mut self, fault: RenderFault, at: Span) -> Came
+        ensures gives { outcome result self.new.value self.new.leave ≡ text_end fault at }
+        ensures base { self.new.base ≡ self.old.base }
+        ensures left { self.new.left ≡ self.old.left }
+        ensures context { self.new.context ≡ self.old.context }
+        ensures store { self.new.store ≡ self.old.store }
+    {
+        match fault {
+            RenderFault::TooLong => self.raise(Fault::TextTooLong, at),
+            RenderFault::Memory => self.over(Cut::Memory),
+        }
+    }
+
+    /// Opens a collection in a text that is made, by one copy of it.
+    fn open(&mut self, draft: &mut Draft, thing: Ref, at: Span) -> Came
+        requires unended { has_end (O.log self.old.store).entries ≡ false }
+        ensures base { self.new.base ≡ self.old.base }
+        ensures left { self.new.left ≡ self.old.left }
+        ensures context { self.new.context ≡ self.old.context }
+        ensures log { O.log self.new.store ≡ O.log self.old.store }
+        ensures work { is_left result ≡ false → work_of draft.new ≤ 1 + length draft.old.begun }
+        ensures opens { Opens self.old.context.steps (thing_of thing) draft.old draft.new at self.old.left (O.log self.old.store) (O.private self.old.store) (O.private self.new.store) result (outcome result self.new.value self.new.leave) }
+    {
+        match self.copied(thing) {
+            Ok(reply) => match give_copy(draft, thing, reply) {
+                Ok(()) => Came::Nil,
+                Err(fault) => self.end_text(fault, at),
+            },
+            Err(came) => came,
+        }
+    }
+
+    /// Does what a text needs next.
+    fn advance(&mut self, draft: &mut Draft, want: &Want, at: Span, depth: u32) -> Came
+        requires unended { has_end (O.log self.old.store).entries ≡ false }
+        ensures base { self.new.base ≡ self.old.base }
+        ensures less { self.new.left ≤ self.old.left }
+        ensures context { self.new.context ≡ self.old.context }
+        ensures log { O.log self.new.store ≡ O.log self.old.store }
+        ensures shortens { Shortens self.old.context.program.now want.now draft.old draft.new self.old.left self.new.left result }
+        ensures came { Advances self.old.context.steps self.old.context.program.now want.now draft.old draft.new at depth self.old.left self.new.left (O.log self.old.store) (O.private self.old.store) (O.private self.new.store) result (outcome result self.new.value self.new.leave) }
+    {
+        match want {
+            Want::More => Came::Nil,
+            Want::Element => {
+                if self.left == 0 {
+                    return self.over(Cut::Steps);
+                }
+                self.left -= 1;
+                Came::Nil
+            }
+            Want::Copy(thing) => {
+                if is_too_deep(depth, draft.depth()) {
+                    return self.raise(Fault::TooDeep, at);
+                }
+                self.open(draft, *thing, at)
+            }
+            // Never, as only lines ask for texts, and a finished text needs nothing.
+            _ => self.over(Cut::Memory),
+        }
+    }
+
+    /// The inspected form of a collection, as a text.
+    pub(super) fn inspected(&mut self, thing: Ref, at: Span, depth: u32) -> Came
+        requires unended { has_end (O.log self.old.store).entries ≡ false }
+        ensures text { as_text self.old.context.program.now (outcome result self.new.value self.new.leave) ≡ outcome result self.new.value self.new.leave }
+        ensures base { self.new.base ≡ self.old.base }
+        ensures less { self.new.left ≤ self.old.left }
+        ensures context { self.new.context ≡ self.old.context }
+        ensures log { O.log self.new.store ≡ O.log self.old.store }
+        ensures came { Comes self.old.context.steps (drafting (draft_of Inspected (To (thing_of thing))) at) self.old.context.program.now depth self.old.left self.new.left (O.log self.old.store) (O.log self.new.store) (O.private self.old.store) (O.private self.new.store) (outcome result self.new.value self.new.leave) }
+    {
+        let mut draft = Draft::new(self.context.alloc, TextForm::Inspected, Value::Ref(thing));
+        'text: loop {
+            let want = match draft.ask(self.context.program) {
+                Ok(want) => want,
+                Err(fault) => return self.end_text(fault, at),
+            };
+            if is_finished(&want) {
+                return self.give_bytes(draft.into_bytes());
+            }
+            let came = self.advance(&mut draft, &want, at, depth);
+            if is_left(came) {
+                return came;
+            }
+        }
+    }
+
+    /// The value that came, as its text is told where no method is asked for it.
+    pub(super) fn told_plain(&mut self, came: Came, at: Span, depth: u32) -> Came
+        requires unended { has_end (O.log self.old.store).entries ≡ false }
+        requires came { is_left came ≡ false }
+        ensures base { self.new.base ≡ self.old.base }
+        ensures less { self.new.left ≤ self.old.left }
+        ensures context { self.new.context ≡ self.old.context }
+        ensures log { O.log self.new.store ≡ O.log self.old.store }
+        ensures came { Comes self.old.context.steps (showing (value_of came self.old.value) at) self.old.context.program.now depth self.old.left self.new.left (O.log self.old.store) (O.log self.new.store) (O.private self.old.store) (O.private self.new.store) (as_text self.old.context.program.now (outcome result self.new.value self.new.leave)) }
+    {
+        let Came::Other = came else {
+            return came;
+        };
+        let Value::Ref(thing) = &self.value else {
+            return came;
+        };
+        let thing = *thing;
+        match thing.sort {
+            Sort::List | Sort::Pairs => self.inspected(thing, at, depth),
+            _ => came,
+        }
+    }
+
+    /// The value of a call of `p`: nil, its one argument, or an array of them.
+    fn value_of_p(&mut self, values: &[Value]) -> Came
+        requires unended { has_end (O.log self.old.store).entries ≡ false }
+        ensures base { self.new.base ≡ self.old.base }
+        ensures left { self.new.left ≡ self.old.left }
+        ensures context { self.new.context ≡ self.old.context }
+        ensures log { O.log self.new.store ≡ O.log self.old.store }
+        ensures came { (shown : Val) (depth : ℕ) → Comes self.old.context.steps (valuing shown (map plain values.now)) self.old.context.program.now depth self.old.left self.old.left (O.log self.old.store) (O.log self.new.store) (O.private self.old.store) (O.private self.new.store) (outcome result self.new.value self.new.leave) }
+    {
+        match values {
+            [] => Came::Nil,
+            [value] => self.read_shared(value),
+            _ => self.list(values),
+        }
+    }
+
+    /// Prints the inspected forms of values.
+    pub(super) fn inspect_values(&mut self, values: &[Value], at: Span, depth: u32) -> Came
+        requires unended { has_end (O.log self.old.store).entries ≡ false }
+        requires steps { self.old.left ≤ self.old.context.steps }
+        ensures base { self.new.base ≡ self.old.base }
+        ensures less { self.new.left ≤ self.old.left }
+        ensures context { self.new.context ≡ self.old.context }
+        ensures unended { has_end (O.log self.new.store).entries ≡ false }
+        ensures came { Comes self.old.context.steps (inspecting_behind (map plain values.now) [] (map plain values.now) at) self.old.context.program.now depth self.old.left self.new.left (O.log self.old.store) (O.log self.new.store) (O.private self.old.store) (O.private self.new.store) (outcome result self.new.value self.new.leave) }
+    {
+        if has_collection(values) {
+            return self.over(Cut::Memory);
+        }
+        let shown = self.show(Form::Inspect, values, at);
+        if is_left(shown) {
+            return shown;
+        }
+        self.value_of_p(values)
+    }
+}
