@@ -116,7 +116,7 @@ impl<'p, O: ThreadStore + Drop> Walker<'p, O> {
         }
     }
 
-    /// Reads a collection by one copy. None is where memory is wanted.
+    /// Reads a collection by one copy; `Err` is what came where memory is wanted.
     pub(super) fn copied(&mut self, thing: Ref) -> Result<Reply, Came>
         requires unended { has_end (O.log self.old.store).entries ≡ false }
         ensures base { self.new.base ≡ self.old.base }
