@@ -277,7 +277,7 @@ abbrev pub inspecting : (lead bytes : Text) → Reference → List Open → Span
 inspecting lead bytes thing begun at k sc d left =
     On (Drafting (record { form = Inspected; coming = OfValue lead (To thing); bytes = bytes; begun = begun }) at) k sc d left
 
--- A collection is read by one copy when its text begins, where no more than 1,000 nodes and collections are begun; inside itself it is told by dots,
+-- A collection is read by one copy when its text begins, where fewer than 1,000 nodes and collections are begun; inside itself it is told by dots,
 -- and not read.
 abbrev pub CollectionsAreReadOnce : Type 0
 CollectionsAreReadOnce = (S : Script) (thing : Reference) (lead bytes : Text) (begun : List Open) (at : Span) (k : List Cont) (sc : Scope) (d left : ℕ) → is_collection (To thing) ≡ true
