@@ -1,13 +1,16 @@
 // What one thread works on.
 
-ghost use Rattle.std.specs.Prelude.{◌≡◌, ◌≤◌, true, false, ℕ, is_some, IsSome, IfOk, OnOk, OnErr};
+ghost use Rattle.std.specs.Prelude.{◌≡◌, ◌≤◌, true, false, ℕ, is_some, IsSome, IfSome, IfOk, OnOk, OnErr};
+ghost use Rattle.rb_model.specs.Values.{plain};
+ghost use Rattle.rb_model.specs.Acts.{At};
+ghost use Rattle.rb_model.specs.Acts as answer;
 ghost use Rattle.rb_model.specs.Doing.{doing, said, made, sort_of};
 ghost use Rattle.rb_model.specs.Private.{Private, Gives, Becomes, held, entered, next_id};
 ghost use Rattle.rb_model.specs.Log.{Log as Calls, Answers, is_sure, has_end, asked};
 
 use crate::act::{Act, Make, Reply};
 use crate::call::{Answer, Call};
-use crate::value::{Id, Ref};
+use crate::value::{Id, Ref, Value};
 use std::alloc::AllocError;
 
 /// Where one thread prints and ends.
@@ -54,6 +57,12 @@ pub trait ThreadStore {
     /// Whether the thing of an id is private here.
     fn holds(&self, id: Id) -> bool
         ensures { result ≡ is_some (held (private self.now) id) };
+
+    /// The element at an index of a list that is private here, read at once. None is there where the list, or room for a copy, is not.
+    fn element(&self, id: Id, index: i64) -> Option<Value>
+        ensures held { IfSome result (λ value. is_some (held (private self.now) id) ≡ true) }
+        ensures value { IfSome result (λ value. Gives (private self.now) id (At index) (answer.Value (plain value))) }
+        ensures private { IfSome result (λ value. Becomes (private self.now) id (At index) (private self.now)) };
 
     /// Does what is asked of a thing that is private here.
     fn apply(&mut self, id: Id, act: Act) -> Result<Reply, AllocError>

@@ -1,12 +1,15 @@
 // What the main thread works on.
 
-ghost use Rattle.std.specs.Prelude.{◌≡◌, is_some, IsSome, IfOk, OnOk, OnErr, true, false};
+ghost use Rattle.std.specs.Prelude.{◌≡◌, is_some, IsSome, IfSome, IfOk, OnOk, OnErr, true, false};
+ghost use Rattle.rb_model.specs.Values.{plain};
+ghost use Rattle.rb_model.specs.Acts.{At};
+ghost use Rattle.rb_model.specs.Acts as answer;
 ghost use Rattle.rb_model.specs.Doing.{doing, said, made, sort_of};
 ghost use Rattle.rb_model.specs.Private.{Gives, Becomes, held, entered, next_id};
 ghost use Rattle.rb_model.specs.Log.{Answers, is_sure, has_end, asked};
 
 use local_heap::LocalHeap;
-use rb_model::{Act, Answer, Call, Id, Make, OneStore, Ref, Reply, ThreadStore};
+use rb_model::{Act, Answer, Call, Id, Make, OneStore, Ref, Reply, ThreadStore, Value};
 use shape_tree::ShapeStore;
 use std::alloc::AllocError;
 
@@ -47,6 +50,18 @@ impl<O: OneStore, S: ShapeStore> ThreadStore for MainThread<O, S> {
         ensures { result ≡ is_some (held self.now.things id) }
     {
         self.things.holds(id)
+    }
+
+    #[inline(always)]
+    fn element(&self, id: Id, index: i64) -> Option<Value>
+        ensures held { IfSome result (λ value. is_some (held self.now.things id) ≡ true) }
+        ensures value { IfSome result (λ value. Gives self.now.things id (At index) (answer.Value (plain value))) }
+        ensures private { IfSome result (λ value. Becomes self.now.things id (At index) self.now.things) }
+    {
+        match self.things.element(id, index) {
+            Ok(found) => found,
+            Err(_) => None,
+        }
     }
 
     #[inline(always)]
