@@ -227,6 +227,7 @@ impl Cells {
     }
 
     /// The value of what stands in the word of a place.
+    #[inline(always)]
     fn meant<S: ShapeStore>(
         &self,
         shapes: &S,
@@ -251,6 +252,7 @@ impl Cells {
     }
 
     /// The value of a word that speaks of a thing: what is kept whole at its place, or else the thing of this heap.
+    #[inline(always)]
     fn thing_meant<S: ShapeStore>(
         &self,
         shapes: &S,

@@ -72,6 +72,7 @@ impl Object {
     }
 
     /// Gives a field a value that the shape has no name for.
+    #[inline(always)]
     fn add<S: ShapeStore>(
         &mut self,
         shapes: &mut S,
@@ -141,6 +142,7 @@ impl Object {
     }
 
     /// The object with the next place, which an edge gives.
+    #[inline(never)]
     fn grow<S: ShapeStore>(
         &mut self,
         shapes: &mut S,

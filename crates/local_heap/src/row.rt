@@ -22,6 +22,7 @@ pub fn set_word(words: &mut Words, at: usize, word: u64)
 }
 
 /// Gives a place of a row a value. A row has nil at all places behind its last, so that nil needs no room.
+#[inline(always)]
 pub fn settle(row: &mut Vec<Value>, at: usize, value: Value) -> Result<(), AllocError>
     ensures put { OnOk result (Puts (map plain row.old.items) at (plain value) (map plain row.new.items)) }
     ensures err { OnErr result (Alike (map plain row.old.items) (map plain row.new.items)) }
@@ -52,6 +53,7 @@ fn extend(row: &mut Vec<Value>, len: usize) -> Result<(), AllocError>
 }
 
 /// A copy of the value at a place of a row.
+#[inline(always)]
 pub fn value_at(row: &[Value], at: usize) -> Result<Value, AllocError>
     ensures value { IfOk result (λ value. plain value ≡ whole_at (map plain row.now) at) }
     ensures refused { OnErr result (is_text (whole_at (map plain row.now) at) ≡ true) }
