@@ -1,7 +1,6 @@
 -- Arrays and hashes: what is made, read and asked, beside the machine.
-use Rattle.std.proofs.Common.{◌≡◌, ◌≤◌, ◌<◌, ℕ, true, false, List, [], ◌∷◌, length, map, get_or, None, refl, sym, ap, ◌∙◌, subst, arith}
+use Rattle.std.proofs.Common.{◌≡◌, ◌≤◌, ◌<◌, ℕ, true, List, [], ◌∷◌, length, map, get_or, None, refl, sym, ap, ◌∙◌, subst, arith}
 use Rattle.std.specs.Prelude.{is_some, codes}
-use Rattle.std.specs.List.{list_any}
 use Rattle.rb_tree.specs.declared.span.Span.{Span}
 use Rattle.rb_tree.specs.declared.node.Program.{Program}
 use Rattle.rb_model.specs.declared.value.Ref.{Ref}
@@ -17,27 +16,20 @@ use Rattle.rb_model.specs.Doing as doing
 use Rattle.rb_model.specs.Private.{Private, Gives, Becomes, held, entered, next_id}
 use Rattle.rb_model.specs.Log.{Log}
 use Rattle.rb_machine.specs.Scopes.{Script, Scope}
-use Rattle.rb_machine.specs.Control.{State, On, Cont, Then, Instead, Create, IsZero, Inspecting, Give, Making, Reading, Use}
-use Rattle.rb_machine.specs.Drafts.{is_collection}
+use Rattle.rb_machine.specs.Control.{State, On, Cont, Then, Instead, Create, IsZero, Give, Making, Reading, Use}
 use Rattle.rb_machine.specs.Methods.{Asks, deed}
-use Rattle.rb_machine.specs.Call.{ask, show, value_of_p, write}
+use Rattle.rb_machine.specs.Call.{ask, value_of_p}
 use Rattle.rb_machine.specs.Call as call
 use Rattle.rb_machine.specs.Move.{used}
 use Rattle.rb_machine.specs.Follows.{At, acts, makes, next_thing}
 use Rattle.rb_machine.specs.Follows as follows
-use Rattle.rb_render.specs.declared.show.Form.TheVariants as form
-use Rattle.rb_render.specs.Forms.{written}
-use Rattle.rb_render.proofs.Printed.{p_shows}
 use Rattle.rb_builtin.specs.declared.deed.Behind.{Behind}
 use Rattle.rb_builtin.specs.declared.deed.Behind.TheVariants as behind
 use Rattle.rb_builtin.specs.Deeds.{thing_of, step_of}
 use Rattle.rb_interp.specs.declared.came.Came.{Came as Registers}
 use Rattle.rb_interp.specs.declared.came.Leave.{Leave}
 use Rattle.rb_interp.specs.Outcome.{Came, is_left, outcome}
-use Rattle.rb_interp.proofs.Moves.{same}
 use Rattle.rb_interp.proofs.Moves as moves
-use Rattle.rb_interp.proofs.Endings.{quietly}
-use Rattle.rb_interp.proofs.Gathered.{none_collected}
 use Rattle.rb_interp.proofs.Objects.{there_is}
 use Rattle.rb_interp.proofs.Outcomes.{passes}
 
@@ -117,11 +109,3 @@ pub value_of_many : (S : Script) (xs : List Held) → 2 ≤ length xs → value_
 value_of_many S [] h = absurd (omega (arith, h))
 value_of_many S (x ∷ []) h = absurd (omega (arith, h))
 value_of_many S (x ∷ y ∷ xs) h = refl
-
-module _ (S : Script) (N : ℕ) (start : State) (h : Private) where
-  -- where no collection is among values, `p` shows what is written of them
-  pub p_shown : (l : Log) (program : Program) (vs : List Val) (at : Span) (k : List Cont) (sc : Scope) (d n : ℕ) → S.program ≡ program → list_any is_collection vs ≡ false
-      → At S 0 N start l h (write S (Inspecting vs) [] vs at k sc d n) → At S 0 N start l h (show S (written program form.Inspect vs) (value_of_p S vs) at k sc d n)
-  p_shown l program vs at k sc d n p none a =
-      let b = quietly S N start h l _ _ (p_shows S vs at k sc d n (none_collected vs none)) a in
-      same b (ap (λ P. show S (written P form.Inspect vs) (value_of_p S vs) at k sc d n) p)

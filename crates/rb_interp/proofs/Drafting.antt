@@ -14,20 +14,23 @@ use Rattle.rb_model.specs.Ends as ending
 use Rattle.rb_model.specs.Log.{Log}
 use Rattle.rb_model.specs.Private.{Private}
 use Rattle.rb_machine.specs.Scopes.{Script, Scope, Text}
-use Rattle.rb_machine.specs.Control.{State, On, Cont, Give, Drafting, Reading, Form, Inspected, Lined, Open, OfArray, OfHash, Coming, Between, OfValue, OfPair, Draft, ForText}
-use Rattle.rb_machine.specs.Texts.{max_bytes, inspected}
-use Rattle.rb_machine.specs.Drafts.{Needs, Goes, Finished, Element, Copies, Asks, joined, needs, inspects, lines, collection, is_open, again, closing, is_collection_sort, is_list_sort, empty_lines, lead_of, opened, opened_array}
-use Rattle.rb_machine.specs.Call.{ended, raised, going, start_element, drafted}
+use Rattle.rb_machine.specs.Control.{State, On, Cont, Then, WriteBehind, Inspecting, Give, Drafting, Reading, Form, Inspected, Lined, Open, OfArray, OfHash, Coming, Between, OfValue, OfPair, Draft, ForText, Under, LineOf}
+use Rattle.rb_machine.specs.Texts.{max_bytes, inspected, line_of}
+use Rattle.rb_machine.specs.Drafts.{is_collection, draft_of, Needs, Goes, Finished, Element, Copies, Asks, joined, needs, inspects, lines, collection, is_open, again, closing, is_collection_sort, is_list_sort, empty_lines, lead_of, opened, opened_array, with_line}
+use Rattle.rb_machine.specs.Call.{ended, raised, going, start_element, drafted, bytes_of, write, write_behind, give_text}
+use Rattle.rb_machine.proofs.Printing.{behind_fits, behind_long}
 use Rattle.rb_machine.specs.Move.{Go, used, left_in}
 use Rattle.rb_machine.specs.Follows.{At}
 use Rattle.rb_render.specs.declared.show.RenderFault.{RenderFault}
 use Rattle.rb_render.specs.declared.show.RenderFault.TheVariants as fault
+use Rattle.rb_render.specs.declared.draft.Want.{Want}
+use Rattle.rb_render.specs.declared.draft.Want.TheVariants as want
 use Rattle.rb_interp.specs.declared.came.Came.{Came as Registers}
 use Rattle.rb_interp.specs.declared.came.Came.TheVariants as came
 use Rattle.rb_interp.specs.declared.came.Leave.{Leave}
 use Rattle.rb_interp.specs.Outcome.{Outcome, Gave, Over, Came, is_left, outcome}
 use Rattle.rb_interp.specs.Answers.{OrMemory}
-use Rattle.rb_interp.specs.Collections.{ReadsTo, coming_work, work_of, text_end}
+use Rattle.rb_interp.specs.Collections.{ReadsTo, coming_work, work_of, text_end, is_finished}
 use Rattle.rb_interp.proofs.Moves.{on, same}
 use Rattle.rb_interp.proofs.Calls.{or_memory}
 
@@ -52,6 +55,10 @@ module _ (S : Script) (N : ℕ) (start : State) (h : Private) (l : Log) (program
       let b = by_need (Finished text) e a in
       or_memory S N start h l k sc d n (Gave (Str text)) o (On (Give (Str text)) k sc d n) m b refl b
 
+  -- a value is asked for its text, which is a line
+  pub text_asked : (v : Val) (new : Draft) → needs program t ≡ Asks v new → At S 0 N start l h (On (Drafting t at) k sc d n) → At S 0 N start l h (give_text S v at (Under d ∷ Then (LineOf new at) ∷ k) sc (d + length new.begun) n)
+  text_asked v new e a = by_need (Asks v new) e a
+
   -- an element begins, where a step is left
   pub no_step : (new : Draft) → needs program t ≡ Element new → n ≡ 0 → At S 0 N start l h (On (Drafting t at) k sc d n) → At S 0 N start l h (ended ending.Steps n)
   no_step new e z a = same (by_need (Element new) e a) (ap (start_element new at k sc d) z ∙ ap (ended ending.Steps) (sym z))
@@ -72,6 +79,14 @@ module _ (S : Script) (N : ℕ) (start : State) (h : Private) (l : Log) (program
       let f : nat_lt (d + length new.begun) 1000 ≡ false = grind (arith, nat_tests) in
       same (by_need (Copies thing new) e a) (ap (λ b. cond b (On (Reading thing (ForText new) at) k sc d n) (raised TooDeep at n)) f)
 
+-- what a text needs that needs nothing more
+pub finished_is : (w : Want) → is_finished w ≡ true → w ≡ want.Finished
+finished_is want.More e = absurd (cc)
+finished_is want.Finished e = refl
+finished_is want.Element e = absurd (cc)
+finished_is (want.Copy thing) e = absurd (cc)
+finished_is (want.Text v) e = absurd (cc)
+
 -- ---- there is less to do
 
 -- what is left to do behind a need is less than so much, but for an element, whose step counts for the rest
@@ -81,7 +96,7 @@ Lessens work (Goes (Some t)) = work_of t < work
 Lessens work (Finished text) = Unit {0}
 Lessens work (Element t) = work_of t ≤ 3 + work
 Lessens work (Copies thing t) = 1 + length t.begun < work
-Lessens work (Asks v t) = Unit {0}
+Lessens work (Asks v t) = 1 + length t.begun < work
 
 needs_if : (work : ℕ) (b : Bool) (m n : Needs) → Lessens work m → Lessens work n → Lessens work (cond b m n)
 needs_if work true m n p q = p
@@ -108,8 +123,8 @@ module _ (program : Program) where
   inspects_lessens work t lead v h = joined_lessens work t (lead ++ inspected program v) Between t.begun (omega (arith, h))
 
   lines_lessens : (work : ℕ) (t : Draft) (lead : Text) (v : Val) → 1 + length t.begun < work → Lessens work (lines program t lead v)
-  lines_lessens work t lead (To thing) h = needs_if work (is_list_sort thing.sort) _ _ (collection_lessens work t lead thing h) tt
-  lines_lessens work t lead v h = tt
+  lines_lessens work t lead (To thing) h = needs_if work (is_list_sort thing.sort) _ _ (collection_lessens work t lead thing h) h
+  lines_lessens work t lead v h = h
 
   between_lessens : (form : Form) (bytes : Text) (begun : List Open) → Lessens (0 + length begun) (needs program (a_draft form Between bytes begun))
   between_lessens form bytes [] = tt
@@ -135,6 +150,9 @@ module _ (program : Program) where
 
   pub copies_less : (t new : Draft) (thing : Reference) → needs program t ≡ Copies thing new → 1 + length new.begun < work_of t
   copies_less t new thing e = by_need_lessens t (Copies thing new) e
+
+  pub asks_less : (t new : Draft) (v : Val) → needs program t ≡ Asks v new → 1 + length new.begun < work_of t
+  asks_less t new v e = by_need_lessens t (Asks v new) e
 
 -- ---- what is read for a text
 
@@ -162,6 +180,12 @@ reply_most t thing (reply.Value v) = tt
 reply_most t thing reply.Done = tt
 reply_most t thing (reply.Ended e) = tt
 reply_most t thing (reply.Failed f) = tt
+
+line_most_of : (t : Draft) (text : Text) → AtMost (length t.begun) (with_line t text)
+line_most_of t text = joined_most _ t (line_of text) t.begun (omega arith)
+
+pub line_most : (t new : Draft) (text : Text) → with_line t text ≡ Some new → work_of new ≤ length t.begun
+line_most t new text e = subst (AtMost (length t.begun)) e (line_most_of t text)
 
 pub opened_most : (t new : Draft) (thing : Reference) (r : Reply) → opened t thing r ≡ Some new → work_of new ≤ 1 + length t.begun
 opened_most t new thing r e = subst (AtMost (1 + length t.begun)) e (reply_most t thing r)
@@ -221,3 +245,34 @@ left_only false e a = absurd (cc)
 pub on_ok : {T E A B : Type 0} (r : Result T E) → OnOk r A → (A → B) → OnOk r B
 on_ok (Ok x) a f = f a
 on_ok (Err e) a f = tt
+
+-- ---- what `p` writes of a value
+
+module _ (S : Script) (N : ℕ) (start : State) (h : Private) (l : Log) (all vs : List Val) (bytes : Text) (at : Span) (k : List Cont) (sc : Scope) (d n : ℕ) where
+  abbrev behind : List Cont
+  behind = Then (WriteBehind (Inspecting all) bytes vs at) ∷ k
+
+  -- its inspected form is given, where it is not read
+  pub form_given : (program : Program) (v : Val) → S.program ≡ program → is_collection v ≡ false
+      → At S 0 N start l h (write S (Inspecting all) bytes (v ∷ vs) at k sc d n) → At S 0 N start l h (On (Give (Str (inspected program v))) (Then (WriteBehind (Inspecting all) bytes vs at) ∷ k) sc d n)
+  form_given program v p e a =
+      subst (λ P. At S 0 N start l h (On (Give (Str (inspected P v))) behind sc d n)) p
+      (same a (ap (λ b. cond b (On (Drafting (draft_of Inspected v) at) behind sc d n) (On (Give (Str (inspected S.program v))) behind sc d n)) e))
+
+  -- a text is made where it is
+  pub form_drafted : (v : Val) → is_collection v ≡ true
+      → At S 0 N start l h (write S (Inspecting all) bytes (v ∷ vs) at k sc d n) → At S 0 N start l h (On (Drafting (draft_of Inspected v) at) (Then (WriteBehind (Inspecting all) bytes vs at) ∷ k) sc d n)
+  form_drafted v e a = same a (ap (λ b. cond b (On (Drafting (draft_of Inspected v) at) behind sc d n) (On (Give (Str (inspected S.program v))) behind sc d n)) e)
+
+  -- the text is written as a line, or it is too long for it
+  pub line_written : (v : Val) (new : Text) → new ≡ bytes ++ (bytes_of S v ++ 10 ∷ []) → length new ≤ max_bytes
+      → At S 0 N start l h (On (Give v) (Then (WriteBehind (Inspecting all) bytes vs at) ∷ k) sc d n) → At S 0 N start l h (write S (Inspecting all) new vs at k sc d n)
+  line_written v new e q a =
+      subst (λ b. At S 0 N start l h (write S (Inspecting all) b vs at k sc d n)) (sym e)
+      (same (on (write_behind S (Inspecting all) bytes (bytes_of S v) vs at k sc d n) a refl) (behind_fits S (Inspecting all) bytes (bytes_of S v) vs at k sc d n (subst (λ b. length b ≤ max_bytes) e q)))
+
+  pub line_ends : (v : Val) (f : RenderFault) → (f ≡ fault.TooLong → max_bytes < length (bytes ++ (bytes_of S v ++ 10 ∷ [])))
+      → At S 0 N start l h (On (Give v) (Then (WriteBehind (Inspecting all) bytes vs at) ∷ k) sc d n) → Came S N start l h (text_end f at) k sc d n
+  line_ends v fault.TooLong e a =
+      same (on (write_behind S (Inspecting all) bytes (bytes_of S v) vs at k sc d n) a refl) (behind_long S (Inspecting all) bytes (bytes_of S v) vs at k sc d n (e refl))
+  line_ends v fault.Memory e a = (On (Give v) behind sc d n, a, refl)

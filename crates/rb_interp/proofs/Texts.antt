@@ -47,7 +47,7 @@ use Rattle.rb_interp.specs.Outcome.{Outcome, Gave, Over, Came, is_left, value_of
 use Rattle.rb_interp.specs.Methods.{IsTarget, HasNone}
 use Rattle.rb_interp.specs.Answers.{OrMemory, is_thing}
 use Rattle.rb_interp.specs.Carries.{me_of}
-use Rattle.rb_interp.specs.Texts.{IsAsked, IsLined, IsUnasked, is_text, as_text}
+use Rattle.rb_interp.specs.Texts.{IsAsked, IsUnasked, is_text, as_text}
 use Rattle.rb_interp.proofs.Lists.{len_map, len_args, get_map, get_drop}
 use Rattle.rb_interp.proofs.Moves.{on, same}
 use Rattle.rb_interp.proofs.Outcomes.{gave, gone, passes}
@@ -313,11 +313,6 @@ no_value room first count i h q =
     drop_all i (map plain (take count (drop first room))) (omega (arith, many, q))
 
 module _ (S : Script) (N : ℕ) (start : State) (h : Private) where
-  -- the text of the next value is asked for
-  pub asks_next : (l : Log) (style : Style) (bytes : List ℕ) (rest : List Val) (at : Span) (k : List Cont) (sc : Scope) (d n : ℕ) (v : Val) (vs : List Val) → rest ≡ v ∷ vs → {lined : Bool} → IsLined lined style (Some v) → lined ≡ false
-      → At S 0 N start l h (write S style bytes rest at k sc d n) → At S 0 N start l h (give_text S v at (Then (WriteBehind style bytes vs at) ∷ k) sc d n)
-  asks_next l style bytes rest at k sc d n v vs e so is a = same a (ap (λ vs. write S style bytes vs at k sc d n) e ∙ so S bytes vs at k sc d n is)
-
   -- all are written
   pub shows_all : (l : Log) (style : Style) (bytes : List ℕ) (rest : List Val) (at : Span) (k : List Cont) (sc : Scope) (d n : ℕ) → rest ≡ [] → call.value_of S style ≡ Instead Nil
       → At S 0 N start l h (write S style bytes rest at k sc d n) → At S 0 N start l h (show S bytes (Instead Nil) at k sc d n)

@@ -105,7 +105,7 @@ takes_is false (x ∷ xs) h =
     let t : (suc (length xs) == 0) ≡ false = grind (arith, nat_tests) in
     rw t refl
 
-same_start : (turns : Turns) (b : Block) (k : List Cont) (me : Val) (d n kept kept' : ℕ) (ns ns' : List Node) (ls ls' : Locals) → ns ≡ ns' → kept ≡ kept' → ls ≡ ls'
+pub same_start : (turns : Turns) (b : Block) (k : List Cont) (me : Val) (d n kept kept' : ℕ) (ns ns' : List Node) (ls ls' : Locals) → ns ≡ ns' → kept ≡ kept' → ls ≡ ls'
     → On (Following Nil ns) (Turn turns b kept ∷ k) (record { me = me; locals = ls }) d n ≡ On (Following Nil ns') (Turn turns b kept' ∷ k) (record { me = me; locals = ls' }) d n
 same_start turns b k me d n kept kept' ns ns' ls ls' e f g = rw (e, f, g) refl
 
@@ -134,7 +134,7 @@ module _ {S : Script} {N : ℕ} {start : State} {h : Private} where
       (locals_opened S c (erase_block c) (bound names (map plain before)) next takes is f ∙ sym opened))
 
 -- behind it the scope is that round the block
-back_is : (me : Val) (names own : List NameId) (room : List Held) → length names ≤ length room → back (length names) (scope_of me (names ++ own) room) ≡ scope_of me names room
+pub back_is : (me : Val) (names own : List NameId) (room : List Held) → length names ≤ length room → back (length names) (scope_of me (names ++ own) room) ≡ scope_of me names room
 back_is me names own room l = ap (λ (ls : Locals). record { me = me; locals = ls }) (block_closes names own room l)
 
 module _ (S : Script) (N : ℕ) (start : State) (h : Private) where

@@ -78,6 +78,19 @@ IsQuick method left right room answer =
     (m : ℤ) × (n : ℤ) × IsSmall left room m × IsSmall right room n
     × ((program : Program) (name : List ℕ) → builtin_of name ≡ method → deed program (Int m) name (Int n ∷ []) None ≡ answer)
 
+-- an operation over two leaves gives this integer in three steps, which leave the scope as it is
+abbrev pub IsMade : Code → List Held → ℤ → Type 0
+IsMade code room n =
+    (S : Script) (N : ℕ) (names : List NameId) (size depth left : ℕ) (start : State) (h : Private) (log : Log) (k : List Cont) (me : Val)
+    → fits S code names size ≡ true → length names ≤ length room → 2 < left → depth < 999
+    → At S 0 N start log h (On (Eval (erase code)) k (scope_of me names room) depth left) → At S 0 N start log h (On (Give (Int n)) k (scope_of me names room) depth (left - 3))
+
+-- an operation over such an integer and a leaf gives this answer in four steps, which leave the scope as it is
+abbrev pub IsTwice : Option Builtin → (left right : Code) → List Held → Answer → Type 0
+IsTwice method left right room answer =
+    (m : ℤ) × (n : ℤ) × IsMade left room m × IsSmall right room n
+    × ((program : Program) (name : List ℕ) → builtin_of name ≡ method → deed program (Int m) name (Int n ∷ []) None ≡ answer)
+
 -- a text is written out as these bytes, which are not too many
 abbrev pub IsWritten : List CodePiece → List ℕ → Type 0
 IsWritten pieces text = (pieces ≡ part.Text text ∷ []) × (length text ≤ max_bytes)
@@ -96,6 +109,13 @@ method_of op.AndThen = None
 abbrev pub IsUpdated : ℕ → AssignOp → Code → List Held → List Held → ℤ → Type 0
 IsUpdated slot op value old new k =
     (b : Builtin) × (m : ℤ) × (n : ℤ) × (method_of op ≡ Some b) × (slice_get old slot ≡ Some (held.Int m)) × IsSmall value old n
+    × ((program : Program) (name : List ℕ) → builtin_of name ≡ Some b → deed program (Int m) name (Int n ∷ []) None ≡ Gives (Int k))
+    × (new ≡ slice_set old slot (held.Int k))
+
+-- the same of the one in a slot and an operation over two leaves
+abbrev pub IsUpdatedOver : ℕ → AssignOp → Code → List Held → List Held → ℤ → Type 0
+IsUpdatedOver slot op value old new k =
+    (b : Builtin) × (m : ℤ) × (n : ℤ) × (method_of op ≡ Some b) × (slice_get old slot ≡ Some (held.Int m)) × IsMade value old n
     × ((program : Program) (name : List ℕ) → builtin_of name ≡ Some b → deed program (Int m) name (Int n ∷ []) None ≡ Gives (Int k))
     × (new ≡ slice_set old slot (held.Int k))
 

@@ -1,8 +1,8 @@
 -- What is done with arrays and hashes, beside the machine.
-use Rattle.std.specs.Prelude.{◌≡◌, ◌<◌, ◌+◌, ◌*◌, ℕ, true, false, List, [], ◌∷◌, length, Option, None, codes}
+use Rattle.std.specs.Prelude.{ℤ, ◌≡◌, ◌<◌, ◌+◌, ◌*◌, ℕ, Bool, true, false, List, [], ◌∷◌, length, Option, None, codes}
 use Rattle.rb_tree.specs.declared.span.Span.{Span}
 use Rattle.rb_tree.specs.declared.node.Program.{Program}
-use Rattle.rb_model.specs.Values.{Value as Val, Nil, Reference}
+use Rattle.rb_model.specs.Values.{Value as Val, Reference}
 use Rattle.rb_model.specs.declared.value.Ref.{Ref}
 use Rattle.rb_model.specs.Acts.{Reply}
 use Rattle.rb_model.specs.Things.{Thing}
@@ -13,7 +13,8 @@ use Rattle.rb_model.specs.Private.{Private}
 use Rattle.rb_machine.specs.Scopes.{Script, Scope}
 use Rattle.rb_machine.specs.Control.{State, Cont, On, Making, Reading, Drafting, Use, ForText, Draft, Coming, Between, OfValue, OfPair, Give, Then, Instead, Inspecting}
 use Rattle.rb_machine.specs.Methods.{Answer, deed}
-use Rattle.rb_machine.specs.Call.{answered, new_array, new_hash, fill, pair_up, pairs_of, last_value, give_shown, write, value_of_p}
+use Rattle.rb_model.specs.Acts.{Put}
+use Rattle.rb_machine.specs.Call.{ask, answered, new_array, new_hash, fill, pair_up, pairs_of, last_value, give_shown, write, value_of_p}
 use Rattle.rb_machine.specs.Move.{used}
 use Rattle.rb_machine.specs.Follows.{At}
 use Rattle.rb_builtin.specs.declared.builtin.Builtin.{Builtin}
@@ -24,6 +25,7 @@ use Rattle.rb_interp.specs.declared.came.Came.{Came as Registers}
 use Rattle.rb_render.specs.declared.show.RenderFault.{RenderFault}
 use Rattle.rb_render.specs.declared.show.RenderFault.TheVariants as fault
 use Rattle.rb_render.specs.declared.draft.Want.{Want}
+use Rattle.rb_render.specs.declared.draft.Want.TheVariants as want
 use Rattle.rb_render.specs.Drafting.{Wants}
 use Rattle.rb_interp.specs.Outcome.{Outcome, Over, Came, is_left}
 
@@ -110,6 +112,11 @@ text_end fault.Memory at = Over Memory
 abbrev pub ReadsTo : Reference → Reply → Draft → (Span → List Cont → Scope → ℕ → ℕ → State) → Type 0
 ReadsTo thing reply t to = (at : Span) (k : List Cont) (sc : Scope) (d left : ℕ) → used (ForText t) thing reply at k sc d left ≡ to at k sc d left
 
+-- whether a text needs nothing more
+abbrev pub is_finished : Want → Bool
+is_finished want.Finished = true
+is_finished other = false
+
 -- how much there is to do of a text before its next element or its end: what comes next, and each collection that is begun
 abbrev pub coming_work : Coming → ℕ
 coming_work Between = 0
@@ -131,3 +138,15 @@ Advances N program want old new at depth left left' log own own' r o =
 abbrev pub Shortens : Program → Want → (old new : Draft) → (left left' : ℕ) → Registers → Type 0
 Shortens program want old new left left' r =
     (t : Draft) → Wants program t want old → is_left r ≡ false → 4 * left' + work_of new < 4 * left + work_of t
+
+-- `p` writes a value behind bytes: the machine goes on with the values that are left, or comes to the outcome.
+abbrev pub InspectsOne : ℕ → Program → Val → (old new : List ℕ) → Span → (depth left left' : ℕ) → Log → (own own' : Private) → Registers → Outcome → Type 0
+InspectsOne N program v old new at depth left left' log own own' r o =
+    (all vs : List Val) (S : Script) (start : State) (k : List Cont) (sc : Scope) → S.program ≡ program
+    → At S 0 N start log own (write S (Inspecting all) old (v ∷ vs) at k sc depth left)
+    → (is_left r ≡ true → Came S N start log own' o k sc depth left')
+    × (is_left r ≡ false → At S 0 N start log own' (write S (Inspecting all) new vs at k sc depth left'))
+
+-- an element of an array gets a value, which is given on
+abbrev pub putting : Reference → ℤ → Val → Span → Script → List Cont → Scope → ℕ → ℕ → State
+putting array index v at S k sc d left = ask array (Put index v) at (Then (Instead v) ∷ k) sc d left

@@ -5,7 +5,10 @@ pub mod Readers
 pub mod Objects
 pub mod Gathering
 pub mod Collections
+pub mod Walks
 pub mod Slots
 pub mod Texts
+pub mod Lines
 pub mod Answers
 pub mod Ending
+pub mod Questions

@@ -1,6 +1,6 @@
 -- The texts of values, beside the machine.
 use Rattle.rb_tree.specs.declared.node.Program.{Program}
-use Rattle.std.specs.Prelude.{◌≡◌, ◌≤◌, ◌+◌, ℕ, Bool, true, false, List, [], ◌∷◌, length, map, take, drop, slice_get, Option, Some, None}
+use Rattle.std.specs.Prelude.{◌≡◌, ◌≤◌, ◌+◌, ℕ, Bool, true, false, List, [], ◌∷◌, length, map, take, drop, slice_get, Some, None}
 use Rattle.std.specs.List.{list_any}
 use Rattle.rb_tree.specs.declared.span.Span.{Span}
 use Rattle.rb_tree.specs.declared.span.NameId.{NameId}
@@ -10,7 +10,7 @@ use Rattle.rb_model.specs.declared.value.Value.{Value as Held}
 use Rattle.rb_model.specs.Log.{Log}
 use Rattle.rb_model.specs.Private.{Private}
 use Rattle.rb_machine.specs.Scopes.{Script, Scope}
-use Rattle.rb_machine.specs.Control.{State, Cont, Then, Step, Style, WriteBehind}
+use Rattle.rb_machine.specs.Control.{State, Cont, Then, Step, Style}
 use Rattle.rb_machine.specs.Call.{own_text, give_text, print, show, write}
 use Rattle.rb_machine.specs.Follows.{At}
 use Rattle.rb_machine.specs.Texts.{shown}
@@ -43,12 +43,6 @@ is_text v = false
 abbrev pub is_asking : Form → List Val → Bool
 is_asking form.Inspect vs = false
 is_asking f vs = list_any is_thing vs
-
--- whether a value is an array that is written line by line; where it is not, its text is written as a line
-abbrev pub IsLined : Bool → Style → Option Val → Type 0
-IsLined lined style None = lined ≡ false
-IsLined lined style (Some v) = (S : Script) (bytes : List ℕ) (vs : List Val) (at : Span) (k : List Cont) (sc : Scope) (d left : ℕ)
-    → lined ≡ false → write S style bytes (v ∷ vs) at k sc d left ≡ give_text S v at (Then (WriteBehind style bytes vs at) ∷ k) sc d left
 
 -- a call writes these values one by one in this style
 abbrev pub WritesBy : Style → Form → List Val → Type 0

@@ -6,11 +6,12 @@ ghost use Rattle.std.specs.Option.{option_map};
 ghost use Rattle.rb_model.specs.Values.{plain};
 ghost use Rattle.rb_render.specs.Forms.{style_of};
 ghost use Rattle.rb_interp.specs.Answers.{is_thing};
-ghost use Rattle.rb_interp.specs.Texts.{IsAsked, IsLined, IsUnasked, WritesBy, is_asking, is_text};
+ghost use Rattle.rb_interp.specs.Texts.{IsAsked, IsUnasked, WritesBy, is_asking, is_text};
+ghost use Rattle.rb_interp.specs.Lines.{IsLined, IsUnlined};
 
 use crate::target::{Target, target_of};
 use rb_code::CodeScript;
-use rb_model::{Sort, Value};
+use rb_model::{Ref, Sort, Value};
 use rb_render::{Form, Style};
 use rb_tree::Program;
 
@@ -56,16 +57,17 @@ pub(crate) fn has_thing(values: &[Value]) -> bool
     false
 }
 
-/// Whether the value of a slot is an array that is written line by line.
-pub(crate) fn is_lined(style: Style, room: &[Value], slot: usize) -> bool
-    ensures { IsLined result (style_of style) (option_map plain (slice_get room.now slot)) }
+/// The array that is written line by line, where it is the value of a slot.
+pub(crate) fn lined(style: Style, room: &[Value], slot: usize) -> Option<Ref>
+    ensures some { IfSome result (λ array. IsLined array (style_of style) (option_map plain (slice_get room.now slot))) }
+    ensures none { result ≡ None → IsUnlined (style_of style) (option_map plain (slice_get room.now slot)) }
 {
     match (style, room.get(slot)) {
         (Style::Lines, Some(Value::Ref(thing))) => match thing.sort {
-            Sort::List => true,
-            _ => false,
+            Sort::List => Some(*thing),
+            _ => None,
         },
-        _ => false,
+        _ => None,
     }
 }
 

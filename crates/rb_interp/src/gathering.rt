@@ -1,40 +1,40 @@
 // Values that are gathered for new arrays and hashes.
 
-ghost use Rattle.std.specs.Prelude.{◌≡◌, ℕ, map, replicate, IfOk};
-ghost use Rattle.std.specs.List.{list_any};
-ghost use Rattle.rb_model.specs.Values.{plain};
+ghost use Rattle.std.specs.Prelude.{◌≡◌, ℕ, true, false, List, map, replicate, None, IfSome, IfOk, OnOk};
+ghost use Rattle.rb_model.specs.Values.{Value as Val, To, plain};
 ghost use Rattle.rb_model.specs.Doing.{pair};
+ghost use Rattle.rb_machine.specs.Turns.{holding, walked};
 ghost use Rattle.rb_machine.specs.Drafts.{is_collection};
 ghost use Rattle.rb_machine.specs.Laws.{has_bad_key};
+ghost use Rattle.rb_builtin.specs.Deeds.{thing_of};
 ghost use Rattle.rb_interp.specs.Gathering.{paired_up, parts_in};
+ghost use Rattle.rb_interp.specs.Walks.{walking};
 
-use rb_builtin::Purpose;
-use rb_model::{Sort, Value};
+use crate::leaf::is_true;
+use rb_builtin::{Pass, Purpose};
+use rb_model::{Ref, Sort, Value};
 use std::alloc::{AllocError, Global};
+
+/// A value, where it is an array or a hash.
+pub(crate) fn collection_of(value: &Value) -> Option<Ref>
+    ensures some { IfSome result (λ thing. plain value.now ≡ To (thing_of thing)) }
+    ensures read { IfSome result (λ thing. is_collection (To (thing_of thing)) ≡ true) }
+    ensures none { result ≡ None → is_collection (plain value.now) ≡ false }
+{
+    let Value::Ref(thing) = value else {
+        return None;
+    };
+    match thing.sort {
+        Sort::List | Sort::Pairs => Some(*thing),
+        _ => None,
+    }
+}
 
 /// Whether a value is an array or a hash.
 pub(crate) fn is_collection(value: &Value) -> bool
     ensures { result ≡ is_collection (plain value.now) }
 {
-    match value {
-        Value::Ref(thing) => match thing.sort {
-            Sort::List | Sort::Pairs => true,
-            _ => false,
-        },
-        _ => false,
-    }
-}
-
-/// Whether an array or a hash is among values.
-pub(crate) fn has_collection(values: &[Value]) -> bool
-    ensures { result ≡ list_any is_collection (map plain values.now) }
-{
-    'values: for value in values {
-        if is_collection(value) {
-            return true;
-        }
-    }
-    false
+    collection_of(value).is_some()
 }
 
 /// The same values.
@@ -100,4 +100,39 @@ pub(crate) fn parts_of(
         })?;
     }
     Ok(values)
+}
+
+/// What a walk keeps of an element until its iteration is over: the element where it may be one of those that are selected.
+pub(crate) fn held(pass: Pass, element: &Value) -> Result<Value, AllocError>
+    ensures { IfOk result (λ held. (made : List Val) (last : Val) → holding (plain element.now) (walking pass made last) ≡ walking pass made (plain held)) }
+{
+    match pass {
+        Pass::Each | Pass::WithIndex | Pass::Map => Ok(Value::Nil),
+        Pass::Select => element.share(),
+    }
+}
+
+/// Puts to what a walk made so far what an iteration makes that gave this value: the value, or the element where that is true.
+pub(crate) fn gather(
+    pass: Pass,
+    made: &mut Vec<Value>,
+    given: Value,
+    element: Value,
+) -> Result<(), AllocError>
+    ensures { OnOk result (walking pass (map plain made.new.items) (plain element) ≡ walked (plain given) (walking pass (map plain made.old.items) (plain element))) }
+{
+    match pass {
+        Pass::Each | Pass::WithIndex => Ok(()),
+        Pass::Map => {
+            made.push(given)?;
+            Ok(())
+        }
+        Pass::Select => {
+            if !is_true(&given) {
+                return Ok(());
+            }
+            made.push(element)?;
+            Ok(())
+        }
+    }
 }

@@ -10,10 +10,11 @@ ghost use Rattle.rb_model.specs.declared.value.Value.TheVariants as held;
 ghost use Rattle.rb_machine.specs.Methods.{deed};
 ghost use Rattle.rb_builtin.specs.declared.builtin.Builtin.TheVariants as builtin;
 ghost use Rattle.rb_builtin.specs.Names.{builtin_of};
+ghost use Rattle.rb_builtin.specs.declared.integer.IntegerAnswer.TheVariants as answer;
 ghost use Rattle.rb_builtin.specs.Deeds.{answer_by_number};
 ghost use Rattle.rb_builtin.specs.Integers as integers;
 ghost use Rattle.rb_code.specs.Erase.{erase};
-ghost use Rattle.rb_interp.specs.Answers.{IsHeld, IsHeldAlone, IsSmall, IsQuick, IsUpdated, IsWritten, is_thing, method_of};
+ghost use Rattle.rb_interp.specs.Answers.{IsHeld, IsHeldAlone, IsMade, IsSmall, IsQuick, IsTwice, IsUpdated, IsUpdatedOver, IsWritten, is_thing, method_of};
 
 use crate::slots::put;
 use rb_builtin::{Builtin, IntegerAnswer, integer_operation, is_operation};
@@ -279,6 +280,67 @@ pub(crate) fn quick(
     operation_by(method, m, n)
 }
 
+/// The integer that an operation over two leaves gives.
+#[inline(always)]
+fn made(code: &Code, room: &[Value]) -> Option<i64>
+    ensures { IfSome result (λ n. IsMade code.now room.now n) }
+{
+    match code {
+        Code::Operate(method, _, left, right, _) => {
+            match quick(*method, left.get(), right.get(), room)? {
+                IntegerAnswer::Int(n) => Some(n),
+                _ => None,
+            }
+        }
+        _ => None,
+    }
+}
+
+/// What an operation gives over one over two leaves and a leaf, where all are integers and this is one.
+#[inline(always)]
+fn twice(
+    method: Option<Builtin>,
+    left: &Code,
+    right: &Code,
+    room: &[Value],
+) -> Option<IntegerAnswer>
+    ensures { IfSome result (λ answer. IsTwice method left.now right.now room.now (integers.answer_of answer)) }
+{
+    let m = made(left, room)?;
+    let n = small(right, room)?;
+    operation_by(method, m, n)
+}
+
+/// The same as an answer that fits into registers, which is no operation where there is none.
+#[inline(never)]
+fn twice_apart(method: Option<Builtin>, left: &Code, right: &Code, room: &[Value]) -> IntegerAnswer
+    ensures { (result ≡ answer.NoOperation → ⊥) → IsTwice method left.now right.now room.now (integers.answer_of result) }
+{
+    match twice(method, left, right, room) {
+        Some(answer) => answer,
+        None => IntegerAnswer::NoOperation,
+    }
+}
+
+/// The same where the receiver is seen at once to be an operation, and else nothing.
+#[inline(always)]
+pub(crate) fn quick_twice(
+    method: Option<Builtin>,
+    left: &Code,
+    right: &Code,
+    room: &[Value],
+) -> Option<IntegerAnswer>
+    ensures { IfSome result (λ answer. IsTwice method left.now right.now room.now (integers.answer_of answer)) }
+{
+    match left {
+        Code::Operate(_, _, _, _, _) => match twice_apart(method, left, right, room) {
+            IntegerAnswer::NoOperation => None,
+            answer => Some(answer),
+        },
+        _ => None,
+    }
+}
+
 /// Writes into a slot what an operator makes of its integer and a leaf that is one, where that is an integer.
 #[inline(always)]
 pub(crate) fn quick_update(slot: u32, op: AssignOp, value: &Code, room: &mut [Value]) -> Option<i64>
@@ -286,7 +348,24 @@ pub(crate) fn quick_update(slot: u32, op: AssignOp, value: &Code, room: &mut [Va
     ensures some { IfSome result (λ k. IsUpdated slot op value.now room.old room.new k) }
     ensures none { result ≡ None → room.new ≡ room.old }
 {
-    let method = method_of(op)?;
+    match op {
+        AssignOp::Plus => update_by(Builtin::Plus, slot, value, room),
+        AssignOp::Minus => update_by(Builtin::Minus, slot, value, room),
+        AssignOp::Times => update_by(Builtin::Times, slot, value, room),
+        AssignOp::Over => update_by(Builtin::Over, slot, value, room),
+        AssignOp::Modulo => update_by(Builtin::Modulo, slot, value, room),
+        AssignOp::OrElse => None,
+        AssignOp::AndThen => None,
+    }
+}
+
+/// The same by the built-in method of the operator, so that the compiler knows it.
+#[inline(always)]
+fn update_by(method: Builtin, slot: u32, value: &Code, room: &mut [Value]) -> Option<i64>
+    ensures room { length room.new ≡ length room.old }
+    ensures some { IfSome result (λ k. (op : AssignOp) → method_of op ≡ Some method → IsUpdated slot op value.now room.old room.new k) }
+    ensures none { result ≡ None → room.new ≡ room.old }
+{
     let m = integer_at(room, slot)?;
     let n = small(value, room)?;
     match operation_by(Some(method), m, n)? {
@@ -295,6 +374,51 @@ pub(crate) fn quick_update(slot: u32, op: AssignOp, value: &Code, room: &mut [Va
             Some(k)
         }
         _ => None,
+    }
+}
+
+/// The same of its integer and what an operation over two leaves gives.
+#[inline(always)]
+pub(crate) fn update_over(slot: u32, op: AssignOp, value: &Code, room: &mut [Value]) -> Option<i64>
+    ensures room { length room.new ≡ length room.old }
+    ensures some { IfSome result (λ k. IsUpdatedOver slot op value.now room.old room.new k) }
+    ensures none { result ≡ None → room.new ≡ room.old }
+{
+    match op {
+        AssignOp::Plus => update_over_by(Builtin::Plus, slot, value, room),
+        AssignOp::Minus => update_over_by(Builtin::Minus, slot, value, room),
+        AssignOp::Times => update_over_by(Builtin::Times, slot, value, room),
+        AssignOp::Over => update_over_by(Builtin::Over, slot, value, room),
+        AssignOp::Modulo => update_over_by(Builtin::Modulo, slot, value, room),
+        AssignOp::OrElse => None,
+        AssignOp::AndThen => None,
+    }
+}
+
+/// The same by the built-in method of the operator.
+#[inline(always)]
+fn update_over_by(method: Builtin, slot: u32, value: &Code, room: &mut [Value]) -> Option<i64>
+    ensures room { length room.new ≡ length room.old }
+    ensures some { IfSome result (λ k. (op : AssignOp) → method_of op ≡ Some method → IsUpdatedOver slot op value.now room.old room.new k) }
+    ensures none { result ≡ None → room.new ≡ room.old }
+{
+    let m = integer_at(room, slot)?;
+    let n = made(value, room)?;
+    match operation_by(Some(method), m, n)? {
+        IntegerAnswer::Int(k) => {
+            put(room, slot as usize, k);
+            Some(k)
+        }
+        _ => None,
+    }
+}
+
+/// Whether a node is a call with one argument.
+#[inline(always)]
+pub(crate) fn is_operate(code: &Code) -> bool {
+    match code {
+        Code::Operate(_, _, _, _, _) => true,
+        _ => false,
     }
 }
 

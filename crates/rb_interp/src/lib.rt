@@ -7,6 +7,7 @@ mod came;
 mod ending;
 mod gathering;
 mod leaf;
+mod questions;
 mod rounds;
 mod slots;
 mod target;

@@ -5,8 +5,11 @@ ghost use Rattle.rb_model.specs.Values.{Int};
 ghost use Rattle.rb_machine.specs.Control.{Counting};
 ghost use Rattle.rb_builtin.specs.Deeds.{turns_of};
 ghost use Rattle.rb_interp.specs.Answers.{IsDone};
+ghost use Rattle.rb_interp.specs.Walks.{Counts};
 
-use rb_builtin::Loop;
+use crate::came::Came;
+use rb_builtin::{Loop, Pass};
+use rb_model::Ref;
 
 /// The iterations of a block: the integers from the first up to the last, and the answer behind them.
 #[derive(Clone, Copy)]
@@ -16,8 +19,20 @@ pub(crate) struct Rounds {
     pub answer: i64,
 }
 
+/// What a call with a block comes to before an iteration.
+#[derive(Clone, Copy)]
+pub(crate) enum Iterations {
+    Counting(Rounds),
+    /// The elements of an array.
+    Elements(Ref, Pass),
+    /// The pairs of a hash.
+    Pairs(Ref),
+    /// There are none: the call is done.
+    Done(Came),
+}
+
 /// The iterations of a loop, or its answer where it makes none.
-pub(crate) fn rounds_of(turns: Loop) -> Result<Rounds, i64>
+fn rounds_of(turns: Loop) -> Result<Rounds, i64>
     ensures some { IfOk result (λ r. turns_of turns ≡ Counting r.first (r.last +ℤ pos 1) (Int r.answer)) }
     ensures none { IfErr result (λ n. IsDone n (turns_of turns)) }
 {
@@ -48,4 +63,14 @@ pub(crate) fn count_of(count: usize) -> Option<u32>
         return None;
     }
     Some(count as u32)
+}
+
+/// The iterations of a loop over integers.
+pub(crate) fn iterations_of(turns: Loop) -> Iterations
+    ensures { Counts (turns_of turns) result }
+{
+    match rounds_of(turns) {
+        Ok(rounds) => Iterations::Counting(rounds),
+        Err(answer) => Iterations::Done(Came::Int(answer)),
+    }
 }

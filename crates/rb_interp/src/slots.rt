@@ -1,11 +1,12 @@
 // Slots of a frame.
 
-ghost use Rattle.std.specs.Prelude.{◌≡◌, ◌≤◌, ◌<◌, ◌+◌, ℕ, Some, IfOk, IfSome, map, length, take, drop, slice_get, slice_set};
+ghost use Rattle.std.specs.Prelude.{◌≡◌, ◌≤◌, ◌<◌, ◌+◌, ℕ, [], ◌∷◌, Some, IfOk, IfSome, map, length, take, drop, slice_get, slice_set};
 ghost use Rattle.rb_model.specs.Values.{plain};
 ghost use Rattle.rb_model.specs.declared.value.Value.TheVariants as held;
 ghost use Rattle.rb_machine.specs.Scopes.{Script};
 ghost use Rattle.rb_machine.specs.Call.{last_value};
 ghost use Rattle.rb_interp.specs.Slots.{first_of_block};
+ghost use Rattle.rb_interp.specs.Walks.{slot_value};
 
 use rb_model::Value;
 use std::alloc::AllocError;
@@ -47,6 +48,39 @@ pub(crate) fn start_block(room: &mut [Value], from: usize, count: usize, takes: 
     if takes && count > 0 {
         room[from] = Value::Int(first);
     }
+}
+
+/// The slots of a block at the start of an iteration: the first have these two values, where the block takes so many, the others nil.
+pub(crate) fn open_block(
+    room: &mut [Value],
+    from: usize,
+    count: usize,
+    takes: usize,
+    first: Value,
+    second: Value,
+)
+    requires { from + count ≤ length room.old }
+    ensures room { length room.new ≡ length room.old }
+    ensures below { (i : ℕ) → i < from → slice_get room.new i ≡ slice_get room.old i }
+    ensures above { (i : ℕ) → from + count ≤ i → slice_get room.new i ≡ slice_get room.old i }
+    ensures within { (i : ℕ) → i < count → slice_get (map plain room.new) (from + i) ≡ Some (slot_value (take takes (plain first ∷ plain second ∷ [])) i) }
+{
+    let end = from + count;
+    clear(room, from, end);
+    if takes == 0 {
+        return;
+    }
+    if count == 0 {
+        return;
+    }
+    room[from] = first;
+    if takes == 1 {
+        return;
+    }
+    if count == 1 {
+        return;
+    }
+    room[from + 1] = second;
 }
 
 /// The values of arguments, which lie behind a frame; none where the row is too short for them.

@@ -57,6 +57,21 @@ pub(crate) fn local_target<'p>(
     Some(target)
 }
 
+/// The array or the hash that a local has. No name finds a method of a class for it.
+#[inline(always)]
+pub(crate) fn local_collection(code: &Code, room: &[Value]) -> Option<Ref>
+    ensures held { IfSome result (λ thing. IsHeld code.now room.now (me_of (Some thing))) }
+    ensures alone { IfSome result (λ thing. (script : CodeScript) (name : NameId) → HasNone script (me_of (Some thing)) name) }
+{
+    let Value::Ref(thing) = local_at(code, room)? else {
+        return None;
+    };
+    match thing.sort {
+        Sort::List | Sort::Pairs => Some(*thing),
+        _ => None,
+    }
+}
+
 /// The method of its class that the name of a writer finds for a value, where there is such a name.
 #[inline(always)]
 pub(crate) fn writer_of<'p>(

@@ -25,16 +25,21 @@ mod collections;
 mod drafts;
 mod elements;
 mod flow;
+mod lines;
 mod methods;
 mod objects;
 mod texts;
 mod values;
+mod walks;
 
 use crate::came::{Came, Cut, Leave};
 use crate::ending::{close, end_of};
-use crate::leaf::{held_alone, held_at, local_at, place_of, quick, quick_update, small};
+use crate::leaf::{
+    held_alone, held_at, is_operate, local_at, place_of, quick, quick_twice, quick_update, small,
+    update_over,
+};
 use crate::slots::clear;
-use crate::target::{local_target, reader_of};
+use crate::target::{local_collection, local_target, reader_of};
 use rb_builtin::Builtin;
 use rb_code::{Code, CodeScript};
 use rb_model::{Act, End, Fault, Ref, ThreadStore, Value};
@@ -165,9 +170,15 @@ impl<'p, O: ThreadStore + Drop> Walker<'p, O> {
     {
         match code {
             Code::Operate(method, _, left, right, at) => {
-                if self.left > 2 && depth < MAX_DEPTH - 1 {
-                    if let Some(answer) = quick(*method, left.get(), right.get(), room) {
+                let left = left.get();
+                let right = right.get();
+                if self.left > 4 && depth < MAX_DEPTH - 2 {
+                    if let Some(answer) = quick(*method, left, right, room) {
                         self.left -= 3;
+                        return self.answer(answer, *at);
+                    }
+                    if let Some(answer) = quick_twice(*method, left, right, room) {
+                        self.left -= 5;
                         return self.answer(answer, *at);
                     }
                     self.left -= 1;
@@ -182,8 +193,33 @@ impl<'p, O: ThreadStore + Drop> Walker<'p, O> {
                 }
                 self.walk(code, depth, room)
             }
+            Code::Send(_, _, _, _, _) => self.evaluate_operand(code, depth, room),
+            Code::Field(_, _) => self.evaluate_operand(code, depth, room),
+            Code::Local(_, _, _) => self.evaluate_operand(code, depth, room),
             _ => self.walk(code, depth, room),
         }
+    }
+
+    /// Evaluates a local, an instance variable or a call with a receiver.
+    #[cycle(walk)]
+    #[inline(always)]
+    fn evaluate_operand(&mut self, code: &'p Code, depth: u32, room: &mut [Value]) -> Came
+        requires unended { has_end (O.log self.old.store).entries ≡ false }
+        requires steps { self.old.left ≤ self.old.context.steps }
+        ensures counted { goes_on (outcome result self.new.value self.new.leave) ≡ true → self.new.left < self.old.left }
+        ensures base { self.new.base ≡ self.old.base }
+        ensures context { self.new.context ≡ self.old.context }
+        ensures room { length room.new ≡ length room.old }
+        ensures less { self.new.left ≤ self.old.left }
+        ensures unended { has_end (O.log self.new.store).entries ≡ false }
+        ensures kept { Keeps self.old.context.script.now self.old.context.program.now (λ S. fits S code.now) self.old.base room.old room.new }
+        ensures came { Carries self.old.context.script.now self.old.context.program.now self.old.context.steps (me_of self.old.context.me) (λ S. fits S code.now) (λ S k sc d n. On (Eval (erase code.now)) k sc d n) self.old.base depth self.old.left self.new.left room.old room.new (O.log self.old.store) (O.log self.new.store) (O.private self.old.store) (O.private self.new.store) (outcome result self.new.value self.new.leave) }
+    {
+        if self.left > 0 && depth < MAX_DEPTH {
+            self.left -= 1;
+            return self.begin_operand(code, depth + 1, room);
+        }
+        self.walk(code, depth, room)
     }
 
     /// A node whose step is counted.
@@ -216,6 +252,7 @@ impl<'p, O: ThreadStore + Drop> Walker<'p, O> {
             Code::SetField(_, _, _) => self.begin_set_field(code, depth, room),
             Code::UpdateField(_, _, _, _) => self.begin_update_field(code, depth, room),
             Code::New(_, _, _, _, _) => self.begin_new(code, depth, room),
+            Code::Store(_, _, _, _, _) => self.begin_store(code, depth, room),
             _ => self.begin_other(code, depth, room),
         }
     }
@@ -256,9 +293,41 @@ impl<'p, O: ThreadStore + Drop> Walker<'p, O> {
     {
         match code {
             Code::UpdateLocal(slot, _, op, value, _) => {
+                let value = value.get();
+                if is_operate(value) {
+                    return self.begin_update_over(code, depth, room);
+                }
                 if self.left > 0 && depth < MAX_DEPTH {
-                    if let Some(n) = quick_update(*slot, *op, value.get(), room) {
+                    if let Some(n) = quick_update(*slot, *op, value, room) {
                         self.left -= 1;
+                        return Came::Int(n);
+                    }
+                }
+                self.begin_slow_update(code, depth, room)
+            }
+            _ => self.over(Cut::Memory),
+        }
+    }
+
+    /// An assignment with an operator and an operation to a local. Over integers it calls nothing of the walk.
+    #[cycle(walk)]
+    #[inline(never)]
+    fn begin_update_over(&mut self, code: &'p Code, depth: u32, room: &mut [Value]) -> Came
+        requires unended { has_end (O.log self.old.store).entries ≡ false }
+        requires steps { self.old.left ≤ self.old.context.steps }
+        ensures base { self.new.base ≡ self.old.base }
+        ensures context { self.new.context ≡ self.old.context }
+        ensures room { length room.new ≡ length room.old }
+        ensures less { self.new.left ≤ self.old.left }
+        ensures unended { has_end (O.log self.new.store).entries ≡ false }
+        ensures kept { Keeps self.old.context.script.now self.old.context.program.now (λ S. fits S code.now) self.old.base room.old room.new }
+        ensures came { Carries self.old.context.script.now self.old.context.program.now self.old.context.steps (me_of self.old.context.me) (λ S. fits S code.now) (λ S k sc d n. begin S (out-Node (erase code.now)) k sc d n) self.old.base depth self.old.left self.new.left room.old room.new (O.log self.old.store) (O.log self.new.store) (O.private self.old.store) (O.private self.new.store) (outcome result self.new.value self.new.leave) }
+    {
+        match code {
+            Code::UpdateLocal(slot, _, op, value, _) => {
+                if self.left > 2 && depth < MAX_DEPTH - 1 {
+                    if let Some(n) = update_over(*slot, *op, value.get(), room) {
+                        self.left -= 3;
                         return Came::Int(n);
                     }
                 }
@@ -346,6 +415,12 @@ impl<'p, O: ThreadStore + Drop> Walker<'p, O> {
                     if let Some(target) = local_target(self.context.script, left, *name, room) {
                         self.left -= 1;
                         return self.operate_target(target, *name, right, *at, depth, room);
+                    }
+                    if let Some(thing) = local_collection(left, room) {
+                        self.left -= 1;
+                        return self.operate_collection(
+                            thing, *method, *name, right, *at, depth, room,
+                        );
                     }
                 }
                 self.operate(*method, *name, left, right, *at, depth, room)
@@ -445,6 +520,27 @@ impl<'p, O: ThreadStore + Drop> Walker<'p, O> {
         }
     }
 
+    /// A local, an instance variable or a call with a receiver, whose step is counted.
+    #[cycle(walk)]
+    #[inline(always)]
+    fn begin_operand(&mut self, code: &'p Code, depth: u32, room: &mut [Value]) -> Came
+        requires unended { has_end (O.log self.old.store).entries ≡ false }
+        requires steps { self.old.left ≤ self.old.context.steps }
+        ensures base { self.new.base ≡ self.old.base }
+        ensures context { self.new.context ≡ self.old.context }
+        ensures room { length room.new ≡ length room.old }
+        ensures less { self.new.left ≤ self.old.left }
+        ensures unended { has_end (O.log self.new.store).entries ≡ false }
+        ensures kept { Keeps self.old.context.script.now self.old.context.program.now (λ S. fits S code.now) self.old.base room.old room.new }
+        ensures came { Carries self.old.context.script.now self.old.context.program.now self.old.context.steps (me_of self.old.context.me) (λ S. fits S code.now) (λ S k sc d n. begin S (out-Node (erase code.now)) k sc d n) self.old.base depth self.old.left self.new.left room.old room.new (O.log self.old.store) (O.log self.new.store) (O.private self.old.store) (O.private self.new.store) (outcome result self.new.value self.new.leave) }
+    {
+        match code {
+            Code::Field(name, at) => self.field(*name, *at),
+            Code::Local(slot, _, _) => self.read(*slot, room),
+            _ => self.begin_send(code, depth, room),
+        }
+    }
+
     /// A choice between two bodies.
     #[cycle(walk)]
     #[inline(never)]
@@ -511,6 +607,34 @@ impl<'p, O: ThreadStore + Drop> Walker<'p, O> {
             Code::UpdateField(name, op, value, at) => {
                 self.update_field(*name, *op, value.get(), *at, depth, room)
             }
+            _ => self.over(Cut::Memory),
+        }
+    }
+
+    /// An assignment by the call of a method.
+    #[cycle(walk)]
+    #[inline(never)]
+    fn begin_store(&mut self, code: &'p Code, depth: u32, room: &mut [Value]) -> Came
+        requires unended { has_end (O.log self.old.store).entries ≡ false }
+        requires steps { self.old.left ≤ self.old.context.steps }
+        ensures base { self.new.base ≡ self.old.base }
+        ensures context { self.new.context ≡ self.old.context }
+        ensures room { length room.new ≡ length room.old }
+        ensures less { self.new.left ≤ self.old.left }
+        ensures unended { has_end (O.log self.new.store).entries ≡ false }
+        ensures kept { Keeps self.old.context.script.now self.old.context.program.now (λ S. fits S code.now) self.old.base room.old room.new }
+        ensures came { Carries self.old.context.script.now self.old.context.program.now self.old.context.steps (me_of self.old.context.me) (λ S. fits S code.now) (λ S k sc d n. begin S (out-Node (erase code.now)) k sc d n) self.old.base depth self.old.left self.new.left room.old room.new (O.log self.old.store) (O.log self.new.store) (O.private self.old.store) (O.private self.new.store) (outcome result self.new.value self.new.leave) }
+    {
+        match code {
+            Code::Store(method, receiver, name, args, at) => self.store_by(
+                *method,
+                receiver.get(),
+                *name,
+                args.as_slice(),
+                *at,
+                depth,
+                room,
+            ),
             _ => self.over(Cut::Memory),
         }
     }
@@ -583,15 +707,6 @@ impl<'p, O: ThreadStore + Drop> Walker<'p, O> {
                     depth,
                     room,
                 ),
-            Code::Store(method, receiver, name, args, at) => self.store_by(
-                *method,
-                receiver.get(),
-                *name,
-                args.as_slice(),
-                *at,
-                depth,
-                room,
-            ),
             Code::Walk(method, name, receiver, args, block, at) => self.send_block(
                 *method,
                 *name,

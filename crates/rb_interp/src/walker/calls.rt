@@ -1,33 +1,32 @@
 // Calls: their arguments, methods of receivers and of the script, blocks and prints.
 
-ghost use Rattle.std.specs.Prelude.{◌≡◌, ◌≤◌, ◌<◌, ◌+◌, ◌+ℤ◌, pos, ℕ, false, List, [], ◌∷◌, length, map, slice_get, Some, None, IfOk, IfErr};
+ghost use Rattle.std.specs.Prelude.{◌≡◌, ◌≤◌, ◌<◌, ◌+◌, ◌+ℤ◌, pos, ℕ, false, [], ◌∷◌, length, map, slice_get, Some, None};
 ghost use Rattle.rb_model.specs.Values.{Nil, Int, plain};
 ghost use Rattle.rb_model.specs.Log.{has_end};
 ghost use Rattle.rb_machine.specs.Scopes.{text_of};
 ghost use Rattle.rb_machine.specs.Control.{On, Then, Eval, Give, Turning, Passing, Joining, ReceiverOf, ReceiverToStore, Argument, OnReceiver, ByName, Counting};
-ghost use Rattle.rb_machine.specs.Methods.{Loops, deed};
 ghost use Rattle.rb_machine.specs.Texts.{shown};
-ghost use Rattle.rb_builtin.specs.Names.{builtin_of};
 ghost use Rattle.rb_code.specs.Erase.{erase, erase_block, erase_piece};
 ghost use Rattle.rb_code.specs.Resolved.{fits, block_fits, piece_fits, every};
 ghost use Rattle.rb_interp.specs.Outcome.{is_left, value_of, outcome};
 ghost use Rattle.rb_interp.specs.Carries.{Carries, Keeps, Passes, both, numbered, called, printing, me_of};
 ghost use Rattle.rb_interp.specs.Methods.{IsTarget, HasNone, EntersWith, StoresWith};
-ghost use Rattle.rb_interp.specs.Answers.{Passed, Settles};
+ghost use Rattle.rb_interp.specs.Answers.{Passed};
 
 use super::Walker;
 use crate::asked::style_by;
 use crate::bytes::{add_bytes, add_value};
 use crate::came::{Came, Cut, is_left};
 use crate::leaf::written;
-use crate::rounds::{Rounds, count_of, rounds_of};
+use crate::rounds::Iterations;
 use crate::slots::{last_of, passed, put, start_block};
 use crate::target::{Target, target_of};
-use rb_builtin::{Builtin, Deed, deed_of};
+use rb_builtin::Builtin;
 use rb_code::{Code, CodeBlock, CodePiece};
-use rb_model::{Fault, SharedText, ThreadStore, Value};
+use rb_model::{Fault, Ref, SharedText, ThreadStore, Value};
 use rb_render::{Form, MAX_BYTES};
 use rb_tree::{NameId, Span};
+use std::mem;
 
 impl<'p, O: ThreadStore + Drop> Walker<'p, O> {
     /// A call with one argument: the receiver first.
@@ -58,7 +57,10 @@ impl<'p, O: ThreadStore + Drop> Walker<'p, O> {
         }
         match came {
             Came::Int(m) => self.operate_integer(m, method, right, at, depth, room),
-            _ => self.operate_value(came, method, name, right, at, depth, room),
+            _ => match self.collection_now(came) {
+                Some(thing) => self.operate_collection(thing, method, name, right, at, depth, room),
+                None => self.operate_value(came, method, name, right, at, depth, room),
+            },
         }
     }
 
@@ -159,6 +161,37 @@ impl<'p, O: ThreadStore + Drop> Walker<'p, O> {
         }
         self.pass(came, room);
         self.enter(target.method, Some(target.object), 1, at, depth, room)
+    }
+
+    /// The argument of a call of a method of an array or a hash.
+    #[cycle(walk)]
+    #[inline(always)]
+    pub(super) fn operate_collection(
+        &mut self,
+        thing: Ref,
+        method: Option<Builtin>,
+        name: NameId,
+        right: &'p Code,
+        at: Span,
+        depth: u32,
+        room: &mut [Value],
+    ) -> Came
+        requires unended { has_end (O.log self.old.store).entries ≡ false }
+        requires steps { self.old.left ≤ self.old.context.steps }
+        requires alone { HasNone self.old.context.script.now (me_of (Some thing)) name }
+        ensures base { self.new.base ≡ self.old.base }
+        ensures context { self.new.context ≡ self.old.context }
+        ensures room { length room.new ≡ length room.old }
+        ensures less { self.new.left ≤ self.old.left }
+        ensures unended { has_end (O.log self.new.store).entries ≡ false }
+        ensures kept { Keeps self.old.context.script.now self.old.context.program.now (numbered method name (λ S. fits S right.now)) self.old.base room.old room.new }
+        ensures came { Carries self.old.context.script.now self.old.context.program.now self.old.context.steps (me_of self.old.context.me) (numbered method name (λ S. fits S right.now)) (λ S k sc d n. On (Eval (erase right.now)) (Then (Argument (OnReceiver (me_of (Some thing)) (text_of S name) None) [] [] at) ∷ k) sc d n) self.old.base depth self.old.left self.new.left room.old room.new (O.log self.old.store) (O.log self.new.store) (O.private self.old.store) (O.private self.new.store) (outcome result self.new.value self.new.leave) }
+    {
+        let came = self.evaluate(right, depth, room);
+        if is_left(came) {
+            return came;
+        }
+        self.asked_with(thing, method, came, at, depth)
     }
 
     /// A call with a receiver, without a block.
@@ -273,44 +306,6 @@ impl<'p, O: ThreadStore + Drop> Walker<'p, O> {
         self.give(last)
     }
 
-    /// What the call of a method of a value with a block comes to before an iteration: those that it makes, or else what it gives.
-    pub(super) fn rounds(
-        &mut self,
-        receiver: &Value,
-        method: Option<Builtin>,
-        args: &[Value],
-        params: usize,
-        at: Span,
-    ) -> Result<Rounds, Came>
-        ensures rounds { IfOk result (λ r. (name : List ℕ) → builtin_of name ≡ method → deed self.old.context.program.now (plain receiver.now) name (map plain args.now) (Some params) ≡ Loops (Counting r.first (r.last +ℤ pos 1) (Int r.answer))) }
-        ensures gives { IfErr result (λ came. Settles self.old.context.program.now self.old.context.steps method (plain receiver.now) (map plain args.now) params at self.old.left (O.log self.old.store) (outcome came self.new.value self.new.leave)) }
-        ensures base { self.new.base ≡ self.old.base }
-        ensures left { self.new.left ≡ self.old.left }
-        ensures context { self.new.context ≡ self.old.context }
-        ensures store { self.new.store ≡ self.old.store }
-    {
-        let Some(count) = count_of(params) else {
-            return Err(self.over(Cut::Memory));
-        };
-        match deed_of(
-            self.context.alloc,
-            self.context.program,
-            receiver,
-            method,
-            args,
-            Some(count),
-        ) {
-            Ok(Deed::Give(value)) => Err(self.give(value)),
-            Ok(Deed::Raise(fault)) => Err(self.raise(fault, at)),
-            Ok(Deed::Walk(turns)) => match rounds_of(turns) {
-                Ok(rounds) => Ok(rounds),
-                Err(answer) => Err(Came::Int(answer)),
-            },
-            Ok(_) => Err(self.over(Cut::Memory)),
-            Err(_) => Err(self.over(Cut::Memory)),
-        }
-    }
-
     /// A call with a receiver and a block.
     #[cycle(walk)]
     pub(super) fn send_block(
@@ -349,9 +344,15 @@ impl<'p, O: ThreadStore + Drop> Walker<'p, O> {
             return self.raise(Fault::NoMethod, at);
         }
         let args = passed(room, before, args.len());
-        match self.rounds(&receiver, method, args, block.params.len(), at) {
-            Ok(rounds) => self.turns(rounds.first, rounds.last, rounds.answer, block, depth, room),
-            Err(came) => came,
+        match self.iterations(&receiver, method, args, block.params.len(), at) {
+            Iterations::Counting(rounds) => {
+                self.turns(rounds.first, rounds.last, rounds.answer, block, depth, room)
+            }
+            Iterations::Elements(array, pass) => {
+                self.walk_elements(array, pass, block, at, depth, room)
+            }
+            Iterations::Pairs(hash) => self.walk_pairs(hash, block, at, depth, room),
+            Iterations::Done(came) => came,
         }
     }
 
@@ -532,7 +533,10 @@ impl<'p, O: ThreadStore + Drop> Walker<'p, O> {
         ensures context { self.new.context ≡ self.old.context }
         ensures store { self.new.store ≡ self.old.store }
     {
-        room[self.base] = self.take(came);
+        match came {
+            Came::Other => mem::swap(&mut room[self.base], &mut self.value),
+            _ => room[self.base] = self.take(came),
+        }
     }
 
     /// The arguments, each behind the frame and in it from then on.

@@ -1,7 +1,8 @@
 // Arrays and hashes: new ones, what they answer without a block, and how they are written.
 
-ghost use Rattle.std.specs.Prelude.{◌≡◌, ◌≤◌, ◌∷◌, [], ℕ, List, None, pos, false, map, IfOk, IfErr};
-ghost use Rattle.rb_model.specs.Values.{Int, plain, same, truth};
+ghost use Rattle.std.specs.Prelude.{◌≡◌, ◌≤◌, ◌∷◌, [], ℕ, List, None, Some, pos, false, map, IfOk, IfErr, IfSome};
+ghost use Rattle.rb_tree.specs.declared.span.NameId.{NameId};
+ghost use Rattle.rb_model.specs.Values.{Int, To, plain, same, truth};
 ghost use Rattle.rb_model.specs.Things.{Elements};
 ghost use Rattle.rb_model.specs.Ends.{Memory};
 ghost use Rattle.rb_model.specs.Log.{has_end};
@@ -11,15 +12,18 @@ ghost use Rattle.rb_machine.specs.Methods.{deed};
 ghost use Rattle.rb_builtin.specs.Names.{builtin_of};
 ghost use Rattle.rb_builtin.specs.Deeds.{answer_of, step_of, thing_of, use_of};
 ghost use Rattle.rb_interp.specs.Outcome.{Gave, Over, is_left, outcome, value_of};
-ghost use Rattle.rb_interp.specs.Collections.{CallsBuiltin, Comes, Reads, answering, building, filling, making, pairing, storing, writing_element};
+ghost use Rattle.rb_interp.specs.Methods.{HasNone};
+ghost use Rattle.rb_interp.specs.Carries.{me_of};
+ghost use Rattle.rb_interp.specs.Collections.{CallsBuiltin, Comes, Reads, answering, building, filling, making, pairing, putting, storing, writing_element};
 
 use super::Walker;
 use crate::came::{Came, Cut, is_left};
 use crate::gathering::{copies, filled, has_bad_key, is_collection, pairs_in, parts_of};
+use crate::questions::{is_element, put_of, question_of};
 use crate::slots::last_of;
 use rb_builtin::{Behind, Builtin, Deed, Purpose, deed_of};
 use rb_code::BuiltinClass;
-use rb_model::{Act, Fault, Make, Ref, Reply, ThreadStore, Value};
+use rb_model::{Act, Fault, Make, Ref, Reply, Sort, ThreadStore, Value};
 use rb_tree::Span;
 
 /// How many elements an array may have.
@@ -228,6 +232,29 @@ impl<'p, O: ThreadStore + Drop> Walker<'p, O> {
         ensures log { O.log self.new.store ≡ O.log self.old.store }
         ensures came { CallsBuiltin self.old.context.steps self.old.context.program.now method (plain receiver.now) (map plain args.now) at depth self.old.left self.new.left (O.log self.old.store) (O.private self.old.store) (O.private self.new.store) (outcome result self.new.value self.new.leave) }
     {
+        match question_of(receiver, method, args) {
+            Some(question) => self.ask_behind(question.thing, question.act, question.behind, at),
+            None => self.call_by_table(receiver, method, args, at, depth),
+        }
+    }
+
+    /// Any call of a built-in method, without a block, as the table of methods says.
+    #[inline(never)]
+    fn call_by_table(
+        &mut self,
+        receiver: &Value,
+        method: Option<Builtin>,
+        args: &[Value],
+        at: Span,
+        depth: u32,
+    ) -> Came
+        requires unended { has_end (O.log self.old.store).entries ≡ false }
+        ensures base { self.new.base ≡ self.old.base }
+        ensures less { self.new.left ≤ self.old.left }
+        ensures context { self.new.context ≡ self.old.context }
+        ensures log { O.log self.new.store ≡ O.log self.old.store }
+        ensures came { CallsBuiltin self.old.context.steps self.old.context.program.now method (plain receiver.now) (map plain args.now) at depth self.old.left self.new.left (O.log self.old.store) (O.private self.old.store) (O.private self.new.store) (outcome result self.new.value self.new.leave) }
+    {
         match deed_of(
             self.context.alloc,
             self.context.program,
@@ -264,6 +291,97 @@ impl<'p, O: ThreadStore + Drop> Walker<'p, O> {
         self.operated(method, receiver, arg, at)
     }
 
+    /// What came, where it is an array or a hash. No name finds a method of a class for it.
+    #[inline(always)]
+    pub(super) fn collection_now(&self, came: Came) -> Option<Ref>
+        ensures value { IfSome result (λ thing. value_of came self.now.value ≡ me_of (Some thing)) }
+        ensures alone { IfSome result (λ thing. (name : NameId) → HasNone self.now.context.script.now (me_of (Some thing)) name) }
+    {
+        let Came::Other = came else {
+            return None;
+        };
+        let Value::Ref(thing) = &self.value else {
+            return None;
+        };
+        match thing.sort {
+            Sort::List | Sort::Pairs => Some(*thing),
+            _ => None,
+        }
+    }
+
+    /// The call of a built-in method of a thing, with the integer that came for its one argument.
+    #[inline(always)]
+    fn asked_integer(
+        &mut self,
+        thing: Ref,
+        method: Option<Builtin>,
+        index: i64,
+        at: Span,
+        depth: u32,
+    ) -> Came
+        requires unended { has_end (O.log self.old.store).entries ≡ false }
+        ensures base { self.new.base ≡ self.old.base }
+        ensures less { self.new.left ≤ self.old.left }
+        ensures context { self.new.context ≡ self.old.context }
+        ensures log { O.log self.new.store ≡ O.log self.old.store }
+        ensures came { CallsBuiltin self.old.context.steps self.old.context.program.now method (To (thing_of thing)) (Int index ∷ []) at depth self.old.left self.new.left (O.log self.old.store) (O.private self.old.store) (O.private self.new.store) (outcome result self.new.value self.new.leave) }
+    {
+        if is_element(thing, method) {
+            return self.element(thing, index, at);
+        }
+        self.call_with(&Value::Ref(thing), method, Value::Int(index), at, depth)
+    }
+
+    /// The call of a built-in method of an array or a hash, with what came for its one argument.
+    #[inline(never)]
+    pub(super) fn asked_with(
+        &mut self,
+        thing: Ref,
+        method: Option<Builtin>,
+        came: Came,
+        at: Span,
+        depth: u32,
+    ) -> Came
+        requires unended { has_end (O.log self.old.store).entries ≡ false }
+        requires came { is_left came ≡ false }
+        ensures base { self.new.base ≡ self.old.base }
+        ensures less { self.new.left ≤ self.old.left }
+        ensures context { self.new.context ≡ self.old.context }
+        ensures log { O.log self.new.store ≡ O.log self.old.store }
+        ensures came { CallsBuiltin self.old.context.steps self.old.context.program.now method (To (thing_of thing)) (value_of came self.old.value ∷ []) at depth self.old.left self.new.left (O.log self.old.store) (O.private self.old.store) (O.private self.new.store) (outcome result self.new.value self.new.leave) }
+    {
+        match came {
+            Came::Int(index) => self.asked_integer(thing, method, index, at, depth),
+            _ => {
+                let arg = self.take(came);
+                self.call_with(&Value::Ref(thing), method, arg, at, depth)
+            }
+        }
+    }
+
+    /// Gives an element of an array a value, and gives the value on.
+    #[inline(always)]
+    fn put(&mut self, array: Ref, index: i64, value: &Value, at: Span) -> Came
+        requires unended { has_end (O.log self.old.store).entries ≡ false }
+        ensures base { self.new.base ≡ self.old.base }
+        ensures left { self.new.left ≡ self.old.left }
+        ensures context { self.new.context ≡ self.old.context }
+        ensures log { O.log self.new.store ≡ O.log self.old.store }
+        ensures came { (depth : ℕ) → Comes self.old.context.steps (putting (thing_of array) index (plain value.now) at) self.old.context.program.now depth self.old.left self.old.left (O.log self.old.store) (O.log self.new.store) (O.private self.old.store) (O.private self.new.store) (outcome result self.new.value self.new.leave) }
+    {
+        let Ok(last) = value.share() else {
+            return self.over(Cut::Memory);
+        };
+        let Ok(copy) = value.share() else {
+            return self.over(Cut::Memory);
+        };
+        let came = self.ask(array, Act::Put(index, copy), at);
+        if is_left(came) {
+            return came;
+        }
+        self.hand(last)
+    }
+
     /// An assignment by the call of a built-in method, whose value is the last argument.
     pub(super) fn store_builtin(
         &mut self,
@@ -280,6 +398,9 @@ impl<'p, O: ThreadStore + Drop> Walker<'p, O> {
         ensures log { O.log self.new.store ≡ O.log self.old.store }
         ensures came { (name : List ℕ) → builtin_of name ≡ method → Comes self.old.context.steps (storing (deed self.old.context.program.now (plain receiver.now) name (map plain args.now) None) (map plain args.now) at) self.old.context.program.now depth self.old.left self.new.left (O.log self.old.store) (O.log self.new.store) (O.private self.old.store) (O.private self.new.store) (outcome result self.new.value self.new.leave) }
     {
+        if let Some((array, index, value)) = put_of(receiver, method, args) {
+            return self.put(array, index, value, at);
+        }
         let Ok(last) = last_of(args) else {
             return self.over(Cut::Memory);
         };

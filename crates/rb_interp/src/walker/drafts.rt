@@ -6,18 +6,20 @@ ghost use Rattle.rb_model.specs.Doing.{said};
 ghost use Rattle.rb_model.specs.Log.{has_end};
 ghost use Rattle.rb_machine.specs.Control.{On, Drafting, Inspected};
 ghost use Rattle.rb_machine.specs.Call.{raised};
-ghost use Rattle.rb_machine.specs.Drafts.{draft_of};
+ghost use Rattle.rb_machine.specs.Drafts.{draft_of, is_collection};
+ghost use Rattle.rb_machine.specs.Texts.{max_bytes};
 ghost use Rattle.rb_builtin.specs.Deeds.{thing_of};
 ghost use Rattle.rb_interp.specs.Answers.{OrMemory};
 ghost use Rattle.rb_interp.specs.Outcome.{Gave, is_left, outcome, value_of};
 ghost use Rattle.rb_interp.specs.Texts.{as_text};
-ghost use Rattle.rb_interp.specs.Collections.{Advances, Comes, Opens, ReadsTo, Shortens, drafting, inspecting_behind, showing, text_end, valuing, work_of};
+ghost use Rattle.rb_interp.specs.Collections.{Advances, Comes, InspectsOne, Opens, ReadsTo, Shortens, drafting, inspecting_behind, is_finished, showing, text_end, valuing, work_of};
 
 use super::Walker;
+use crate::bytes::{add_inspected_line, add_string_line};
 use crate::came::{Came, Cut, is_left};
-use crate::gathering::has_collection;
-use rb_model::{Fault, Ref, Reply, SharedText, Sort, ThreadStore, Value};
-use rb_render::{Draft, Form, RenderFault, TextForm, Want};
+use crate::gathering::collection_of;
+use rb_model::{Fault, Ref, Reply, SharedText, ThreadStore, Value};
+use rb_render::{Draft, RenderFault, TextForm, Want};
 use rb_tree::Span;
 
 /// How many nodes may be under evaluation at once, and collections whose text is being made.
@@ -49,8 +51,8 @@ fn is_too_deep(depth: u32, begun: usize) -> bool
 }
 
 /// Whether a text needs nothing more.
-fn is_finished(want: &Want) -> bool
-    ensures { result ≡ true → want.now ≡ Want.Finished }
+pub(super) fn is_finished(want: &Want) -> bool
+    ensures { result ≡ is_finished want.now }
 {
     match want {
         Want::Finished => true,
@@ -60,7 +62,7 @@ fn is_finished(want: &Want) -> bool
 
 impl<'p, O: ThreadStore + Drop> Walker<'p, O> {
     /// Gives bytes as a text.
-    fn give_bytes(&mut self, bytes: Vec<u8>) -> Came
+    pub(super) fn give_bytes(&mut self, bytes: Vec<u8>) -> Came
         ensures gives { OrMemory (Gave (Str bytes.items)) (outcome result self.new.value self.new.leave) }
         ensures base { self.new.base ≡ self.old.base }
         ensures left { self.new.left ≡ self.old.left }
@@ -74,7 +76,7 @@ impl<'p, O: ThreadStore + Drop> Walker<'p, O> {
     }
 
     /// The thread ends since there is no text.
-    fn end_text(&mut self, fault: RenderFault, at: Span) -> Came
+    pub(super) fn end_text(&mut self, fault: RenderFault, at: Span) -> Came
         ensures gives { outcome result self.new.value self.new.leave ≡ text_end fault at }
         ensures base { self.new.base ≡ self.old.base }
         ensures left { self.new.left ≡ self.old.left }
@@ -107,7 +109,7 @@ impl<'p, O: ThreadStore + Drop> Walker<'p, O> {
     }
 
     /// Does what a text needs next.
-    fn advance(&mut self, draft: &mut Draft, want: &Want, at: Span, depth: u32) -> Came
+    pub(super) fn advance(&mut self, draft: &mut Draft, want: &Want, at: Span, depth: u32) -> Came
         requires unended { has_end (O.log self.old.store).entries ≡ false }
         ensures base { self.new.base ≡ self.old.base }
         ensures less { self.new.left ≤ self.old.left }
@@ -175,14 +177,10 @@ impl<'p, O: ThreadStore + Drop> Walker<'p, O> {
         let Came::Other = came else {
             return came;
         };
-        let Value::Ref(thing) = &self.value else {
+        let Some(thing) = collection_of(&self.value) else {
             return came;
         };
-        let thing = *thing;
-        match thing.sort {
-            Sort::List | Sort::Pairs => self.inspected(thing, at, depth),
-            _ => came,
-        }
+        self.inspected(thing, at, depth)
     }
 
     /// The value of a call of `p`: nil, its one argument, or an array of them.
@@ -201,6 +199,47 @@ impl<'p, O: ThreadStore + Drop> Walker<'p, O> {
         }
     }
 
+    /// Adds the inspected form of a collection as a line.
+    fn add_collection(&mut self, bytes: &mut Vec<u8>, thing: Ref, at: Span, depth: u32) -> Came
+        requires unended { has_end (O.log self.old.store).entries ≡ false }
+        requires collection { is_collection (To (thing_of thing)) ≡ true }
+        ensures base { self.new.base ≡ self.old.base }
+        ensures less { self.new.left ≤ self.old.left }
+        ensures context { self.new.context ≡ self.old.context }
+        ensures log { O.log self.new.store ≡ O.log self.old.store }
+        ensures fits { is_left result ≡ false → length bytes.new.items ≤ max_bytes }
+        ensures came { InspectsOne self.old.context.steps self.old.context.program.now (To (thing_of thing)) bytes.old.items bytes.new.items at depth self.old.left self.new.left (O.log self.old.store) (O.private self.old.store) (O.private self.new.store) result (outcome result self.new.value self.new.leave) }
+    {
+        let came = self.inspected(thing, at, depth);
+        if is_left(came) {
+            return came;
+        }
+        let text = self.take(came);
+        match add_string_line(bytes, &text) {
+            Ok(()) => Came::Nil,
+            Err(fault) => self.end_text(fault, at),
+        }
+    }
+
+    /// Adds the inspected form of a value as a line.
+    fn add_inspected(&mut self, bytes: &mut Vec<u8>, value: &Value, at: Span, depth: u32) -> Came
+        requires unended { has_end (O.log self.old.store).entries ≡ false }
+        ensures base { self.new.base ≡ self.old.base }
+        ensures less { self.new.left ≤ self.old.left }
+        ensures context { self.new.context ≡ self.old.context }
+        ensures log { O.log self.new.store ≡ O.log self.old.store }
+        ensures fits { is_left result ≡ false → length bytes.new.items ≤ max_bytes }
+        ensures came { InspectsOne self.old.context.steps self.old.context.program.now (plain value.now) bytes.old.items bytes.new.items at depth self.old.left self.new.left (O.log self.old.store) (O.private self.old.store) (O.private self.new.store) result (outcome result self.new.value self.new.leave) }
+    {
+        if let Some(thing) = collection_of(value) {
+            return self.add_collection(bytes, thing, at, depth);
+        }
+        match add_inspected_line(self.context.alloc, bytes, self.context.program, value) {
+            Ok(()) => Came::Nil,
+            Err(fault) => self.end_text(fault, at),
+        }
+    }
+
     /// Prints the inspected forms of values.
     pub(super) fn inspect_values(&mut self, values: &[Value], at: Span, depth: u32) -> Came
         requires unended { has_end (O.log self.old.store).entries ≡ false }
@@ -211,10 +250,14 @@ impl<'p, O: ThreadStore + Drop> Walker<'p, O> {
         ensures unended { has_end (O.log self.new.store).entries ≡ false }
         ensures came { Comes self.old.context.steps (inspecting_behind (map plain values.now) [] (map plain values.now) at) self.old.context.program.now depth self.old.left self.new.left (O.log self.old.store) (O.log self.new.store) (O.private self.old.store) (O.private self.new.store) (outcome result self.new.value self.new.leave) }
     {
-        if has_collection(values) {
-            return self.over(Cut::Memory);
+        let mut bytes = Vec::new(self.context.alloc);
+        'values: for value in values {
+            let came = self.add_inspected(&mut bytes, value, at, depth);
+            if is_left(came) {
+                return came;
+            }
         }
-        let shown = self.show(Form::Inspect, values, at);
+        let shown = self.show_bytes(bytes);
         if is_left(shown) {
             return shown;
         }

@@ -155,8 +155,9 @@ impl<'p, O: ThreadStore + Drop> Walker<'p, O> {
         came
     }
 
-    /// A loop.
+    /// A loop. It stands apart, so that what it needs in each turn has registers.
     #[cycle(walk)]
+    #[inline(never)]
     pub(super) fn repeat(
         &mut self,
         condition: &'p Code,

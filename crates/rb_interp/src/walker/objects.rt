@@ -4,7 +4,7 @@ ghost use Rattle.std.specs.Prelude.{◌≡◌, ◌≤◌, ◌<◌, ℕ, false, L
 ghost use Rattle.rb_model.specs.Values.{Int, plain};
 ghost use Rattle.rb_model.specs.Log.{has_end};
 ghost use Rattle.rb_model.specs.Doing.{doing};
-ghost use Rattle.rb_model.specs.Acts.{GetField};
+ghost use Rattle.rb_model.specs.Acts.{At, GetField};
 ghost use Rattle.rb_machine.specs.Control.{On, Then, Step, Eval, Passing, Creating, OfField};
 ghost use Rattle.rb_machine.specs.Call.{read_place};
 ghost use Rattle.rb_code.specs.Erase.{erase};
@@ -54,6 +54,22 @@ impl<'p, O: ThreadStore + Drop> Walker<'p, O> {
             Ok(Reply::Pairs(_)) => Came::Nil,
             Ok(Reply::Failed(fault)) => self.raise(fault, at),
             Err(_) => self.over(Cut::Memory),
+        }
+    }
+
+    /// Asks an array for the element at an index.
+    #[inline(always)]
+    pub(super) fn element(&mut self, array: Ref, index: i64, at: Span) -> Came
+        requires unended { has_end (O.log self.old.store).entries ≡ false }
+        ensures base { self.new.base ≡ self.old.base }
+        ensures left { self.new.left ≡ self.old.left }
+        ensures context { self.new.context ≡ self.old.context }
+        ensures log { O.log self.new.store ≡ O.log self.old.store }
+        ensures came { Asks self.old.context.steps (me_of (Some array)) (At index) at self.old.left (O.log self.old.store) (O.private self.old.store) (O.private self.new.store) (outcome result self.new.value self.new.leave) }
+    {
+        match self.store.element(array.id, index) {
+            Some(value) => self.hand(value),
+            None => self.ask(array, Act::At(index), at),
         }
     }
 

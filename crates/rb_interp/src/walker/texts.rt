@@ -1,18 +1,37 @@
 // Texts of values, for which the `to_s` of their class may be asked.
 
-ghost use Rattle.std.specs.Prelude.{◌≡◌, ◌≤◌, ◌<◌, ◌+◌, ℕ, false, length, slice_get};
+ghost use Rattle.std.specs.Prelude.{◌≡◌, ◌≤◌, ◌<◌, ◌+◌, ◌++◌, ℕ, false, length, slice_get, Err, OnOk};
 ghost use Rattle.rb_model.specs.Log.{has_end};
+ghost use Rattle.rb_model.specs.Values.{plain};
+ghost use Rattle.rb_machine.specs.Texts.{max_bytes, shown, styled};
 ghost use Rattle.rb_render.specs.Forms.{style_of};
 ghost use Rattle.rb_interp.specs.Outcome.{is_left, value_of, outcome};
 ghost use Rattle.rb_interp.specs.Carries.{me_of};
+ghost use Rattle.rb_interp.specs.Lines.{JoinsText, WritesArray, WritesOne};
 ghost use Rattle.rb_interp.specs.Texts.{Tells, TellsSlot, WritesTexts};
 
 use super::Walker;
-use crate::asked::{asked_of, is_lined};
+use crate::asked::{asked_of, lined};
 use crate::came::{Came, Cut, is_left};
-use rb_model::{Fault, ThreadStore, Value};
+use rb_model::{Ref, ThreadStore, Value};
 use rb_render::{RenderFault, Style, add_value};
-use rb_tree::Span;
+use rb_tree::{Program, Span};
+use std::alloc::Global;
+
+/// Adds the text of a value, which is let go, behind what is printed.
+fn add_taken(
+    alloc: Global,
+    out: &mut Vec<u8>,
+    program: &Program,
+    style: Style,
+    value: Value,
+) -> Result<(), RenderFault>
+    ensures text { OnOk result (out.new.items ≡ out.old.items ++ styled (style_of style) (shown program.now (plain value))) }
+    ensures fits { OnOk result (length out.new.items ≤ max_bytes) }
+    ensures too_long { result ≡ Err RenderFault.TooLong → max_bytes < length (out.old.items ++ styled (style_of style) (shown program.now (plain value))) }
+{
+    add_value(alloc, out, program, style, &value)
+}
 
 impl<'p, O: ThreadStore + Drop> Walker<'p, O> {
     /// A value that came, as its text is told: what `to_s` of its class answers, where that is a string, and else the value as it is.
@@ -125,24 +144,9 @@ impl<'p, O: ThreadStore + Drop> Walker<'p, O> {
     {
         let mut bytes = Vec::new(self.context.alloc);
         'values: for index in 0..count {
-            if is_lined(style, room, first + index) {
-                return self.over(Cut::Memory);
-            }
-            let came = self.told_at(first + index, at, depth, room);
+            let came = self.write_one(style, first + index, &mut bytes, at, depth, room);
             if is_left(came) {
                 return came;
-            }
-            let value = self.take(came);
-            match add_value(
-                self.context.alloc,
-                &mut bytes,
-                self.context.program,
-                style,
-                &value,
-            ) {
-                Ok(()) => {}
-                Err(RenderFault::TooLong) => return self.raise(Fault::TextTooLong, at),
-                Err(RenderFault::Memory) => return self.over(Cut::Memory),
             }
         }
         let shown = self.show_bytes(bytes);
@@ -150,5 +154,87 @@ impl<'p, O: ThreadStore + Drop> Walker<'p, O> {
             return shown;
         }
         Came::Nil
+    }
+
+    /// Writes the value of a slot behind what is printed; nil where it goes on.
+    #[cycle(walk)]
+    fn write_one(
+        &mut self,
+        style: Style,
+        slot: usize,
+        bytes: &mut Vec<u8>,
+        at: Span,
+        depth: u32,
+        room: &mut [Value],
+    ) -> Came
+        requires unended { has_end (O.log self.old.store).entries ≡ false }
+        requires steps { self.old.left ≤ self.old.context.steps }
+        ensures base { self.new.base ≡ self.old.base }
+        ensures context { self.new.context ≡ self.old.context }
+        ensures room { length room.new ≡ length room.old }
+        ensures less { self.new.left ≤ self.old.left }
+        ensures unended { has_end (O.log self.new.store).entries ≡ false }
+        ensures kept { (i : ℕ) → i < self.old.base → slice_get room.new i ≡ slice_get room.old i }
+        ensures fits { is_left result ≡ false → length bytes.new.items ≤ max_bytes }
+        ensures came { WritesOne self.old.context.script.now self.old.context.program.now self.old.context.steps (me_of self.old.context.me) (style_of style) slot bytes.old.items bytes.new.items at self.old.base depth self.old.left self.new.left room.old room.new (O.log self.old.store) (O.log self.new.store) (O.private self.old.store) (O.private self.new.store) result (outcome result self.new.value self.new.leave) }
+    {
+        if let Some(array) = lined(style, room, slot) {
+            return self.write_array(array, bytes, at, depth, room);
+        }
+        let came = self.told_at(slot, at, depth, room);
+        if is_left(came) {
+            return came;
+        }
+        self.add_came(style, came, bytes, at)
+    }
+
+    /// Writes an array line by line behind what is printed; nil where it goes on.
+    #[cycle(walk)]
+    fn write_array(
+        &mut self,
+        array: Ref,
+        bytes: &mut Vec<u8>,
+        at: Span,
+        depth: u32,
+        room: &mut [Value],
+    ) -> Came
+        requires unended { has_end (O.log self.old.store).entries ≡ false }
+        requires steps { self.old.left ≤ self.old.context.steps }
+        ensures base { self.new.base ≡ self.old.base }
+        ensures context { self.new.context ≡ self.old.context }
+        ensures room { length room.new ≡ length room.old }
+        ensures less { self.new.left ≤ self.old.left }
+        ensures unended { has_end (O.log self.new.store).entries ≡ false }
+        ensures kept { (i : ℕ) → i < self.old.base → slice_get room.new i ≡ slice_get room.old i }
+        ensures fits { is_left result ≡ false → length bytes.new.items ≤ max_bytes }
+        ensures came { WritesArray self.old.context.script.now self.old.context.program.now self.old.context.steps (me_of self.old.context.me) array bytes.old.items bytes.new.items at self.old.base depth self.old.left self.new.left room.old room.new (O.log self.old.store) (O.log self.new.store) (O.private self.old.store) (O.private self.new.store) result (outcome result self.new.value self.new.leave) }
+    {
+        let came = self.lines(array, at, depth, room);
+        if is_left(came) {
+            return came;
+        }
+        self.add_came(Style::Plain, came, bytes, at)
+    }
+
+    /// Adds the text of the value that came behind what is printed; nil where it goes on.
+    fn add_came(&mut self, style: Style, came: Came, bytes: &mut Vec<u8>, at: Span) -> Came
+        ensures base { self.new.base ≡ self.old.base }
+        ensures left { self.new.left ≡ self.old.left }
+        ensures context { self.new.context ≡ self.old.context }
+        ensures store { self.new.store ≡ self.old.store }
+        ensures fits { is_left result ≡ false → length bytes.new.items ≤ max_bytes }
+        ensures came { JoinsText self.old.context.steps (styled (style_of style) (shown self.old.context.program.now (value_of came self.old.value))) bytes.old.items bytes.new.items at self.old.left (O.log self.old.store) (O.private self.old.store) result (outcome result self.new.value self.new.leave) }
+    {
+        let value = self.take(came);
+        match add_taken(
+            self.context.alloc,
+            bytes,
+            self.context.program,
+            style,
+            value,
+        ) {
+            Ok(()) => Came::Nil,
+            Err(fault) => self.end_text(fault, at),
+        }
     }
 }

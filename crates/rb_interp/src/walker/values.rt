@@ -21,7 +21,7 @@ use crate::came::{Came, Cut, Leave, end_by};
 use crate::leaf::{is_true, text_answer};
 use crate::slots::put;
 use rb_builtin::{Builtin, Deed, IntegerAnswer, deed_of};
-use rb_model::{Answer, Call, End, Fault, SharedText, ThreadStore, Value};
+use rb_model::{Answer, Call, End, Fault, Ref, SharedText, ThreadStore, Value};
 use rb_render::{Form, RenderFault, render};
 use rb_tree::Span;
 use std::mem;
@@ -87,7 +87,7 @@ impl<'p, O: ThreadStore + Drop> Walker<'p, O> {
         }
     }
 
-    /// Gives a value that may well be an integer.
+    /// Gives a value that may well be an integer or a thing.
     #[inline(always)]
     pub(super) fn hand(&mut self, value: Value) -> Came
         ensures gives { outcome result self.new.value self.new.leave ≡ Gave (plain value) }
@@ -98,8 +98,22 @@ impl<'p, O: ThreadStore + Drop> Walker<'p, O> {
     {
         match value {
             Value::Int(n) => Came::Int(n),
+            Value::Ref(thing) => self.give_thing(thing),
             value => self.give(value),
         }
+    }
+
+    /// Gives a thing.
+    #[inline(always)]
+    pub(super) fn give_thing(&mut self, thing: Ref) -> Came
+        ensures gives { outcome result self.new.value self.new.leave ≡ Gave (me_of (Some thing)) }
+        ensures base { self.new.base ≡ self.old.base }
+        ensures left { self.new.left ≡ self.old.left }
+        ensures context { self.new.context ≡ self.old.context }
+        ensures store { self.new.store ≡ self.old.store }
+    {
+        self.value = Value::Ref(thing);
+        Came::Other
     }
 
     /// The thread is cut.
@@ -142,6 +156,8 @@ impl<'p, O: ThreadStore + Drop> Walker<'p, O> {
             Some(Value::False) => Came::False,
             Some(Value::True) => Came::True,
             Some(Value::Int(n)) => Came::Int(*n),
+            Some(Value::Ref(thing)) => self.give_thing(*thing),
+            Some(Value::Str(text)) => self.share_text(text),
             Some(value) => self.read_shared(value),
         }
     }

@@ -8,25 +8,25 @@ use Rattle.std.proofs.Common.{rules, to_z, of_z, w64, ◌≡◌, ap, sym, ◌∙
 use Rattle.std.proofs.lemmas.List.{drop_all}
 use Rattle.std.specs.Prelude.{codes, pos, ◌+ℤ◌, ◌≤ℤ◌, slice_get, slice_set}
 use Rattle.rb_model.specs.Values.{Nil, Int, plain}
-use Rattle.rb_machine.specs.Control.{Listing, Pairing, Then, Under, Rest, AssignTo, ReturnOf, Test, Again, RightOfAnd, RightOfOr, Negate, Choose, Argument, OnReceiver, IndexedBy, IndexOf, MemberOf, ReadOf, RightOf, WriteTo, ReceiverOf, Instead, OfLocal, OfField, OfElement, OfAttribute, Creating, FieldTo, On, Eval, Storing, ByName, ReceiverToStore, PieceOf, Counting, Turn, Frame, JoinTo, TextOf, WriteBehind}
+use Rattle.rb_machine.specs.Control.{Lines, LinesBehind, LineOf, Listing, Pairing, Then, Under, Rest, AssignTo, ReturnOf, Test, Again, RightOfAnd, RightOfOr, Negate, Choose, Argument, OnReceiver, IndexedBy, IndexOf, MemberOf, ReadOf, RightOf, WriteTo, ReceiverOf, Instead, OfLocal, OfField, OfElement, OfAttribute, Creating, FieldTo, On, Eval, Storing, ByName, ReceiverToStore, PieceOf, Counting, Turn, Frame, JoinTo, TextOf, WriteBehind}
 use Rattle.rb_code.specs.Erase.{erase, erase_piece, erase_block, erase_method}
 use Rattle.rb_code.specs.Resolved.{fits, every, if_some, block_fits}
 use Rattle.rb_code.proofs.Showing.{shows-array, shows-hash, shows-new_builtin, shows-nil, shows-false, shows-true, shows-self_ref, shows-field, shows-set_field, shows-update_field, shows-new, shows-start, shows-own, shows-int, shows-sym, shows-local, shows-and, shows-or, shows-not, shows-if, shows-break, shows-next, shows-set_local, shows-while, shows-return, shows-str, shows-update_local, shows-update_element, shows-update_attribute, shows-store, shows-operate, shows-send, shows-walk, shows-function, shows-print}
 use Rattle.rb_code.proofs.Fitting.{fits-array, fits-hash, fits-new_builtin, fits-local, fits-set_field, fits-update_field, fits-new, fits-own, fits-and, fits-or, fits-not, fits-if, fits-set_local, fits-while, fits-return, fits-str, fits-update_local, fits-update_element, fits-update_attribute, fits-store, fits-operate, fits-send, fits-walk, fits-function, fits-print}
-use Rattle.rb_interp.specs.Outcome.{value_of, outcome}
+use Rattle.rb_interp.specs.Outcome.{is_left, value_of, outcome}
 use Rattle.rb_interp.proofs.Moves.{gives, test_true, test_false, on, same, begins, follows, counts, too_many, too_deep, left}
-use Rattle.rb_interp.proofs.Lists.{two, fst, snd, next_item, len_set, len_map, len_args, get_set, fst_two, nothing, front, there}
+use Rattle.rb_interp.proofs.Lists.{never, two, fst, snd, next_item, len_set, len_map, len_args, get_set, fst_two, nothing, front, there}
 use Rattle.rb_interp.proofs.Rooms.{sub, moved, every_item, lies, frame_back, room_beyond}
 use Rattle.rb_interp.proofs.Outcomes.{gave, given, comes, passes, gone, again, again_out, tested_again, tested_out, called, turn_too_many, turns_end}
 use Rattle.rb_interp.proofs.Steps.{and_goes, and_stops, or_goes, or_stops, negated, chosen_first, chosen_second, assigned, kept_write}
 use Rattle.rb_machine.specs.Scopes.{text_of}
 use Rattle.rb_builtin.specs.Names.{builtin_of}
 use Rattle.rb_builtin.proofs.Table.{same_is}
-use Rattle.rb_interp.proofs.Quick.{calls_pair, updates}
+use Rattle.rb_interp.proofs.Quick.{calls_pair, calls_twice, updates, updates_over}
 use Rattle.rb_interp.proofs.Calls.{calls, no_such, none_plain}
 use Rattle.rb_interp.proofs.Places.{operator_number, or_else_stays, or_else_goes, and_then_stays, and_then_goes, operates, reads, attribute_is, target_local, target_field, target_element, target_attribute}
 use mathlib.Core.Logic.{inl}
-use Rattle.rb_machine.specs.Call.{operator, last_value, enter, print, text_by, own_text}
+use Rattle.rb_machine.specs.Call.{operator, last_value, enter, print, text_by, own_text, write}
 use Rattle.rb_interp.proofs.Arguments.{passing, passed, placed, joined, only_left, only_came, over_left}
 use Rattle.rb_interp.proofs.Prints.{by_form, printing_is, by_text}
 use Rattle.std.specs.Option.{option_map, option_copied}
@@ -35,6 +35,15 @@ use Rattle.rb_machine.specs.Begin.{begin_return}
 use Rattle.rb_interp.proofs.Pieces.{piece_code, shows_text, shows_code, joining, joins_code, text_long, text_joins, whole_text, too_long, not_long, asks_piece}
 use Rattle.std.proofs.lemmas.Int.{ints, to_z-of_z}
 use Rattle.rb_code.specs.Layout.{bound}
+use Rattle.rb_machine.specs.Control.{ForEach, EachPair, Walking}
+use Rattle.rb_machine.specs.Turns.{holding}
+use Rattle.rb_machine.specs.Methods.{LoopsOver, EachPairOf}
+use Rattle.rb_model.specs.Values.{To}
+use Rattle.rb_model.specs.Doing.{pair}
+use Rattle.rb_builtin.specs.Deeds.{thing_of, walk_of}
+use Rattle.rb_interp.specs.Walks.{walking}
+use Rattle.rb_interp.proofs.Walks.{over_stops, no_step, start_left, begun_at, iteration_opens, iteration_goes, element_begins, element_ends, pair_begins, pairs_end, copied_left, no_pairs, block_comes, still_within, up_to_end}
+use Rattle.std.proofs.Common.{suc, subst}
 use Rattle.rb_interp.proofs.Turns.{some_left, none_left, last_done, ends_within, deeper, opens, closes, closes_out, cut, answers_block, block_turns, takes_is}
 use Rattle.rb_machine.specs.Methods.{deed}
 use Rattle.rb_interp.proofs.Elements.{calls_builtin, stores_builtin, writes_element, built_from, parts_are}
@@ -50,8 +59,11 @@ use Rattle.rb_interp.proofs.Endings.{quietly}
 use Rattle.rb_interp.specs.declared.came.Came.TheVariants as came
 use Rattle.rb_render.specs.Forms.{style_of}
 use Rattle.rb_model.specs.declared.value.Value.TheVariants as held
-use Rattle.rb_machine.proofs.Printing.{behind_fits, behind_long}
-use Rattle.rb_interp.proofs.Texts.{registers_unasked, registers_plain, told_enters, told_gives, text_left, write_left, copy_came, copy_left, told_itself, told_leaving, told_answer, told_by_class, told_passes, told_joins, told_writes, read_item, next_value, no_value, asks_next, shows_all, gives_nil}
+use Rattle.rb_model.specs.Ends as ending
+use Rattle.std.specs.Prelude.{Err}
+use Rattle.rb_interp.proofs.Drafting.{over_left as ends_left, left_only, text_ends, text_given, text_asked, asks_less, finished_is}
+use Rattle.rb_interp.proofs.Lines.{bytes_told, end_told, told_line, line_passes, lines_told, writes_next, in_style}
+use Rattle.rb_interp.proofs.Texts.{registers_unasked, registers_plain, told_enters, told_gives, text_left, write_left, copy_came, copy_left, told_itself, told_leaving, told_answer, told_by_class, told_left, told_passes, told_joins, told_writes, read_item, next_value, no_value, shows_all, gives_nil}
 use Rattle.rb_interp.proofs.walker.Walker.+walk.Goals as goal
 
 pub walk_here-returns-then-self-eq0-clause-came : goal.walk_here-returns-then-self-eq0-clause-came
@@ -819,19 +831,19 @@ begin_other-returns-in-UpdateAttribute-clause-came g m c = λ S start k names si
     let under = sub _ l (rw (c.get-in-UpdateAttribute.ensures, c.get-in-UpdateAttribute-2.ensures) s) in
     c.update_attribute.ensures.came S start k names size st e under (rw (c.get-in-UpdateAttribute.ensures, c.get-in-UpdateAttribute-2.ensures) (same (begins _ _ k _ _ _ (shows-update_attribute c.args.code.now x.number x.writer x.name x.receiver x.op x.value x.at x.is) a) (target_attribute S (erase x.receiver) x.name x.op (erase x.value) x.at k (scope_of (me_of c.args.self.now.context.me) names c.args.room.now) c.args.depth c.args.self.now.left)))
 
-pub begin_other-returns-in-Store-clause-kept : goal.begin_other-returns-in-Store-clause-kept
-begin_other-returns-in-Store-clause-kept g m c = λ S names size st e l i p q.
+pub begin_store-returns-in-Store-clause-kept : goal.begin_store-returns-in-Store-clause-kept
+begin_store-returns-in-Store-clause-kept g m c = λ S names size st e l i p q.
     let x = c.in-Store in
     let s = sym (ap (λ d. fits S d names size) x.is ∙ fits-store S names size x.method x.receiver x.name x.args x.at) ∙ l.fits in
-    let under = sub _ l (rw (c.get-in-Store.ensures, c.as_slice-in-Store.ensures) s) in
+    let under = sub _ l (rw (c.get.ensures, c.as_slice.ensures) s) in
     c.store_by.ensures.kept S names size st e under i p q
 
-pub begin_other-returns-in-Store-clause-came : goal.begin_other-returns-in-Store-clause-came
-begin_other-returns-in-Store-clause-came g m c = λ S start k names size st e l a.
+pub begin_store-returns-in-Store-clause-came : goal.begin_store-returns-in-Store-clause-came
+begin_store-returns-in-Store-clause-came g m c = λ S start k names size st e l a.
     let x = c.in-Store in
     let s = sym (ap (λ d. fits S d names size) x.is ∙ fits-store S names size x.method x.receiver x.name x.args x.at) ∙ l.fits in
-    let under = sub _ l (rw (c.get-in-Store.ensures, c.as_slice-in-Store.ensures) s) in
-    c.store_by.ensures.came S start k names size st e under (rw (c.get-in-Store.ensures, c.as_slice-in-Store.ensures) (begins _ _ k _ _ _ (shows-store c.args.code.now x.method x.receiver x.name x.args x.at x.is) a))
+    let under = sub _ l (rw (c.get.ensures, c.as_slice.ensures) s) in
+    c.store_by.ensures.came S start k names size st e under (rw (c.get.ensures, c.as_slice.ensures) (begins _ _ k _ _ _ (shows-store c.args.code.now x.method x.receiver x.name x.args x.at x.is) a))
 
 pub begin_other-returns-in-Print-clause-kept : goal.begin_other-returns-in-Print-clause-kept
 begin_other-returns-in-Print-clause-kept g m c = λ S names size st e l i p q.
@@ -1066,8 +1078,8 @@ send_block-returns-then-is_left-2-clause-came g m c = λ S start k names size st
     let ends = f (OnReceiver v (text_of S c.args.name) (Some (erase_block c.args.block.now))) c.args.at S start k names size st e under (on _ (given w.result w.new.self.value w.new.self.leave none come) refl) in
     ends.0 (sym c.is_left-2.ensures ∙ c.if-is_left-2.true)
 
-pub send_block-returns-in-Ok-clause-kept : goal.send_block-returns-in-Ok-clause-kept
-send_block-returns-in-Ok-clause-kept g m c = λ S names size st e l i p q.
+pub send_block-returns-in-Counting-clause-kept : goal.send_block-returns-in-Counting-clause-kept
+send_block-returns-in-Counting-clause-kept g m c = λ S names size st e l i p q.
     let w = c.walk-came in
     let right = snd _ _ l.fits in
     let first = sub (fits S c.args.receiver.now) l (fst _ _ right) in
@@ -1076,17 +1088,17 @@ send_block-returns-in-Ok-clause-kept g m c = λ S names size st e l i p q.
     let under = moved _ _ w.ensures.base w.ensures.room (sub (every (map (fits S) c.args.args.now)) l (fst _ _ (snd _ _ right))) in
     let f = rw (t.context, t.base, w.ensures.context) at y.ensures.kept in
     let stays = f S names size st e under i p (omega (arith, q, w.ensures.base)) ∙ w.ensures.kept S names size st e first i p q in
-    let o = c.in-Ok.ensures in
-    let base : c.rounds.new.self.base ≡ c.args.self.now.base = o.base ∙ (t.base ∙ w.ensures.base) in
+    let o = c.iterations.ensures in
+    let base : c.iterations.new.self.base ≡ c.args.self.now.base = o.base ∙ (t.base ∙ w.ensures.base) in
     let inside = moved _ _ base (y.ensures.room ∙ w.ensures.room) (sub (block_fits S c.args.block.now) l (snd _ _ (snd _ _ right))) in
     let u = rw (o.context, y.ensures.context, t.context, w.ensures.context) at c.turns.ensures.kept in
     u S names size st e inside i p (omega (arith, q, base)) ∙ stays
 
-pub send_block-returns-in-Ok-clause-came : goal.send_block-returns-in-Ok-clause-came
-send_block-returns-in-Ok-clause-came g m c =
-    let z1 : to_z w64 (of_z w64 c.in-Ok.rounds.first) ≡ c.in-Ok.rounds.first = search rules in
-    let z2 : to_z w64 (of_z w64 c.in-Ok.rounds.last) ≡ c.in-Ok.rounds.last = search rules in
-    let z3 : to_z w64 (of_z w64 c.in-Ok.rounds.answer) ≡ c.in-Ok.rounds.answer = search rules in
+pub send_block-returns-in-Counting-clause-came : goal.send_block-returns-in-Counting-clause-came
+send_block-returns-in-Counting-clause-came g m c =
+    let z1 : to_z w64 (of_z w64 c.in-Counting.rounds.first) ≡ c.in-Counting.rounds.first = search rules in
+    let z2 : to_z w64 (of_z w64 c.in-Counting.rounds.last) ≡ c.in-Counting.rounds.last = search rules in
+    let z3 : to_z w64 (of_z w64 c.in-Counting.rounds.answer) ≡ c.in-Counting.rounds.answer = search rules in
     λ S start k names size st e l a.
     let w = c.walk-came in
     let right = snd _ _ l.fits in
@@ -1101,25 +1113,25 @@ send_block-returns-in-Ok-clause-came g m c =
     let f = rw (t.context, t.base, t.left, t.store, w.ensures.context) at y.ensures.came in
     let ends = f (OnReceiver v (text_of S c.args.name) (Some (erase_block c.args.block.now))) c.args.at S start k names size st e under (on _ (given w.result w.new.self.value w.new.self.leave none come) refl) in
     let at_end = ends.1 (sym c.is_left-2.ensures ∙ c.if-is_left-2.false) in
-    let short : w.new.self.base ≤ length w.new.room = omega (arith, w.ensures.base, w.ensures.room, l.room) in
+    let short : w.new.self.base ≤ length w.new.room = still_within w.ensures.base w.ensures.room l.room in
     let from = rw t.base at y.ensures.fits in
     let end = rw t.base at y.ensures.base in
     let edge = from short in
     let last = end (sym c.is_left-2.ensures ∙ c.if-is_left-2.false) in
     let passed = rw t.base at c.passed-args.ensures in
-    let long : w.new.self.base + length c.args.args.now ≤ length y.new.room = omega (arith, edge, last) in
+    let long : w.new.self.base + length c.args.args.now ≤ length y.new.room = up_to_end w.new.self.base _ _ (length c.args.args.now) edge last in
     let values = passed long in
     let number = same_is (builtin_of (text_of S c.args.name)) c.args.method (fst _ _ l.fits) in
     let args = map plain (take (length c.args.args.now) (drop w.new.self.base y.new.room)) in
     let answer = deed c.args.self.now.context.program.now v (text_of S c.args.name) args (Some (length c.args.block.now.params)) in
     let none_own = (rw (y.ensures.context, t.context, w.ensures.context, t.value) at (c.target_of.ensures.none c.in_default.is)) S st in
     let table = answers_block c.args.block.now v (text_of S c.args.name) args c.args.at answer none_own (ap (λ (ns : Program). deed ns v (text_of S c.args.name) args (Some (length c.args.block.now.params))) (sym e)) at_end in
-    let o = c.in-Ok.ensures in
-    let base : c.rounds.new.self.base ≡ c.args.self.now.base = o.base ∙ (t.base ∙ w.ensures.base) in
+    let o = c.iterations.ensures in
+    let base : c.iterations.new.self.base ≡ c.args.self.now.base = o.base ∙ (t.base ∙ w.ensures.base) in
     let inside = moved _ _ base (y.ensures.room ∙ w.ensures.room) (sub (block_fits S c.args.block.now) l (snd _ _ (snd _ _ right))) in
-    let r = c.in-Ok.rounds in
-    let said = rw (y.ensures.context, t.context, w.ensures.context, t.value, values, c.len.ensures) at o.rounds in
-    let turning = block_turns S _ start _ _ answer (Counting c.in-Ok.rounds.first (c.in-Ok.rounds.last +ℤ pos 1) (Int c.in-Ok.rounds.answer)) (erase_block c.args.block.now) c.args.at k _ _ _ (said (text_of S c.args.name) number) table in
+    let r = c.in-Counting.rounds in
+    let said = rw (y.ensures.context, t.context, w.ensures.context, t.value, values, c.len.ensures, c.in-Counting.is) at o.opens in
+    let turning = block_turns S _ start _ _ answer (Counting c.in-Counting.rounds.first (c.in-Counting.rounds.last +ℤ pos 1) (Int c.in-Counting.rounds.answer)) (erase_block c.args.block.now) c.args.at k _ _ _ (said (text_of S c.args.name) number) table in
     let u = rw (z1, z2, z3, o.context, o.left, o.store, y.ensures.context, t.context, w.ensures.context) at c.turns.ensures.came in
     u S start k names size st e inside turning
 
@@ -1150,22 +1162,22 @@ send_block-returns-clause-came g m c = λ S start k names size st e l a.
     let f = rw (t.context, t.base, t.left, t.store, w.ensures.context) at y.ensures.came in
     let ends = f (OnReceiver v (text_of S c.args.name) (Some (erase_block c.args.block.now))) c.args.at S start k names size st e under (on _ (given w.result w.new.self.value w.new.self.leave none come) refl) in
     let at_end = ends.1 (sym c.is_left-2.ensures ∙ c.if-is_left-2.false) in
-    let short : w.new.self.base ≤ length w.new.room = omega (arith, w.ensures.base, w.ensures.room, l.room) in
+    let short : w.new.self.base ≤ length w.new.room = still_within w.ensures.base w.ensures.room l.room in
     let from = rw t.base at y.ensures.fits in
     let end = rw t.base at y.ensures.base in
     let edge = from short in
     let last = end (sym c.is_left-2.ensures ∙ c.if-is_left-2.false) in
     let passed = rw t.base at c.passed-args.ensures in
-    let long : w.new.self.base + length c.args.args.now ≤ length y.new.room = omega (arith, edge, last) in
+    let long : w.new.self.base + length c.args.args.now ≤ length y.new.room = up_to_end w.new.self.base _ _ (length c.args.args.now) edge last in
     let values = passed long in
     let number = same_is (builtin_of (text_of S c.args.name)) c.args.method (fst _ _ l.fits) in
     let args = map plain (take (length c.args.args.now) (drop w.new.self.base y.new.room)) in
     let answer = deed c.args.self.now.context.program.now v (text_of S c.args.name) args (Some (length c.args.block.now.params)) in
     let none_own = (rw (y.ensures.context, t.context, w.ensures.context, t.value) at (c.target_of.ensures.none c.in_default.is)) S st in
     let table = answers_block c.args.block.now v (text_of S c.args.name) args c.args.at answer none_own (ap (λ (ns : Program). deed ns v (text_of S c.args.name) args (Some (length c.args.block.now.params))) (sym e)) at_end in
-    let g1 = rw (y.ensures.context, t.context, w.ensures.context, t.value, values, c.len.ensures) at c.in-Err.ensures.gives in
-    let o = c.rounds.ensures in
-    rw (o.left, o.store) (g1 (text_of S c.args.name) S start _ (erase_block c.args.block.now) k (scope_of (me_of c.args.self.now.context.me) names y.new.room) c.args.depth number table)
+    let o = c.iterations.ensures in
+    let said = rw (y.ensures.context, t.context, w.ensures.context, t.value, values, c.len.ensures, c.in-Done.is) at o.opens in
+    rw (o.left, o.store) (said (text_of S c.args.name) number S start _ (erase_block c.args.block.now) k _ c.args.depth table)
 
 pub begin_other-returns-in-Walk-clause-kept : goal.begin_other-returns-in-Walk-clause-kept
 begin_other-returns-in-Walk-clause-kept g m c = λ S names size st e l i p q.
@@ -1313,11 +1325,40 @@ pub begin_update-returns-in-Some-clause-came : goal.begin_update-returns-in-Some
 begin_update-returns-in-Some-clause-came g m c = λ S start k names size st e l a.
     let x = c.in-UpdateLocal in
     let s = sym (ap (λ d. fits S d names size) x.is ∙ fits-update_local S names size x.slot x.field-1 x.op x.value x.field-4) ∙ l.fits in
+    let right : fits S c.get-value.result.now names size ≡ true = rw c.get-value.ensures (snd _ _ s) in
+    let len : length names ≤ length c.args.room.now = omega (arith, l.within, l.below, l.room) in
+    let b = same (begins _ _ k _ _ _ (shows-update_local c.args.code.now x.slot x.field-1 x.op x.value x.field-4 x.is) a) (target_local S x.field-1 x.op (erase x.value) x.field-4 k (scope_of (me_of c.args.self.now.context.me) names c.args.room.now) c.args.depth c.args.self.now.left) in
+    let z : to_z w64 (of_z w64 c.in-Some.n) ≡ c.in-Some.n = search rules in
+    rw z (updates S _ start _ _ k _ names size c.args.depth c.args.self.now.left c.args.room.now c.quick_update.new.room x.slot x.field-1 x.op c.get-value.result.now x.field-4 c.in-Some.n (fst _ _ s) right len c.if-self-gt0.true c.if-depth-lt-MAX_DEPTH.true c.in-Some.ensures.some (rw c.get-value.ensures b))
+
+pub begin_update_over-returns-in-Some-clause-kept : goal.begin_update_over-returns-in-Some-clause-kept
+begin_update_over-returns-in-Some-clause-kept g m c = λ S names size st e l i p q.
+    let x = c.in-UpdateLocal in
+    let s = sym (ap (λ d. fits S d names size) x.is ∙ fits-update_local S names size x.slot x.field-1 x.op x.value x.field-4) ∙ l.fits in
+    let is = c.in-Some.ensures.some in
+    let within = slot_within x.field-1 names x.slot (fst _ _ s) in
+    ap (λ r. slice_get r i) is.7 ∙ get_set c.args.room.now x.slot i _ (λ z. omega (arith, z, within, l.within, p))
+
+pub begin_update_over-returns-in-Some-clause-came : goal.begin_update_over-returns-in-Some-clause-came
+begin_update_over-returns-in-Some-clause-came g m c = λ S start k names size st e l a.
+    let x = c.in-UpdateLocal in
+    let s = sym (ap (λ d. fits S d names size) x.is ∙ fits-update_local S names size x.slot x.field-1 x.op x.value x.field-4) ∙ l.fits in
     let right : fits S c.get.result.now names size ≡ true = rw c.get.ensures (snd _ _ s) in
     let len : length names ≤ length c.args.room.now = omega (arith, l.within, l.below, l.room) in
     let b = same (begins _ _ k _ _ _ (shows-update_local c.args.code.now x.slot x.field-1 x.op x.value x.field-4 x.is) a) (target_local S x.field-1 x.op (erase x.value) x.field-4 k (scope_of (me_of c.args.self.now.context.me) names c.args.room.now) c.args.depth c.args.self.now.left) in
     let z : to_z w64 (of_z w64 c.in-Some.n) ≡ c.in-Some.n = search rules in
-    rw z (updates S _ start _ _ k _ names size c.args.depth c.args.self.now.left c.args.room.now c.quick_update.new.room x.slot x.field-1 x.op c.get.result.now x.field-4 c.in-Some.n (fst _ _ s) right len c.if-self-gt0.true c.if-depth-lt-MAX_DEPTH.true c.in-Some.ensures.some (rw c.get.ensures b))
+    rw z (updates_over S _ start _ _ k _ names size c.args.depth c.args.self.now.left c.args.room.now c.update_over.new.room x.slot x.field-1 x.op c.get.result.now x.field-4 c.in-Some.n (fst _ _ s) right len c.if-self-gt2.true (omega (arith, c.if-depth.true)) c.in-Some.ensures.some (rw c.get.ensures b))
+
+pub begin_update_over-returns-in_default-clause-came : goal.begin_update_over-returns-in_default-clause-came
+begin_update_over-returns-in_default-clause-came g m c = λ S start k names size st e l a.
+    let o = c.over.ensures in
+    rw (o.gives, o.left, o.store) (_, a, begin_left S (out-Node (erase c.args.code.now)) k (scope_of (me_of c.args.self.now.context.me) names c.args.room.now) c.args.depth c.args.self.now.left)
+
+pub begin_update-returns-then-is_operate-clause-kept : goal.begin_update-returns-then-is_operate-clause-kept
+begin_update-returns-then-is_operate-clause-kept g m c = c.begin_update_over.ensures.kept
+
+pub begin_update-returns-then-is_operate-clause-came : goal.begin_update-returns-then-is_operate-clause-came
+begin_update-returns-then-is_operate-clause-came g m c = c.begin_update_over.ensures.came
 
 pub begin_operate-returns-in-Some-clause-came : goal.begin_operate-returns-in-Some-clause-came
 begin_operate-returns-in-Some-clause-came g m c = λ S start k names size st e l a.
@@ -1445,16 +1486,16 @@ operate-returns-in-Int-clause-came g m c = λ S start k names size st e l a.
     let f = rw w.ensures.context at c.operate_integer.ensures.came in
     f c.args.name S start k names size st e under (on _ (on _ g2 refl) refl)
 
-pub operate-returns-in_default-clause-kept : goal.operate-returns-in_default-clause-kept
-operate-returns-in_default-clause-kept g m c = λ S names size st e l i p q.
+pub operate-returns-in-None-clause-kept : goal.operate-returns-in-None-clause-kept
+operate-returns-in-None-clause-kept g m c = λ S names size st e l i p q.
     let w = c.evaluate_call-came in
     let right = two _ (fits S c.args.right.now names size) (fst _ _ l.fits) (snd _ _ (snd _ _ l.fits)) in
     let under = moved _ _ w.ensures.base w.ensures.room (sub (numbered c.args.method c.args.name (λ S. fits S c.args.right.now) S) l right) in
     let f = rw w.ensures.context at c.operate_value.ensures.kept in
     f S names size st e under i p (omega (arith, q, w.ensures.base)) ∙ w.ensures.kept S names size st e (sub (fits S c.args.left.now) l (fst _ _ (snd _ _ l.fits))) i p q
 
-pub operate-returns-in_default-clause-came : goal.operate-returns-in_default-clause-came
-operate-returns-in_default-clause-came g m c = λ S start k names size st e l a.
+pub operate-returns-in-None-clause-came : goal.operate-returns-in-None-clause-came
+operate-returns-in-None-clause-came g m c = λ S start k names size st e l a.
     let w = c.evaluate_call-came in
     let e1 = w.ensures.came S start (Then (ReceiverOf (text_of S c.args.name) (erase c.args.right.now ∷ []) None c.args.at) ∷ k) names size st e (sub (fits S c.args.left.now) l (fst _ _ (snd _ _ l.fits))) a in
     let g1 = given w.result w.new.self.value w.new.self.leave (sym c.is_left.ensures ∙ c.if-is_left.false) e1 in
@@ -1734,26 +1775,44 @@ pub evaluate_call-returns-in-Some-clause-came : goal.evaluate_call-returns-in-So
 evaluate_call-returns-in-Some-clause-came g m c = λ S start k names size st e l a.
     let x = c.in-Operate in
     let s = sym (ap (λ d. fits S d names size) x.is ∙ fits-operate S names size x.method x.field-1 x.left x.right x.at) ∙ l.fits in
-    let first = c.get.result.now in
-    let second = c.get-then-depth.result.now in
-    let fl : fits S first names size ≡ true = rw c.get.ensures (fst _ _ (snd _ _ s)) in
-    let fr : fits S second names size ≡ true = rw c.get-then-depth.ensures (snd _ _ (snd _ _ s)) in
+    let first = c.get-left.result.now in
+    let second = c.get-right.result.now in
+    let fl : fits S first names size ≡ true = rw c.get-left.ensures (fst _ _ (snd _ _ s)) in
+    let fr : fits S second names size ≡ true = rw c.get-right.ensures (snd _ _ (snd _ _ s)) in
     let len : length names ≤ length c.args.room.now = omega (arith, l.within, l.below, l.room) in
     let is = c.in-Some.ensures in
     let o = c.answer.ensures in
     let number = same_is (builtin_of (text_of S x.field-1)) x.method (fst _ _ s) in
     let inside = Under c.args.depth ∷ k in
-    let b = begins _ _ inside _ _ _ (shows-operate c.args.code.now x.method x.field-1 x.left x.right x.at x.is) (counts (omega (arith, c.if-self-gt2.true)) (omega (arith, c.if-depth.true)) a) in
+    let b = begins _ _ inside _ _ _ (shows-operate c.args.code.now x.method x.field-1 x.left x.right x.at x.is) (counts (omega (arith, c.if-self-gt4.true)) (omega (arith, c.if-depth.true)) a) in
     let thrice : c.args.self.now.left - 3 ≡ c.args.self.now.left - 1 - 2 = omega arith in
     rw (o.gives, o.left, o.store, sym (is.4 S.program (text_of S x.field-1) number), thrice)
-    (left S _ start _ _ _ k _ _ _ _ (calls_pair S _ start _ _ inside _ names size (c.args.depth + 1) (c.args.self.now.left - 1) c.args.room.now x.field-1 first second x.at (Int is.0) (Int is.1) _ (none_plain S (Int is.0) (text_of S x.field-1) refl) fl fr len (omega (arith, c.if-self-gt2.true)) (omega (arith, c.if-depth.true)) is.2 is.3 (inl refl) (rw (c.get.ensures, c.get-then-depth.ensures) b)))
+    (left S _ start _ _ _ k _ _ _ _ (calls_pair S _ start _ _ inside _ names size (c.args.depth + 1) (c.args.self.now.left - 1) c.args.room.now x.field-1 first second x.at (Int is.0) (Int is.1) _ (none_plain S (Int is.0) (text_of S x.field-1) refl) fl fr len (omega (arith, c.if-self-gt4.true)) (omega (arith, c.if-depth.true)) is.2 is.3 (inl refl) (rw (c.get-left.ensures, c.get-right.ensures) b)))
+
+pub evaluate_call-returns-in-Some-quick_twice-clause-came : goal.evaluate_call-returns-in-Some-quick_twice-clause-came
+evaluate_call-returns-in-Some-quick_twice-clause-came g m c = λ S start k names size st e l a.
+    let x = c.in-Operate in
+    let s = sym (ap (λ d. fits S d names size) x.is ∙ fits-operate S names size x.method x.field-1 x.left x.right x.at) ∙ l.fits in
+    let first = c.get-left.result.now in
+    let second = c.get-right.result.now in
+    let fl : fits S first names size ≡ true = rw c.get-left.ensures (fst _ _ (snd _ _ s)) in
+    let fr : fits S second names size ≡ true = rw c.get-right.ensures (snd _ _ (snd _ _ s)) in
+    let len : length names ≤ length c.args.room.now = omega (arith, l.within, l.below, l.room) in
+    let is = c.in-Some-quick_twice.ensures in
+    let o = c.answer-in-Some-quick_twice.ensures in
+    let number = same_is (builtin_of (text_of S x.field-1)) x.method (fst _ _ s) in
+    let inside = Under c.args.depth ∷ k in
+    let b = begins _ _ inside _ _ _ (shows-operate c.args.code.now x.method x.field-1 x.left x.right x.at x.is) (counts (omega (arith, c.if-self-gt4.true)) (omega (arith, c.if-depth.true)) a) in
+    let fifth : c.args.self.now.left - 5 ≡ c.args.self.now.left - 1 - 4 = omega arith in
+    rw (o.gives, o.left, o.store, sym (is.4 S.program (text_of S x.field-1) number), fifth)
+    (left S _ start _ _ _ k _ _ _ _ (calls_twice S _ start _ _ inside _ names size (c.args.depth + 1) (c.args.self.now.left - 1) c.args.room.now x.field-1 first second x.at is.0 (Int is.1) _ fl fr len (omega (arith, c.if-self-gt4.true)) (omega (arith, c.if-depth.true)) is.2 is.3 (inl refl) (rw (c.get-left.ensures, c.get-right.ensures) b)))
 
 pub evaluate_call-returns-then-depth-clause-kept : goal.evaluate_call-returns-then-depth-clause-kept
 evaluate_call-returns-then-depth-clause-kept g m c = c.begin_slow_operate.ensures.kept
 
 pub evaluate_call-returns-then-depth-clause-came : goal.evaluate_call-returns-then-depth-clause-came
 evaluate_call-returns-then-depth-clause-came g m c = λ S start k names size st e l a.
-    left S _ start _ _ _ k _ _ _ _ (c.begin_slow_operate.ensures.came S start (Under c.args.depth ∷ k) names size st e l (counts (omega (arith, c.if-self-gt2.true)) (omega (arith, c.if-depth.true)) a))
+    left S _ start _ _ _ k _ _ _ _ (c.begin_slow_operate.ensures.came S start (Under c.args.depth ∷ k) names size st e l (counts (omega (arith, c.if-self-gt4.true)) (omega (arith, c.if-depth.true)) a))
 
 pub evaluate_call-returns-then-depth-lt-MAX_DEPTH-clause-kept : goal.evaluate_call-returns-then-depth-lt-MAX_DEPTH-clause-kept
 evaluate_call-returns-then-depth-lt-MAX_DEPTH-clause-kept g m c = c.begin_function.ensures.kept
@@ -1762,17 +1821,62 @@ pub evaluate_call-returns-then-depth-lt-MAX_DEPTH-clause-came : goal.evaluate_ca
 evaluate_call-returns-then-depth-lt-MAX_DEPTH-clause-came g m c = λ S start k names size st e l a.
     left S _ start _ _ _ k _ _ _ _ (c.begin_function.ensures.came S start (Under c.args.depth ∷ k) names size st e l (counts c.if-self-gt0.true c.if-depth-lt-MAX_DEPTH.true a))
 
-pub evaluate_call-returns-else-self-gt2-clause-kept : goal.evaluate_call-returns-else-self-gt2-clause-kept
-evaluate_call-returns-else-self-gt2-clause-kept g m c = c.walk.ensures.kept
+pub evaluate_call-returns-else-self-gt4-clause-kept : goal.evaluate_call-returns-else-self-gt4-clause-kept
+evaluate_call-returns-else-self-gt4-clause-kept g m c = c.walk.ensures.kept
 
-pub evaluate_call-returns-else-self-gt2-clause-came : goal.evaluate_call-returns-else-self-gt2-clause-came
-evaluate_call-returns-else-self-gt2-clause-came g m c = c.walk.ensures.came
+pub evaluate_call-returns-else-self-gt4-clause-came : goal.evaluate_call-returns-else-self-gt4-clause-came
+evaluate_call-returns-else-self-gt4-clause-came g m c = c.walk.ensures.came
 
 pub evaluate_call-returns-else-self-gt0-clause-kept : goal.evaluate_call-returns-else-self-gt0-clause-kept
 evaluate_call-returns-else-self-gt0-clause-kept g m c = c.walk-in-Function.ensures.kept
 
 pub evaluate_call-returns-else-self-gt0-clause-came : goal.evaluate_call-returns-else-self-gt0-clause-came
 evaluate_call-returns-else-self-gt0-clause-came g m c = c.walk-in-Function.ensures.came
+
+pub evaluate_call-returns-in-Send-clause-kept : goal.evaluate_call-returns-in-Send-clause-kept
+evaluate_call-returns-in-Send-clause-kept g m c = c.evaluate_operand.ensures.kept
+
+pub evaluate_call-returns-in-Send-clause-came : goal.evaluate_call-returns-in-Send-clause-came
+evaluate_call-returns-in-Send-clause-came g m c = c.evaluate_operand.ensures.came
+
+pub evaluate_call-returns-in-Field-clause-kept : goal.evaluate_call-returns-in-Field-clause-kept
+evaluate_call-returns-in-Field-clause-kept g m c = c.evaluate_operand-in-Field.ensures.kept
+
+pub evaluate_call-returns-in-Field-clause-came : goal.evaluate_call-returns-in-Field-clause-came
+evaluate_call-returns-in-Field-clause-came g m c = c.evaluate_operand-in-Field.ensures.came
+
+pub evaluate_call-returns-in-Local-clause-kept : goal.evaluate_call-returns-in-Local-clause-kept
+evaluate_call-returns-in-Local-clause-kept g m c = c.evaluate_operand-in-Local.ensures.kept
+
+pub evaluate_call-returns-in-Local-clause-came : goal.evaluate_call-returns-in-Local-clause-came
+evaluate_call-returns-in-Local-clause-came g m c = c.evaluate_operand-in-Local.ensures.came
+
+pub evaluate_operand-returns-then-depth-lt-MAX_DEPTH-clause-kept : goal.evaluate_operand-returns-then-depth-lt-MAX_DEPTH-clause-kept
+evaluate_operand-returns-then-depth-lt-MAX_DEPTH-clause-kept g m c = c.begin_operand.ensures.kept
+
+pub evaluate_operand-returns-then-depth-lt-MAX_DEPTH-clause-came : goal.evaluate_operand-returns-then-depth-lt-MAX_DEPTH-clause-came
+evaluate_operand-returns-then-depth-lt-MAX_DEPTH-clause-came g m c = λ S start k names size st e l a.
+    left S _ start _ _ _ k _ _ _ _ (c.begin_operand.ensures.came S start (Under c.args.depth ∷ k) names size st e l (counts c.if-self-gt0.true c.if-depth-lt-MAX_DEPTH.true a))
+
+pub begin_operand-returns-in-Field-clause-came : goal.begin_operand-returns-in-Field-clause-came
+begin_operand-returns-in-Field-clause-came g m c = λ S start k names size st e l a.
+    let o = c.field.ensures in
+    rw (o.left, o.log) (o.came S start k _ c.args.depth (begins _ _ k _ _ _ (shows-field c.args.code.now c.in-Field.name c.in-Field.at c.in-Field.is) a))
+
+pub begin_operand-returns-in-Local-clause-came : goal.begin_operand-returns-in-Local-clause-came
+begin_operand-returns-in-Local-clause-came g m c = λ S start k names size st e l a.
+    let x = c.in-Local in
+    let s = sym (ap (λ d. fits S d names size) x.is ∙ fits-local S names size x.slot x.field-1 x.field-2) ∙ l.fits in
+    let len : length names ≤ length c.args.room.now = omega (arith, l.within, l.below, l.room) in
+    let b = begins _ _ k _ _ _ (shows-local c.args.code.now x.slot x.field-1 x.field-2 x.is) a in
+    let r = c.read in
+    rw (r.ensures.left, r.ensures.store) (reads S _ start _ _ k c.args.depth _ x.field-1 names c.args.room.now x.slot _ (outcome r.result r.new.self.value r.new.self.leave) len s r.ensures.gives b)
+
+pub begin_operand-returns-in_default-clause-kept : goal.begin_operand-returns-in_default-clause-kept
+begin_operand-returns-in_default-clause-kept g m c = c.begin_send.ensures.kept
+
+pub begin_operand-returns-in_default-clause-came : goal.begin_operand-returns-in_default-clause-came
+begin_operand-returns-in_default-clause-came g m c = c.begin_send.ensures.came
 
 -- ---- methods of the script
 
@@ -2748,60 +2852,252 @@ print_from-returns-then-is_left-clause-came g m c = λ S start k names st e n b 
     let before = sym (inv.kept slot (omega (arith, c.values-test.true, c.requires.behind))) ∙ found.1 in
     let next = next_value c.args.room.now c.args.first c.args.count loop.index found.0 c.values-test.true before in
     let rest = drop (loop.index + 1) (map plain (take c.args.count (drop c.args.first c.args.room.now))) in
-    let step = WriteBehind (style_of c.args.style) loop.bytes.items rest c.args.at in
-    let asks = asks_next S _ start _ _ (style_of c.args.style) loop.bytes.items _ c.args.at k _ _ _ (plain found.0) rest next (rw found.1 at c.is_lined.ensures) c.if-is_lined.false (inv.came S start k names st e n a) in
-    let t = c.told_at-came in
-    let f = rw (inv.context, inv.base) at (t.ensures.came found.0 found.1) in
-    let come = f S start (Then step ∷ k) names st e (omega (arith, n, c.requires.behind)) (omega (arith, c.requires.behind, c.requires.within, inv.room)) asks in
-    let left = sym c.is_left.ensures ∙ c.if-is_left.true in
-    passes S _ start _ t.result t.new.self.value t.new.self.leave _ step k _ _ _ left (told_passes S _ start _ _ k _ _ _ (Then step) c.args.self.now.context.program.now t.result t.new.self.value t.new.self.leave left come)
+    let writes = writes_next S _ start _ _ (style_of c.args.style) loop.bytes.items _ c.args.at k _ _ _ (plain found.0) rest next (inv.came S start k names st e n a) in
+    let f = rw (inv.context, inv.base) at (c.write_one-came.ensures.came found.0 found.1) in
+    (f S start k names rest st e (omega (arith, n, c.requires.behind)) (omega (arith, c.requires.behind, c.requires.within, inv.room)) writes).0 (sym c.is_left.ensures ∙ c.if-is_left.true)
 
-pub print_from-returns-then-is_lined-clause-came : goal.print_from-returns-then-is_lined-clause-came
-print_from-returns-then-is_lined-clause-came g m c = λ S start k names st e n b a.
-    let o = c.over.ensures in
-    rw (o.gives, o.left, o.store) (_, c.values.invariant.came S start k names st e n a, write_left S (style_of c.args.style) c.values.bytes.items _ c.args.at k _ _ _)
+pub line-returns-in_default-clause-came : goal.line-returns-in_default-clause-came
+line-returns-in_default-clause-came g m c = λ S start k names st e n b a.
+    let y = c.over in
+    let o = y.ensures in
+    rw (o.gives, o.left, o.store) (left_only (is_left y.result) (ends_left y.result y.new.self.value y.new.self.leave ending.Memory o.gives) (_, a, text_left S (plain c.args.value.now) c.args.at (Under c.args.depth ∷ Then (LineOf c.args.draft.now c.args.at) ∷ k) _ _ _))
 
-pub print_from-returns-in-Err-TooLong-clause-came : goal.print_from-returns-in-Err-TooLong-clause-came
-print_from-returns-in-Err-TooLong-clause-came g m c = λ S start k names st e n b a.
-    let loop = c.values in
-    let inv = loop.invariant in
-    let slot = c.args.first + loop.index in
-    let within : slot < length loop.room = omega (arith, c.values-test.true, c.requires.within, inv.room) in
-    let found = there loop.room slot within in
-    let before = sym (inv.kept slot (omega (arith, c.values-test.true, c.requires.behind))) ∙ found.1 in
-    let next = next_value c.args.room.now c.args.first c.args.count loop.index found.0 c.values-test.true before in
-    let rest = drop (loop.index + 1) (map plain (take c.args.count (drop c.args.first c.args.room.now))) in
-    let step = WriteBehind (style_of c.args.style) loop.bytes.items rest c.args.at in
-    let asks = asks_next S _ start _ _ (style_of c.args.style) loop.bytes.items _ c.args.at k _ _ _ (plain found.0) rest next (rw found.1 at c.is_lined.ensures) c.if-is_lined.false (inv.came S start k names st e n a) in
-    let t = c.told_at-came in
-    let f = rw (inv.context, inv.base) at (t.ensures.came found.0 found.1) in
-    let come = f S start (Then step ∷ k) names st e (omega (arith, n, c.requires.behind)) (omega (arith, c.requires.behind, c.requires.within, inv.room)) asks in
+pub line-returns-in_default-clause-work : goal.line-returns-in_default-clause-work
+line-returns-in_default-clause-work g m c = λ q.
+    let y = c.over in
+    let z = ends_left y.result y.new.self.value y.new.self.leave ending.Memory y.ensures.gives in
+    absurd (cc)
+
+pub line-returns-then-is_left-clause-came : goal.line-returns-then-is_left-clause-came
+line-returns-then-is_left-clause-came g m c = λ S start k names st e n b a.
+    let r = c.read_shared-shared in
+    let gone = sym c.is_left.ensures ∙ c.if-is_left.true in
+    let left = copy_left r.result r.new.self.value r.new.self.leave _ gone r.ensures.gives in
+    rw (left, r.ensures.left, r.ensures.store) (left_only (is_left r.result) gone (_, a, text_left S (plain c.args.value.now) c.args.at (Under c.args.depth ∷ Then (LineOf c.args.draft.now c.args.at) ∷ k) _ _ _))
+
+pub line-returns-then-is_left-clause-work : goal.line-returns-then-is_left-clause-work
+line-returns-then-is_left-clause-work g m c = λ q.
+    let gone = sym c.is_left.ensures ∙ c.if-is_left.true in
+    absurd (never (is_left c.read_shared-shared.result) gone q)
+
+pub line-returns-then-is_left-2-clause-came : goal.line-returns-then-is_left-2-clause-came
+line-returns-then-is_left-2-clause-came g m c = λ S start k names st e n b a.
+    let r = c.read_shared-shared in
+    let copy = copy_came r.result r.new.self.value r.new.self.leave _ (sym c.is_left.ensures ∙ c.if-is_left.false) r.ensures.gives in
+    let inside = rw c.depth.ensures at c.in-Some.ensures in
+    let t = c.told-came in
+    let f = rw (r.ensures.context, r.ensures.base, r.ensures.left, r.ensures.store, copy, inside) at t.ensures.came in
+    let come = f S start (Under c.args.depth ∷ Then (LineOf c.args.draft.now c.args.at) ∷ k) names st e n b a in
+    let gone = sym c.is_left-2.ensures ∙ c.if-is_left-2.true in
+    left_only (is_left t.result) gone (line_passes S _ start _ _ c.args.draft.now c.args.at k _ _ _ _ c.args.self.now.context.program.now t.result t.new.self.value t.new.self.leave gone come)
+
+pub line-returns-then-is_left-2-clause-work : goal.line-returns-then-is_left-2-clause-work
+line-returns-then-is_left-2-clause-work g m c = λ q.
+    let gone = sym c.is_left-2.ensures ∙ c.if-is_left-2.true in
+    absurd (never (is_left c.told-came.result) gone q)
+
+pub line-returns-clause-came : goal.line-returns-clause-came
+line-returns-clause-came g m c = λ S start k names st e n b a.
+    let r = c.read_shared-shared in
+    let copy = copy_came r.result r.new.self.value r.new.self.leave _ (sym c.is_left.ensures ∙ c.if-is_left.false) r.ensures.gives in
+    let inside = rw c.depth.ensures at c.in-Some.ensures in
+    let t = c.told-came in
+    let f = rw (r.ensures.context, r.ensures.base, r.ensures.left, r.ensures.store, copy, inside) at t.ensures.came in
+    let come = f S start (Under c.args.depth ∷ Then (LineOf c.args.draft.now c.args.at) ∷ k) names st e n b a in
+    let came = sym c.is_left-2.ensures ∙ c.if-is_left-2.false in
+    let joins = told_line S _ start _ _ c.args.draft.now c.args.at k _ _ _ _ c.args.self.now.context.program.now t.result t.new.self.value t.new.self.leave came come in
+    let y = c.add_line.ensures in
+    let g1 = rw (t.ensures.context, r.ensures.context) at y.came in
+    rw (y.left, y.store) (g1 S start k _ _ joins)
+
+pub line-returns-clause-work : goal.line-returns-clause-work
+line-returns-clause-work g m c = c.add_line.ensures.work
+
+pub advance_line-returns-in-Text-clause-came : goal.advance_line-returns-in-Text-clause-came
+advance_line-returns-in-Text-clause-came g m c = λ t S start k names st e n b w a.
+    let asked = rw c.in-Text.is at w in
+    c.line.ensures.came S start k names st e n b (text_asked S _ start _ _ c.args.self.now.context.program.now t c.args.at k (scope_of (me_of c.args.self.now.context.me) names c.args.room.now) _ _ e (plain c.in-Text.value) c.args.draft.now asked a)
+
+pub advance_line-returns-in-Text-clause-shortens : goal.advance_line-returns-in-Text-clause-shortens
+advance_line-returns-in-Text-clause-shortens g m c = λ t w q.
+    let asked = rw c.in-Text.is at w in
+    let f = asks_less c.args.self.now.context.program.now t _ (plain c.in-Text.value) asked in
+    let y = c.line.ensures.work q in
+    let l = c.line.ensures.less in
+    omega (arith, f, y, l)
+
+pub advance_line-returns-in_default-clause-came : goal.advance_line-returns-in_default-clause-came
+advance_line-returns-in_default-clause-came g m c = λ t S start k names st e n b w a.
+    let y = c.advance.ensures in
+    rw y.log (y.came t S start k (scope_of (me_of c.args.self.now.context.me) names c.args.room.now) e w a)
+
+pub advance_line-returns-in_default-clause-shortens : goal.advance_line-returns-in_default-clause-shortens
+advance_line-returns-in_default-clause-shortens g m c = c.advance.ensures.shortens
+
+pub lines-text-init : goal.lines-text-init
+lines-text-init g m c = record {
+  base = refl;
+  context = refl;
+  room = refl;
+  less = omega arith;
+  unended = c.requires.unended;
+  kept = λ i q. refl;
+  came = λ S start k names st e n b a. rw c.new-draft.ensures a;
+}
+
+pub lines-text-preserved : goal.lines-text-preserved
+lines-text-preserved g m c =
+    let inv = c.text.invariant in
+    let y = c.advance_line-came.ensures in
+    record {
+      base = y.base ∙ inv.base;
+      context = y.context ∙ inv.context;
+      room = y.room ∙ inv.room;
+      less = omega (arith, y.less, inv.less);
+      unended = y.unended;
+      kept = λ i q. y.kept i (omega (arith, q, inv.base)) ∙ inv.kept i q;
+      came = λ S start k names st e n b a.
+          let f = rw (inv.context, inv.base) at y.came in
+          let w = rw inv.context at c.in-Ok.ensures.wants in
+          (f _ S start k names st e n (omega (arith, b, inv.room)) w (inv.came S start k names st e n b a)).1 (sym c.is_left.ensures ∙ c.if-is_left.false);
+    }
+
+pub lines-text-preserved-else-is_left : goal.lines-text-preserved-else-is_left
+lines-text-preserved-else-is_left g m c =
+    let inv = c.text.invariant in
+    let y = c.advance_line-came.ensures in
+    record {
+      base = y.base ∙ inv.base;
+      context = y.context ∙ inv.context;
+      room = y.room ∙ inv.room;
+      less = omega (arith, y.less, inv.less);
+      unended = y.unended;
+      kept = λ i q. y.kept i (omega (arith, q, inv.base)) ∙ inv.kept i q;
+      came = λ S start k names st e n b a.
+          let f = rw (inv.context, inv.base) at y.came in
+          let w = rw inv.context at c.in-Ok.ensures.wants in
+          (f _ S start k names st e n (omega (arith, b, inv.room)) w (inv.came S start k names st e n b a)).1 (sym c.is_left.ensures ∙ c.if-is_left.false);
+    }
+
+pub lines-text-preserved-else-is_left-2 : goal.lines-text-preserved-else-is_left-2
+lines-text-preserved-else-is_left-2 g m c =
+    let inv = c.text.invariant in
+    let y = c.advance_line-came.ensures in
+    record {
+      base = y.base ∙ inv.base;
+      context = y.context ∙ inv.context;
+      room = y.room ∙ inv.room;
+      less = omega (arith, y.less, inv.less);
+      unended = y.unended;
+      kept = λ i q. y.kept i (omega (arith, q, inv.base)) ∙ inv.kept i q;
+      came = λ S start k names st e n b a.
+          let f = rw (inv.context, inv.base) at y.came in
+          let w = rw inv.context at c.in-Ok.ensures.wants in
+          (f _ S start k names st e n (omega (arith, b, inv.room)) w (inv.came S start k names st e n b a)).1 (sym c.is_left.ensures ∙ c.if-is_left.false);
+    }
+
+pub lines-text-smaller : goal.lines-text-smaller
+lines-text-smaller g m c = c.advance_line-came.ensures.shortens _ c.in-Ok.ensures.wants (sym c.is_left.ensures ∙ c.if-is_left.false)
+
+pub lines-returns-in-Err-clause-came : goal.lines-returns-in-Err-clause-came
+lines-returns-in-Err-clause-came g m c = λ S start k names st e n b a.
+    let inv = c.text.invariant in
+    let o = c.end_text.ensures in
+    let long = rw inv.context at c.in-Err.ensures.too_long in
+    rw (o.gives, o.left, o.store)
+    (text_ends S _ start _ _ c.args.self.now.context.program.now c.text.draft c.args.at k _ c.args.depth _ e c.in-Err.fault (λ q. long (ap Err q)) (inv.came S start k names st e n b a))
+
+pub lines-returns-in-Err-clause-text : goal.lines-returns-in-Err-clause-text
+lines-returns-in-Err-clause-text g m c = end_told c.args.self.now.context.program.now c.in-Err.fault c.args.at _ c.end_text.ensures.gives
+
+pub lines-returns-then-is_finished-clause-came : goal.lines-returns-then-is_finished-clause-came
+lines-returns-then-is_finished-clause-came g m c = λ S start k names st e n b a.
+    let inv = c.text.invariant in
+    let o = c.give_bytes.ensures in
+    let w = rw (finished_is c.in-Ok.want (sym c.is_finished.ensures ∙ c.if-is_finished.true), inv.context) at c.in-Ok.ensures.wants in
+    let m = rw c.into_bytes.ensures at o.gives in
+    rw (o.left, o.store) (text_given S _ start _ _ c.args.self.now.context.program.now c.text.draft c.args.at k _ c.args.depth _ e _ _ w.0 m (inv.came S start k names st e n b a))
+
+pub lines-returns-then-is_finished-clause-text : goal.lines-returns-then-is_finished-clause-text
+lines-returns-then-is_finished-clause-text g m c = bytes_told c.args.self.now.context.program.now _ _ c.give_bytes.ensures.gives
+
+pub lines-returns-then-is_left-clause-came : goal.lines-returns-then-is_left-clause-came
+lines-returns-then-is_left-clause-came g m c = λ S start k names st e n b a.
+    let inv = c.text.invariant in
+    let y = c.advance_line-came.ensures in
+    let f = rw (inv.context, inv.base) at y.came in
+    let w = rw inv.context at c.in-Ok.ensures.wants in
+    (f _ S start k names st e n (omega (arith, b, inv.room)) w (inv.came S start k names st e n b a)).0 (sym c.is_left.ensures ∙ c.if-is_left.true)
+
+pub lines-returns-then-is_left-clause-text : goal.lines-returns-then-is_left-clause-text
+lines-returns-then-is_left-clause-text g m c = let y = c.advance_line-came in told_left c.args.self.now.context.program.now y.result y.new.self.value y.new.self.leave (sym c.is_left.ensures ∙ c.if-is_left.true)
+
+pub write_array-returns-then-is_left-clause-came : goal.write_array-returns-then-is_left-clause-came
+write_array-returns-then-is_left-clause-came g m c = λ S start k names vs st e n b a.
+    let step = LinesBehind c.args.bytes.now.items vs c.args.at in
+    let y = c.lines-came in
+    let gone = sym c.is_left.ensures ∙ c.if-is_left.true in
+    let come = y.ensures.came S start (Then step ∷ k) names st e n b a in
+    left_only (is_left y.result) gone (passes S _ start _ y.result y.new.self.value y.new.self.leave _ step k _ _ _ gone come)
+
+pub write_array-returns-then-is_left-clause-fits : goal.write_array-returns-then-is_left-clause-fits
+write_array-returns-then-is_left-clause-fits g m c = λ q. absurd (never (is_left c.lines-came.result) (sym c.is_left.ensures ∙ c.if-is_left.true) q)
+
+pub write_array-returns-clause-came : goal.write_array-returns-clause-came
+write_array-returns-clause-came g m c = λ S start k names vs st e n b a.
+    let step = LinesBehind c.args.bytes.now.items vs c.args.at in
+    let y = c.lines-came in
     let came = sym c.is_left.ensures ∙ c.if-is_left.false in
-    let writes = told_writes S _ start _ _ (style_of c.args.style) loop.bytes.items rest c.args.at k _ _ _ c.args.self.now.context.program.now t.result t.new.self.value t.new.self.leave came come in
-    let v = c.take-value.ensures in
-    let said = rw (v.context, t.ensures.context, inv.context, v.value) at (rw c.in-Err-TooLong.field-0-is at c.in-Err-TooLong.ensures.too_long) in
-    let o = c.raise.ensures in
-    rw (o.gives, o.left, o.store, v.left, v.store) (same writes (behind_long S (style_of c.args.style) loop.bytes.items _ rest c.args.at k _ _ _ (said refl)))
+    let come = y.ensures.came S start (Then step ∷ k) names st e n b a in
+    let writes = lines_told S _ start _ _ c.args.bytes.now.items vs c.args.at k _ _ _ c.args.self.now.context.program.now y.result y.new.self.value y.new.self.leave came y.ensures.text come in
+    let o = c.add_came.ensures in
+    let f = rw y.ensures.context at o.came in
+    let sc = scope_of (me_of c.args.self.now.context.me) names y.new.room in
+    rw (o.left, o.store) (f S start k sc c.args.depth (λ bytes. write S Lines bytes vs c.args.at k sc c.args.depth y.new.self.left) (λ bytes. write_left S Lines bytes vs c.args.at k sc c.args.depth y.new.self.left) writes)
 
-pub print_from-returns-in-Err-Memory-clause-came : goal.print_from-returns-in-Err-Memory-clause-came
-print_from-returns-in-Err-Memory-clause-came g m c = λ S start k names st e n b a.
-    let loop = c.values in
-    let inv = loop.invariant in
-    let slot = c.args.first + loop.index in
-    let within : slot < length loop.room = omega (arith, c.values-test.true, c.requires.within, inv.room) in
-    let found = there loop.room slot within in
-    let before = sym (inv.kept slot (omega (arith, c.values-test.true, c.requires.behind))) ∙ found.1 in
-    let next = next_value c.args.room.now c.args.first c.args.count loop.index found.0 c.values-test.true before in
-    let rest = drop (loop.index + 1) (map plain (take c.args.count (drop c.args.first c.args.room.now))) in
-    let step = WriteBehind (style_of c.args.style) loop.bytes.items rest c.args.at in
-    let asks = asks_next S _ start _ _ (style_of c.args.style) loop.bytes.items _ c.args.at k _ _ _ (plain found.0) rest next (rw found.1 at c.is_lined.ensures) c.if-is_lined.false (inv.came S start k names st e n a) in
+pub write_array-returns-clause-fits : goal.write_array-returns-clause-fits
+write_array-returns-clause-fits g m c = c.add_came.ensures.fits
+
+pub write_one-returns-in-Some-clause-came : goal.write_one-returns-in-Some-clause-came
+write_one-returns-in-Some-clause-came g m c = λ v there S start k names vs st e n b a.
+    let is = rw there at c.in-Some.ensures.some in
+    let y = c.write_array in
+    let lined = same a (is.1 S c.args.bytes.now.items vs c.args.at k _ _ _) in
+    in_style S _ start _ _ (style_of c.args.style) y.new.bytes.items vs c.args.at k (scope_of (me_of c.args.self.now.context.me) names y.new.room) c.args.depth y.new.self.left is.0 (y.ensures.came S start k names vs st e n b lined)
+
+pub write_one-returns-in-Some-clause-fits : goal.write_one-returns-in-Some-clause-fits
+write_one-returns-in-Some-clause-fits g m c = c.write_array.ensures.fits
+
+pub write_one-returns-then-is_left-clause-came : goal.write_one-returns-then-is_left-clause-came
+write_one-returns-then-is_left-clause-came g m c = λ v there S start k names vs st e n b a.
+    let none = rw there at (c.in_default.ensures.none refl) in
+    let step = WriteBehind (style_of c.args.style) c.args.bytes.now.items vs c.args.at in
+    let asks = same a (none S c.args.bytes.now.items vs c.args.at k _ _ _) in
     let t = c.told_at-came in
-    let f = rw (inv.context, inv.base) at (t.ensures.came found.0 found.1) in
-    let come = f S start (Then step ∷ k) names st e (omega (arith, n, c.requires.behind)) (omega (arith, c.requires.behind, c.requires.within, inv.room)) asks in
-    let gives = told_gives S _ start _ _ (Then step ∷ k) _ _ _ c.args.self.now.context.program.now t.result t.new.self.value t.new.self.leave (sym c.is_left.ensures ∙ c.if-is_left.false) come in
-    let v = c.take-value.ensures in
-    let o = c.over-in-Err-Memory.ensures in
-    rw (o.gives, o.left, o.store, v.left, v.store) (_, gives, refl)
+    let come = t.ensures.came v there S start (Then step ∷ k) names st e n b asks in
+    let gone = sym c.is_left.ensures ∙ c.if-is_left.true in
+    left_only (is_left t.result) gone (passes S _ start _ t.result t.new.self.value t.new.self.leave _ step k _ _ _ gone (told_passes S _ start _ _ k _ _ _ (Then step) c.args.self.now.context.program.now t.result t.new.self.value t.new.self.leave gone come))
+
+pub write_one-returns-then-is_left-clause-fits : goal.write_one-returns-then-is_left-clause-fits
+write_one-returns-then-is_left-clause-fits g m c = λ q. absurd (never (is_left c.told_at-came.result) (sym c.is_left.ensures ∙ c.if-is_left.true) q)
+
+pub write_one-returns-clause-came : goal.write_one-returns-clause-came
+write_one-returns-clause-came g m c = λ v there S start k names vs st e n b a.
+    let none = rw there at (c.in_default.ensures.none refl) in
+    let style = style_of c.args.style in
+    let step = WriteBehind style c.args.bytes.now.items vs c.args.at in
+    let asks = same a (none S c.args.bytes.now.items vs c.args.at k _ _ _) in
+    let t = c.told_at-came in
+    let come = t.ensures.came v there S start (Then step ∷ k) names st e n b asks in
+    let came = sym c.is_left.ensures ∙ c.if-is_left.false in
+    let writes = told_writes S _ start _ _ style c.args.bytes.now.items vs c.args.at k _ _ _ c.args.self.now.context.program.now t.result t.new.self.value t.new.self.leave came come in
+    let o = c.add_came.ensures in
+    let f = rw t.ensures.context at o.came in
+    let sc = scope_of (me_of c.args.self.now.context.me) names t.new.room in
+    rw (o.left, o.store) (f S start k sc c.args.depth (λ bytes. write S style bytes vs c.args.at k sc c.args.depth t.new.self.left) (λ bytes. write_left S style bytes vs c.args.at k sc c.args.depth t.new.self.left) writes)
+
+pub write_one-returns-clause-fits : goal.write_one-returns-clause-fits
+write_one-returns-clause-fits g m c = c.add_came.ensures.fits
 
 pub print_from-returns-then-is_left-2-clause-came : goal.print_from-returns-then-is_left-2-clause-came
 print_from-returns-then-is_left-2-clause-came g m c = λ S start k names st e n b a.
@@ -2913,36 +3209,28 @@ print-returns-clause-came g m c = λ S start k names size st e l a.
 
 pub print_from-values-preserved : goal.print_from-values-preserved
 print_from-values-preserved g m c =
-    let inv0 = c.values.invariant in
-    let y = c.told_at-came.ensures in
-    let v = c.take-value.ensures in
+    let inv = c.values.invariant in
+    let y = c.write_one-came.ensures in
+    let going = sym c.is_left.ensures ∙ c.if-is_left.false in
     record {
-      base = v.base ∙ (y.base ∙ inv0.base);
-      context = v.context ∙ (y.context ∙ inv0.context);
-      room = y.room ∙ inv0.room;
-      less = omega (arith, v.left, y.less, inv0.less);
-      unended = rw v.store y.unended;
-      fits = c.in-Ok.ensures.fits;
-      kept = λ i q. y.kept i (omega (arith, q, inv0.base)) ∙ inv0.kept i q;
+      base = y.base ∙ inv.base;
+      context = y.context ∙ inv.context;
+      room = y.room ∙ inv.room;
+      less = omega (arith, y.less, inv.less);
+      unended = y.unended;
+      fits = y.fits going;
+      kept = λ i q. y.kept i (omega (arith, q, inv.base)) ∙ inv.kept i q;
       came = λ S start k names st e n a.
           let loop = c.values in
-          let inv = loop.invariant in
           let slot = c.args.first + loop.index in
           let within : slot < length loop.room = omega (arith, c.values-test.true, c.requires.within, inv.room) in
           let found = there loop.room slot within in
           let before = sym (inv.kept slot (omega (arith, c.values-test.true, c.requires.behind))) ∙ found.1 in
           let next = next_value c.args.room.now c.args.first c.args.count loop.index found.0 c.values-test.true before in
           let rest = drop (loop.index + 1) (map plain (take c.args.count (drop c.args.first c.args.room.now))) in
-          let step = WriteBehind (style_of c.args.style) loop.bytes.items rest c.args.at in
-          let asks = asks_next S _ start _ _ (style_of c.args.style) loop.bytes.items _ c.args.at k _ _ _ (plain found.0) rest next (rw found.1 at c.is_lined.ensures) c.if-is_lined.false (inv.came S start k names st e n a) in
-          let t = c.told_at-came in
-          let f = rw (inv.context, inv.base) at (t.ensures.came found.0 found.1) in
-          let come = f S start (Then step ∷ k) names st e (omega (arith, n, c.requires.behind)) (omega (arith, c.requires.behind, c.requires.within, inv.room)) asks in
-          let came = sym c.is_left.ensures ∙ c.if-is_left.false in
-          let writes = told_writes S _ start _ _ (style_of c.args.style) loop.bytes.items rest c.args.at k _ _ _ c.args.self.now.context.program.now t.result t.new.self.value t.new.self.leave came come in
-          let said = rw (v.context, t.ensures.context, inv.context, v.value) at c.in-Ok.ensures.text in
-          let short = rw said at c.in-Ok.ensures.fits in
-          rw (v.left, v.store, said) (same writes (behind_fits S (style_of c.args.style) loop.bytes.items _ rest c.args.at k _ _ _ short));
+          let writes = writes_next S _ start _ _ (style_of c.args.style) loop.bytes.items _ c.args.at k _ _ _ (plain found.0) rest next (inv.came S start k names st e n a) in
+          let f = rw (inv.context, inv.base) at (y.came found.0 found.1) in
+          (f S start k names rest st e (omega (arith, n, c.requires.behind)) (omega (arith, c.requires.behind, c.requires.within, inv.room)) writes).1 going;
     }
 
 pub print_from-values-init : goal.print_from-values-init
@@ -3450,3 +3738,511 @@ update_element-returns-clause-came g m c = λ S start k names size st e l a.
     let last = moved _ _ all (u.ensures.room ∙ w.ensures.room) (sub (fits S c.args.value.now) l (snd _ _ (snd _ _ l.fits))) in
     let h1 = rw (r.ensures.context, y.ensures.context, u.ensures.context, t.ensures.context, w.ensures.context, t.ensures.value, y.ensures.value, r.ensures.log, y.ensures.store) at c.update_at.ensures.came in
     h1 S start k names size st e last g3
+
+-- Iterations over arrays and hashes.
+
+pub iteration-returns-then-self-eq0-clause-counted : goal.iteration-returns-then-self-eq0-clause-counted
+iteration-returns-then-self-eq0-clause-counted g m c = λ f. absurd (over_stops _ _ c.over.ensures.gives f)
+
+pub iteration-returns-then-self-eq0-clause-came : goal.iteration-returns-then-self-eq0-clause-came
+iteration-returns-then-self-eq0-clause-came g m c = λ later S start k names size st e l a.
+    let o = c.over.ensures in
+    rw (o.gives, o.left, o.store) (λ f. absurd (cc), λ f. no_step later _ _ k _ _ _ c.if-self-eq0.true a)
+
+pub iteration-returns-then-room-from-clause-counted : goal.iteration-returns-then-room-from-clause-counted
+iteration-returns-then-room-from-clause-counted g m c = λ f. absurd (over_stops _ _ c.over-then-room-from.ensures.gives f)
+
+pub iteration-returns-then-room-from-clause-came : goal.iteration-returns-then-room-from-clause-came
+iteration-returns-then-room-from-clause-came g m c = λ later S start k names size st e l a.
+    let o = c.over-then-room-from.ensures in
+    rw (o.gives, o.left, o.store) (λ f. absurd (cc), λ f. (_, a, start_left S later _ (erase_block c.args.block.now) k _ _ _))
+
+pub iteration-returns-clause-counted : goal.iteration-returns-clause-counted
+iteration-returns-clause-counted g m c = λ f. omega (arith, c.if-self-eq0.false, c.body.ensures.less)
+
+pub iteration-returns-clause-kept : goal.iteration-returns-clause-kept
+iteration-returns-clause-kept g m c = λ S names size st e l i p q.
+    let block = c.args.block.now in
+    let within = deeper S block (moved _ _ refl c.open_block.ensures.room l) in
+    let edge = ends_within S block l in
+    let f = rw c.as_slice.ensures at c.body.ensures.kept in
+    f S (names ++ S.block_names block.at) size st e within i p q ∙ c.open_block.ensures.above i (omega (arith, p, edge))
+
+pub iteration-returns-clause-came : goal.iteration-returns-clause-came
+iteration-returns-clause-came g m c = λ later S start k names size st e l a.
+    let block = c.args.block.now in
+    let own = S.block_names block.at in
+    let some : 0 < c.args.self.now.left = omega (arith, c.if-self-eq0.false) in
+    let slots = rw c.len-takes.ensures at c.open_block.ensures.within in
+    let t = iteration_opens block c.args.room.now c.open_block.new.room (plain c.args.first ∷ plain c.args.second ∷ []) later l c.open_block.ensures.room some c.open_block.ensures.below slots a in
+    let within = deeper S block (moved _ _ refl c.open_block.ensures.room l) in
+    let f = rw c.as_slice.ensures at c.body.ensures.came in
+    let come = f S start (Turn later (erase_block block) (length names) ∷ k) (names ++ own) size st e within t in
+    let long : length names ≤ length c.body.new.room = omega (arith, l.within, l.below, l.room, c.body.ensures.room, c.open_block.ensures.room) in
+    (λ go. iteration_goes S _ start _ _ _ later (erase_block block) k _ names own _ _ _ long go come, λ stop. closes_out S _ start _ _ _ later (erase_block block) k _ names own _ _ _ long stop come)
+
+pub walk_elements-returns-in_default-clause-kept : goal.walk_elements-returns-in_default-clause-kept
+walk_elements-returns-in_default-clause-kept g m c = λ S names size st e l i p q. c.elements.invariant.kept S names size st e l i p q
+
+pub walk_elements-returns-then-is_left-clause-kept : goal.walk_elements-returns-then-is_left-clause-kept
+walk_elements-returns-then-is_left-clause-kept g m c = λ S names size st e l i p q. c.elements.invariant.kept S names size st e l i p q
+
+pub walk_elements-returns-in_default-held-clause-kept : goal.walk_elements-returns-in_default-held-clause-kept
+walk_elements-returns-in_default-held-clause-kept g m c = λ S names size st e l i p q. c.elements.invariant.kept S names size st e l i p q
+
+pub walk_elements-returns-in_default-clause-came : goal.walk_elements-returns-in_default-clause-came
+walk_elements-returns-in_default-clause-came g m c = λ S start k names size st e l a.
+    let inv = c.elements.invariant in
+    let i = inv.came S start k names size st e l a in
+    let made = map plain c.elements.made.items in
+    let block = erase_block c.args.block.now in
+    let y = c.next_element.ensures in
+    let none = rw inv.context at c.next_element.ensures.none in
+    let ends = none c.in_default.is (walking c.args.pass made i.0) block S start k _ _ i.1 in
+    let z = c.finish.ensures in
+    let f = rw (y.context, inv.context, y.left, y.log) at z.came in
+    rw (z.left, y.left) (f i.0 c.args.depth S start k _ e ends)
+
+pub walk_elements-returns-then-is_left-clause-came : goal.walk_elements-returns-then-is_left-clause-came
+walk_elements-returns-then-is_left-clause-came g m c = λ S start k names size st e l a.
+    let inv = c.elements.invariant in
+    let i = inv.came S start k names size st e l a in
+    let made = map plain c.elements.made.items in
+    let block = erase_block c.args.block.now in
+    let y = c.next_element.ensures in
+    let found = rw inv.context at c.in-Some.ensures.some in
+    let s = found (walking c.args.pass made i.0) block S start k _ _ i.1 in
+    rw (y.left, y.log) (s.0 (sym c.is_left.ensures ∙ c.if-is_left.true))
+
+pub walk_elements-returns-in_default-held-clause-came : goal.walk_elements-returns-in_default-held-clause-came
+walk_elements-returns-in_default-held-clause-came g m c = λ S start k names size st e l a.
+    let inv = c.elements.invariant in
+    let i = inv.came S start k names size st e l a in
+    let made = map plain c.elements.made.items in
+    let block = erase_block c.args.block.now in
+    let y = c.next_element.ensures in
+    let found = rw inv.context at c.in-Some.ensures.some in
+    let s = found (walking c.args.pass made i.0) block S start k _ _ i.1 in
+    let t = c.take-element.ensures in
+    let none = sym c.is_left.ensures ∙ c.if-is_left.false in
+    let next = c.next_element.new.self in
+    let v = value_of c.in-Some.found next.value in
+    let gives = given c.in-Some.found next.value next.leave none (s.1 none) in
+    let o = c.over.ensures in
+    rw (o.left, o.store, t.left, t.store, y.left, y.log) (cut S _ start _ _ _ k _ _ _ _ o.gives gives refl)
+
+pub walk_elements-returns-then-not-goes_on-clause-kept : goal.walk_elements-returns-then-not-goes_on-clause-kept
+walk_elements-returns-then-not-goes_on-clause-kept g m c = λ S names size st e l i p q.
+    let inv = c.elements.invariant in
+    let y = c.next_element.ensures in
+    let t = c.take-element.ensures in
+    let base : c.take-element.new.self.base ≡ c.args.self.now.base = t.base ∙ (y.base ∙ inv.base) in
+    let f = rw (t.context, y.context, inv.context) at c.iteration-came.ensures.kept in
+    f S names size st e (moved _ _ base inv.room l) i p (omega (arith, q, base)) ∙ inv.kept S names size st e l i p q
+
+pub walk_elements-returns-then-not-goes_on-clause-came : goal.walk_elements-returns-then-not-goes_on-clause-came
+walk_elements-returns-then-not-goes_on-clause-came g m c = λ S start k names size st e l a.
+    let inv = c.elements.invariant in
+    let i = inv.came S start k names size st e l a in
+    let made = map plain c.elements.made.items in
+    let block = erase_block c.args.block.now in
+    let y = c.next_element.ensures in
+    let found = rw inv.context at c.in-Some.ensures.some in
+    let s = found (walking c.args.pass made i.0) block S start k _ _ i.1 in
+    let t = c.take-element.ensures in
+    let none = sym c.is_left.ensures ∙ c.if-is_left.false in
+    let next = c.next_element.new.self in
+    let v = value_of c.in-Some.found next.value in
+    let gives = given c.in-Some.found next.value next.leave none (s.1 none) in
+    let base : c.take-element.new.self.base ≡ c.args.self.now.base = t.base ∙ (y.base ∙ inv.base) in
+    let later = Walking (thing_of c.args.array) (suc c.elements.next) (holding v (walking c.args.pass made i.0)) c.args.at in
+    let f = rw (t.context, y.context, inv.context, t.left, y.left, t.store, y.log, t.value, c.second_value.ensures) at c.iteration-came.ensures.came in
+    let r = f later S start k names size st e (moved _ _ base inv.room l) (element_begins c.args.pass made i.0 v gives) in
+    let stop = sym c.goes_on.ensures ∙ c.if-not-goes_on.true in
+    rw (c.out_of_loop.ensures stop) (r.1 stop)
+
+pub walk_elements-returns-in-Err-clause-kept : goal.walk_elements-returns-in-Err-clause-kept
+walk_elements-returns-in-Err-clause-kept g m c = λ S names size st e l i p q.
+    let inv = c.elements.invariant in
+    let y = c.next_element.ensures in
+    let t = c.take-element.ensures in
+    let base : c.take-element.new.self.base ≡ c.args.self.now.base = t.base ∙ (y.base ∙ inv.base) in
+    let f = rw (t.context, y.context, inv.context) at c.iteration-came.ensures.kept in
+    f S names size st e (moved _ _ base inv.room l) i p (omega (arith, q, base)) ∙ inv.kept S names size st e l i p q
+
+pub walk_elements-returns-in-Err-clause-came : goal.walk_elements-returns-in-Err-clause-came
+walk_elements-returns-in-Err-clause-came g m c = λ S start k names size st e l a.
+    let inv = c.elements.invariant in
+    let i = inv.came S start k names size st e l a in
+    let made = map plain c.elements.made.items in
+    let block = erase_block c.args.block.now in
+    let y = c.next_element.ensures in
+    let found = rw inv.context at c.in-Some.ensures.some in
+    let s = found (walking c.args.pass made i.0) block S start k _ _ i.1 in
+    let t = c.take-element.ensures in
+    let none = sym c.is_left.ensures ∙ c.if-is_left.false in
+    let next = c.next_element.new.self in
+    let v = value_of c.in-Some.found next.value in
+    let gives = given c.in-Some.found next.value next.leave none (s.1 none) in
+    let base : c.take-element.new.self.base ≡ c.args.self.now.base = t.base ∙ (y.base ∙ inv.base) in
+    let later = Walking (thing_of c.args.array) (suc c.elements.next) (holding v (walking c.args.pass made i.0)) c.args.at in
+    let f = rw (t.context, y.context, inv.context, t.left, y.left, t.store, y.log, t.value, c.second_value.ensures) at c.iteration-came.ensures.came in
+    let r = f later S start k names size st e (moved _ _ base inv.room l) (element_begins c.args.pass made i.0 v gives) in
+    let goes = r.0 (sym c.goes_on.ensures ∙ c.if-not-goes_on.false) in
+    let u = c.value_on-given.ensures in
+    let o = c.over-in-Err.ensures in
+    rw (o.left, o.store, u.left, u.store) (cut S _ start _ _ _ k _ _ _ _ o.gives goes refl)
+
+pub walk_elements-returns-then-next-clause-kept : goal.walk_elements-returns-then-next-clause-kept
+walk_elements-returns-then-next-clause-kept g m c = λ S names size st e l i p q.
+    let inv = c.elements.invariant in
+    let y = c.next_element.ensures in
+    let t = c.take-element.ensures in
+    let base : c.take-element.new.self.base ≡ c.args.self.now.base = t.base ∙ (y.base ∙ inv.base) in
+    let f = rw (t.context, y.context, inv.context) at c.iteration-came.ensures.kept in
+    f S names size st e (moved _ _ base inv.room l) i p (omega (arith, q, base)) ∙ inv.kept S names size st e l i p q
+
+pub walk_elements-returns-then-next-clause-came : goal.walk_elements-returns-then-next-clause-came
+walk_elements-returns-then-next-clause-came g m c = λ S start k names size st e l a.
+    let inv = c.elements.invariant in
+    let i = inv.came S start k names size st e l a in
+    let made = map plain c.elements.made.items in
+    let block = erase_block c.args.block.now in
+    let y = c.next_element.ensures in
+    let found = rw inv.context at c.in-Some.ensures.some in
+    let s = found (walking c.args.pass made i.0) block S start k _ _ i.1 in
+    let t = c.take-element.ensures in
+    let none = sym c.is_left.ensures ∙ c.if-is_left.false in
+    let next = c.next_element.new.self in
+    let v = value_of c.in-Some.found next.value in
+    let gives = given c.in-Some.found next.value next.leave none (s.1 none) in
+    let base : c.take-element.new.self.base ≡ c.args.self.now.base = t.base ∙ (y.base ∙ inv.base) in
+    let later = Walking (thing_of c.args.array) (suc c.elements.next) (holding v (walking c.args.pass made i.0)) c.args.at in
+    let f = rw (t.context, y.context, inv.context, t.left, y.left, t.store, y.log, t.value, c.second_value.ensures) at c.iteration-came.ensures.came in
+    let r = f later S start k names size st e (moved _ _ base inv.room l) (element_begins c.args.pass made i.0 v gives) in
+    let goes = r.0 (sym c.goes_on.ensures ∙ c.if-not-goes_on.false) in
+    let u = c.value_on-given.ensures in
+    let o = c.over-then-next.ensures in
+    rw (o.left, o.store, u.left, u.store) (cut S _ start _ _ _ k _ _ _ _ o.gives goes refl)
+
+pub walk_elements-elements-init : goal.walk_elements-elements-init
+walk_elements-elements-init g m c = record {
+  base = refl;
+  context = refl;
+  room = refl;
+  less = omega arith;
+  unended = c.requires.unended;
+  kept = λ S names size st e l i p q. refl;
+  came = λ S start k names size st e l a. rw c.new-made.ensures.items (Nil, begun_at S _ start _ _ (thing_of c.args.array) c.args.pass c.args.at (erase_block c.args.block.now) k _ _ _ a);
+}
+
+pub walk_elements-elements-preserved : goal.walk_elements-elements-preserved
+walk_elements-elements-preserved g m c =
+    let old = c.elements.invariant in
+    let y = c.next_element.ensures in
+    let t = c.take-element.ensures in
+    let x = c.iteration-came.ensures in
+    let u = c.value_on-given.ensures in
+    record {
+      base = u.base ∙ (x.base ∙ (t.base ∙ (y.base ∙ old.base)));
+      context = u.context ∙ (x.context ∙ (t.context ∙ (y.context ∙ old.context)));
+      room = x.room ∙ old.room;
+      less = omega (arith, u.left, x.less, t.left, y.left, old.less);
+      unended = rw u.store x.unended;
+      kept = λ S names size st e l i p q.
+          let inv = c.elements.invariant in
+          let y = c.next_element.ensures in
+          let t = c.take-element.ensures in
+          let base : c.take-element.new.self.base ≡ c.args.self.now.base = t.base ∙ (y.base ∙ inv.base) in
+          let f = rw (t.context, y.context, inv.context) at c.iteration-came.ensures.kept in
+          f S names size st e (moved _ _ base inv.room l) i p (omega (arith, q, base)) ∙ inv.kept S names size st e l i p q;
+      came = λ S start k names size st e l a.
+          let inv = c.elements.invariant in
+          let i = inv.came S start k names size st e l a in
+          let made = map plain c.elements.made.items in
+          let block = erase_block c.args.block.now in
+          let y = c.next_element.ensures in
+          let found = rw inv.context at c.in-Some.ensures.some in
+          let s = found (walking c.args.pass made i.0) block S start k _ _ i.1 in
+          let t = c.take-element.ensures in
+          let none = sym c.is_left.ensures ∙ c.if-is_left.false in
+          let next = c.next_element.new.self in
+          let v = value_of c.in-Some.found next.value in
+          let gives = given c.in-Some.found next.value next.leave none (s.1 none) in
+          let base : c.take-element.new.self.base ≡ c.args.self.now.base = t.base ∙ (y.base ∙ inv.base) in
+          let later = Walking (thing_of c.args.array) (suc c.elements.next) (holding v (walking c.args.pass made i.0)) c.args.at in
+          let f = rw (t.context, y.context, inv.context, t.left, y.left, t.store, y.log, t.value, c.second_value.ensures) at c.iteration-came.ensures.came in
+          let r = f later S start k names size st e (moved _ _ base inv.room l) (element_begins c.args.pass made i.0 v gives) in
+          let goes = r.0 (sym c.goes_on.ensures ∙ c.if-not-goes_on.false) in
+          rw (u.left, u.store) (plain c.in-Ok.last, element_ends c.args.pass made _ i.0 (plain c.in-Ok.last) v _ ((rw t.value at c.in-Ok.ensures) made i.0) (rw u.value at c.in_default-gather.ensures) refl goes);
+    }
+
+pub pair_turns-pairs-init : goal.pair_turns-pairs-init
+pair_turns-pairs-init g m c = record {
+  base = refl;
+  context = refl;
+  room = refl;
+  less = omega arith;
+  unended = c.requires.unended;
+  kept = λ S names size st e l i p q. refl;
+  came = λ S start k names size st e l a. rw c.into_iter-key-iterator.ensures.into_iter_gives.0 a;
+}
+
+pub pair_turns-pairs-preserved : goal.pair_turns-pairs-preserved
+pair_turns-pairs-preserved g m c =
+    let old = c.pairs.invariant in
+    let x = c.iteration-came.ensures in
+    record {
+      base = x.base ∙ old.base;
+      context = x.context ∙ old.context;
+      room = x.room ∙ old.room;
+      less = omega (arith, x.less, old.less);
+      unended = x.unended;
+      kept = λ S names size st e l i p q.
+          let inv = c.pairs.invariant in
+          let f = rw inv.context at c.iteration-came.ensures.kept in
+          f S names size st e (moved _ _ inv.base inv.room l) i p (omega (arith, q, inv.base)) ∙ inv.kept S names size st e l i p q;
+      came = λ S start k names size st e l a.
+          let inv = c.pairs.invariant in
+          let begins = pair_begins (ap (map pair) c.in-Some.ensures.steps.0) (inv.came S start k names size st e l a) in
+          let f = rw inv.context at c.iteration-came.ensures.came in
+          let r = f _ S start k names size st e (moved _ _ inv.base inv.room l) begins in
+          r.0 (sym c.goes_on.ensures ∙ c.if-not-goes_on.false);
+    }
+
+pub pair_turns-returns-then-not-goes_on-clause-kept : goal.pair_turns-returns-then-not-goes_on-clause-kept
+pair_turns-returns-then-not-goes_on-clause-kept g m c = λ S names size st e l i p q.
+    let inv = c.pairs.invariant in
+    let f = rw inv.context at c.iteration-came.ensures.kept in
+    f S names size st e (moved _ _ inv.base inv.room l) i p (omega (arith, q, inv.base)) ∙ inv.kept S names size st e l i p q
+
+pub pair_turns-returns-then-not-goes_on-clause-came : goal.pair_turns-returns-then-not-goes_on-clause-came
+pair_turns-returns-then-not-goes_on-clause-came g m c = λ S start k names size st e l a.
+    let inv = c.pairs.invariant in
+    let begins = pair_begins (ap (map pair) c.in-Some.ensures.steps.0) (inv.came S start k names size st e l a) in
+    let f = rw inv.context at c.iteration-came.ensures.came in
+    let r = f _ S start k names size st e (moved _ _ inv.base inv.room l) begins in
+    let stop = sym c.goes_on.ensures ∙ c.if-not-goes_on.true in
+    rw (c.out_of_loop.ensures stop) (r.1 stop)
+
+pub pair_turns-returns-clause-came : goal.pair_turns-returns-clause-came
+pair_turns-returns-clause-came g m c = λ S start k names size st e l a.
+    let inv = c.pairs.invariant in
+    let o = c.give.ensures in
+    rw (o.gives, o.left, o.store) (pairs_end (no_pairs _ (omega (arith, c.in-None.ensures.steps.0))) (inv.came S start k names size st e l a))
+
+pub walk_pairs-returns-in-Ok-Pairs-clause-came : goal.walk_pairs-returns-in-Ok-Pairs-clause-came
+walk_pairs-returns-in-Ok-Pairs-clause-came g m c = λ S start k names size st e l a.
+    let hash = c.args.hash in
+    let purpose = ForEach (To (thing_of hash)) (erase_block c.args.block.now) in
+    let y = c.in-Ok-Pairs.ensures in
+    let o = c.copied.ensures in
+    let come = y.reads purpose c.args.at S start k _ _ a in
+    let f = rw (o.context, o.left, o.log) at c.pair_turns.ensures.came in
+    f S start k names size st e (moved _ _ o.base refl l) (rw c.in-Ok-Pairs.field-0-is at come)
+
+pub walk_pairs-returns-in-Ok-Pairs-clause-kept : goal.walk_pairs-returns-in-Ok-Pairs-clause-kept
+walk_pairs-returns-in-Ok-Pairs-clause-kept g m c = λ S names size st e l i p q.
+    let o = c.copied.ensures in
+    let f = rw o.context at c.pair_turns.ensures.kept in
+    f S names size st e (moved _ _ o.base refl l) i p (omega (arith, q, o.base))
+
+pub walk_pairs-returns-in-Ok-clause-came : goal.walk_pairs-returns-in-Ok-clause-came
+walk_pairs-returns-in-Ok-clause-came g m c = λ S start k names size st e l a.
+    let hash = c.args.hash in
+    let purpose = ForEach (To (thing_of hash)) (erase_block c.args.block.now) in
+    let come = c.in-Ok.ensures.reads purpose c.args.at S start k _ _ a in
+    let o = c.over.ensures in
+    let y = c.copied.ensures in
+    rw (o.left, o.store, y.left, y.log) (cut S _ start _ _ _ k _ _ _ _ o.gives come (copied_left c.args.at k _ _ _ (To (thing_of hash)) (erase_block c.args.block.now) (thing_of hash) _))
+
+pub walk_pairs-returns-clause-came : goal.walk_pairs-returns-clause-came
+walk_pairs-returns-clause-came g m c = λ S start k names size st e l a.
+    let o = c.in-Err.ensures in
+    let y = c.copied.ensures in
+    rw (y.left, y.log, o.private) (cut S _ start _ _ _ k _ _ _ _ o.wants a refl)
+
+pub send_block-returns-in-Elements-clause-kept : goal.send_block-returns-in-Elements-clause-kept
+send_block-returns-in-Elements-clause-kept g m c = λ S names size st e l i p q.
+    let w = c.walk-came in
+    let right = snd _ _ l.fits in
+    let first = sub (fits S c.args.receiver.now) l (fst _ _ right) in
+    let t = c.take-receiver.ensures in
+    let y = c.arguments-came in
+    let under = moved _ _ w.ensures.base w.ensures.room (sub (every (map (fits S) c.args.args.now)) l (fst _ _ (snd _ _ right))) in
+    let f = rw (t.context, t.base, w.ensures.context) at y.ensures.kept in
+    let stays = f S names size st e under i p (omega (arith, q, w.ensures.base)) ∙ w.ensures.kept S names size st e first i p q in
+    let o = c.iterations.ensures in
+    let base : c.iterations.new.self.base ≡ c.args.self.now.base = o.base ∙ (t.base ∙ w.ensures.base) in
+    let inside = moved _ _ base (y.ensures.room ∙ w.ensures.room) (sub (block_fits S c.args.block.now) l (snd _ _ (snd _ _ right))) in
+    let u = rw (o.context, y.ensures.context, t.context, w.ensures.context) at c.walk_elements.ensures.kept in
+    u S names size st e inside i p (omega (arith, q, base)) ∙ stays
+
+pub send_block-returns-in-Elements-clause-came : goal.send_block-returns-in-Elements-clause-came
+send_block-returns-in-Elements-clause-came g m c =
+    λ S start k names size st e l a.
+    let w = c.walk-came in
+    let right = snd _ _ l.fits in
+    let first = sub (fits S c.args.receiver.now) l (fst _ _ right) in
+    let step = ReceiverOf (text_of S c.args.name) (map erase c.args.args.now) (Some (erase_block c.args.block.now)) c.args.at in
+    let come = w.ensures.came S start (Then step ∷ k) names size st e first a in
+    let t = c.take-receiver.ensures in
+    let y = c.arguments-came in
+    let under = moved _ _ w.ensures.base w.ensures.room (sub (every (map (fits S) c.args.args.now)) l (fst _ _ (snd _ _ right))) in
+    let none = sym c.is_left.ensures ∙ c.if-is_left.false in
+    let v = value_of w.result w.new.self.value in
+    let f = rw (t.context, t.base, t.left, t.store, w.ensures.context) at y.ensures.came in
+    let ends = f (OnReceiver v (text_of S c.args.name) (Some (erase_block c.args.block.now))) c.args.at S start k names size st e under (on _ (given w.result w.new.self.value w.new.self.leave none come) refl) in
+    let at_end = ends.1 (sym c.is_left-2.ensures ∙ c.if-is_left-2.false) in
+    let short : w.new.self.base ≤ length w.new.room = still_within w.ensures.base w.ensures.room l.room in
+    let from = rw t.base at y.ensures.fits in
+    let end = rw t.base at y.ensures.base in
+    let edge = from short in
+    let last = end (sym c.is_left-2.ensures ∙ c.if-is_left-2.false) in
+    let passed = rw t.base at c.passed-args.ensures in
+    let long : w.new.self.base + length c.args.args.now ≤ length y.new.room = up_to_end w.new.self.base _ _ (length c.args.args.now) edge last in
+    let values = passed long in
+    let number = same_is (builtin_of (text_of S c.args.name)) c.args.method (fst _ _ l.fits) in
+    let args = map plain (take (length c.args.args.now) (drop w.new.self.base y.new.room)) in
+    let answer = deed c.args.self.now.context.program.now v (text_of S c.args.name) args (Some (length c.args.block.now.params)) in
+    let none_own = (rw (y.ensures.context, t.context, w.ensures.context, t.value) at (c.target_of.ensures.none c.in_default.is)) S st in
+    let table = answers_block c.args.block.now v (text_of S c.args.name) args c.args.at answer none_own (ap (λ (ns : Program). deed ns v (text_of S c.args.name) args (Some (length c.args.block.now.params))) (sym e)) at_end in
+    let o = c.iterations.ensures in
+    let base : c.iterations.new.self.base ≡ c.args.self.now.base = o.base ∙ (t.base ∙ w.ensures.base) in
+    let inside = moved _ _ base (y.ensures.room ∙ w.ensures.room) (sub (block_fits S c.args.block.now) l (snd _ _ (snd _ _ right))) in
+    let said = rw (y.ensures.context, t.context, w.ensures.context, t.value, values, c.len.ensures, c.in-Elements.is) at o.opens in
+    let turning = block_comes S _ start _ _ answer (LoopsOver (thing_of c.in-Elements.array) (walk_of c.in-Elements.pass)) (erase_block c.args.block.now) c.args.at k _ _ _ (said (text_of S c.args.name) number) table in
+    let u = rw (o.context, o.left, o.store, y.ensures.context, t.context, w.ensures.context) at c.walk_elements.ensures.came in
+    u S start k names size st e inside turning
+
+pub send_block-returns-in-Pairs-clause-kept : goal.send_block-returns-in-Pairs-clause-kept
+send_block-returns-in-Pairs-clause-kept g m c = λ S names size st e l i p q.
+    let w = c.walk-came in
+    let right = snd _ _ l.fits in
+    let first = sub (fits S c.args.receiver.now) l (fst _ _ right) in
+    let t = c.take-receiver.ensures in
+    let y = c.arguments-came in
+    let under = moved _ _ w.ensures.base w.ensures.room (sub (every (map (fits S) c.args.args.now)) l (fst _ _ (snd _ _ right))) in
+    let f = rw (t.context, t.base, w.ensures.context) at y.ensures.kept in
+    let stays = f S names size st e under i p (omega (arith, q, w.ensures.base)) ∙ w.ensures.kept S names size st e first i p q in
+    let o = c.iterations.ensures in
+    let base : c.iterations.new.self.base ≡ c.args.self.now.base = o.base ∙ (t.base ∙ w.ensures.base) in
+    let inside = moved _ _ base (y.ensures.room ∙ w.ensures.room) (sub (block_fits S c.args.block.now) l (snd _ _ (snd _ _ right))) in
+    let u = rw (o.context, y.ensures.context, t.context, w.ensures.context) at c.walk_pairs.ensures.kept in
+    u S names size st e inside i p (omega (arith, q, base)) ∙ stays
+
+pub send_block-returns-in-Pairs-clause-came : goal.send_block-returns-in-Pairs-clause-came
+send_block-returns-in-Pairs-clause-came g m c =
+    λ S start k names size st e l a.
+    let w = c.walk-came in
+    let right = snd _ _ l.fits in
+    let first = sub (fits S c.args.receiver.now) l (fst _ _ right) in
+    let step = ReceiverOf (text_of S c.args.name) (map erase c.args.args.now) (Some (erase_block c.args.block.now)) c.args.at in
+    let come = w.ensures.came S start (Then step ∷ k) names size st e first a in
+    let t = c.take-receiver.ensures in
+    let y = c.arguments-came in
+    let under = moved _ _ w.ensures.base w.ensures.room (sub (every (map (fits S) c.args.args.now)) l (fst _ _ (snd _ _ right))) in
+    let none = sym c.is_left.ensures ∙ c.if-is_left.false in
+    let v = value_of w.result w.new.self.value in
+    let f = rw (t.context, t.base, t.left, t.store, w.ensures.context) at y.ensures.came in
+    let ends = f (OnReceiver v (text_of S c.args.name) (Some (erase_block c.args.block.now))) c.args.at S start k names size st e under (on _ (given w.result w.new.self.value w.new.self.leave none come) refl) in
+    let at_end = ends.1 (sym c.is_left-2.ensures ∙ c.if-is_left-2.false) in
+    let short : w.new.self.base ≤ length w.new.room = still_within w.ensures.base w.ensures.room l.room in
+    let from = rw t.base at y.ensures.fits in
+    let end = rw t.base at y.ensures.base in
+    let edge = from short in
+    let last = end (sym c.is_left-2.ensures ∙ c.if-is_left-2.false) in
+    let passed = rw t.base at c.passed-args.ensures in
+    let long : w.new.self.base + length c.args.args.now ≤ length y.new.room = up_to_end w.new.self.base _ _ (length c.args.args.now) edge last in
+    let values = passed long in
+    let number = same_is (builtin_of (text_of S c.args.name)) c.args.method (fst _ _ l.fits) in
+    let args = map plain (take (length c.args.args.now) (drop w.new.self.base y.new.room)) in
+    let answer = deed c.args.self.now.context.program.now v (text_of S c.args.name) args (Some (length c.args.block.now.params)) in
+    let none_own = (rw (y.ensures.context, t.context, w.ensures.context, t.value) at (c.target_of.ensures.none c.in_default.is)) S st in
+    let table = answers_block c.args.block.now v (text_of S c.args.name) args c.args.at answer none_own (ap (λ (ns : Program). deed ns v (text_of S c.args.name) args (Some (length c.args.block.now.params))) (sym e)) at_end in
+    let o = c.iterations.ensures in
+    let base : c.iterations.new.self.base ≡ c.args.self.now.base = o.base ∙ (t.base ∙ w.ensures.base) in
+    let inside = moved _ _ base (y.ensures.room ∙ w.ensures.room) (sub (block_fits S c.args.block.now) l (snd _ _ (snd _ _ right))) in
+    let said = rw (y.ensures.context, t.context, w.ensures.context, t.value, values, c.len.ensures, c.in-Pairs.is) at o.opens in
+    let turning = block_comes S _ start _ _ answer (EachPairOf (thing_of c.in-Pairs.hash)) (erase_block c.args.block.now) c.args.at k _ _ _ (said (text_of S c.args.name) number) table in
+    let u = rw (o.context, o.left, o.store, y.ensures.context, t.context, w.ensures.context) at c.walk_pairs.ensures.came in
+    u S start k names size st e inside turning
+
+pub operate-returns-in-Some-clause-kept : goal.operate-returns-in-Some-clause-kept
+operate-returns-in-Some-clause-kept g m c = λ S names size st e l i p q.
+    let w = c.evaluate_call-came in
+    let right = two _ (fits S c.args.right.now names size) (fst _ _ l.fits) (snd _ _ (snd _ _ l.fits)) in
+    let under = moved _ _ w.ensures.base w.ensures.room (sub (numbered c.args.method c.args.name (λ S. fits S c.args.right.now) S) l right) in
+    let f = rw w.ensures.context at c.operate_collection.ensures.kept in
+    f S names size st e under i p (omega (arith, q, w.ensures.base)) ∙ w.ensures.kept S names size st e (sub (fits S c.args.left.now) l (fst _ _ (snd _ _ l.fits))) i p q
+
+pub operate-returns-in-Some-clause-came : goal.operate-returns-in-Some-clause-came
+operate-returns-in-Some-clause-came g m c = λ S start k names size st e l a.
+    let w = c.evaluate_call-came in
+    let e1 = w.ensures.came S start (Then (ReceiverOf (text_of S c.args.name) (erase c.args.right.now ∷ []) None c.args.at) ∷ k) names size st e (sub (fits S c.args.left.now) l (fst _ _ (snd _ _ l.fits))) a in
+    let g1 = given w.result w.new.self.value w.new.self.leave (sym c.is_left.ensures ∙ c.if-is_left.false) e1 in
+    let g2 = gives (me_of (Some c.in-Some.thing)) c.in-Some.ensures.value g1 in
+    let right = two _ (fits S c.args.right.now names size) (fst _ _ l.fits) (snd _ _ (snd _ _ l.fits)) in
+    let under = moved _ _ w.ensures.base w.ensures.room (sub (numbered c.args.method c.args.name (λ S. fits S c.args.right.now) S) l right) in
+    let f = rw w.ensures.context at c.operate_collection.ensures.came in
+    f S start k names size st e under (on _ (on _ g2 refl) refl)
+
+pub operate_collection-returns-then-is_left-clause-kept : goal.operate_collection-returns-then-is_left-clause-kept
+operate_collection-returns-then-is_left-clause-kept g m c = λ S names size st e l i p q.
+    c.evaluate-came.ensures.kept S names size st e (sub (fits S c.args.right.now) l (snd _ _ l.fits)) i p q
+
+pub operate_collection-returns-then-is_left-clause-came : goal.operate_collection-returns-then-is_left-clause-came
+operate_collection-returns-then-is_left-clause-came g m c = λ S start k names size st e l a.
+    let w = c.evaluate-came in
+    let step = Argument (OnReceiver (me_of (Some c.args.thing)) (text_of S c.args.name) None) [] [] c.args.at in
+    let come = w.ensures.came S start (Then step ∷ k) names size st e (sub (fits S c.args.right.now) l (snd _ _ l.fits)) a in
+    passes S _ start _ w.result w.new.self.value w.new.self.leave _ step k _ _ _ (sym c.is_left.ensures ∙ c.if-is_left.true) come
+
+pub operate_collection-returns-clause-kept : goal.operate_collection-returns-clause-kept
+operate_collection-returns-clause-kept g m c = λ S names size st e l i p q.
+    c.evaluate-came.ensures.kept S names size st e (sub (fits S c.args.right.now) l (snd _ _ l.fits)) i p q
+
+pub operate_collection-returns-clause-came : goal.operate_collection-returns-clause-came
+operate_collection-returns-clause-came g m c = λ S start k names size st e l a.
+    let w = c.evaluate-came in
+    let to = me_of (Some c.args.thing) in
+    let step = Argument (OnReceiver to (text_of S c.args.name) None) [] [] c.args.at in
+    let come = w.ensures.came S start (Then step ∷ k) names size st e (sub (fits S c.args.right.now) l (snd _ _ l.fits)) a in
+    let g1 = given w.result w.new.self.value w.new.self.leave (sym c.is_left.ensures ∙ c.if-is_left.false) come in
+    let o = c.asked_with.ensures in
+    let number = same_is (builtin_of (text_of S c.args.name)) c.args.method (fst _ _ l.fits) in
+    let f1 = rw w.ensures.context at o.came in
+    rw o.log (calls_builtin S _ start _ _ _ _ _ _ _ _ _ c.args.self.now.context.program.now c.args.method to (text_of S c.args.name) (value_of w.result w.new.self.value ∷ []) c.args.at (c.requires.alone S st) number e f1 (on _ (on _ g1 refl) refl))
+
+pub begin_slow_operate-returns-in-Some-local_collection-clause-kept : goal.begin_slow_operate-returns-in-Some-local_collection-clause-kept
+begin_slow_operate-returns-in-Some-local_collection-clause-kept g m c = λ S names size st e l i p q.
+    let x = c.in-Operate in
+    let s = sym (ap (λ d. fits S d names size) x.is ∙ fits-operate S names size x.method x.name x.left x.right x.at) ∙ l.fits in
+    let fr : fits S c.get-right.result.now names size ≡ true = rw c.get-right.ensures (snd _ _ (snd _ _ s)) in
+    let right = two _ (fits S c.get-right.result.now names size) (fst _ _ s) fr in
+    c.operate_collection.ensures.kept S names size st e (sub _ l right) i p q
+
+pub begin_slow_operate-returns-in-Some-local_collection-clause-came : goal.begin_slow_operate-returns-in-Some-local_collection-clause-came
+begin_slow_operate-returns-in-Some-local_collection-clause-came g m c = λ S start k names size st e l a.
+    let x = c.in-Operate in
+    let s = sym (ap (λ d. fits S d names size) x.is ∙ fits-operate S names size x.method x.name x.left x.right x.at) ∙ l.fits in
+    let fl : fits S c.get-left.result.now names size ≡ true = rw c.get-left.ensures (fst _ _ (snd _ _ s)) in
+    let fr : fits S c.get-right.result.now names size ≡ true = rw c.get-right.ensures (snd _ _ (snd _ _ s)) in
+    let len : length names ≤ length c.args.room.now = omega (arith, l.within, l.below, l.room) in
+    let more : 0 < c.args.self.now.left = omega (arith, c.if-self-gt1.true) in
+    let b = begins _ _ k _ _ _ (shows-operate c.args.code.now x.method x.name x.left x.right x.at x.is) a in
+    let waits = Then (ReceiverOf (text_of S x.name) (erase c.get-right.result.now ∷ []) None x.at) ∷ k in
+    let e1 = c.in-Some-local_collection.ensures.held S _ names size c.args.depth c.args.self.now.left start _ _ waits (me_of c.args.self.now.context.me) fl len more c.if-depth-lt-MAX_DEPTH.true (rw (c.get-left.ensures, c.get-right.ensures) b) in
+    let right = two _ (fits S c.get-right.result.now names size) (fst _ _ s) fr in
+    c.operate_collection.ensures.came S start k names size st e (sub _ l right) (on _ (on _ e1 refl) refl)
+
+pub begin_store-returns-in_default-clause-came : goal.begin_store-returns-in_default-clause-came
+begin_store-returns-in_default-clause-came g m c = λ S start k names size st e l a.
+    let o = c.over.ensures in
+    rw (o.gives, o.left, o.store) (_, a, begin_left S (out-Node (erase c.args.code.now)) k (scope_of (me_of c.args.self.now.context.me) names c.args.room.now) c.args.depth c.args.self.now.left)
+
+pub begin-returns-in-Store-clause-kept : goal.begin-returns-in-Store-clause-kept
+begin-returns-in-Store-clause-kept g m c = c.begin_store.ensures.kept
+
+pub begin-returns-in-Store-clause-came : goal.begin-returns-in-Store-clause-came
+begin-returns-in-Store-clause-came g m c = c.begin_store.ensures.came

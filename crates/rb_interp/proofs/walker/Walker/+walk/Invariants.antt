@@ -1,15 +1,21 @@
 use Rattle.std.proofs.Common.{take, ◌≡◌, ℕ, ◌≤◌, ◌<◌, ◌+◌, ◌-◌, ◌*◌, [], drop, map, length, false}
 use Rattle.std.specs.Prelude.{pos, ◌+ℤ◌, ◌≤ℤ◌, slice_get}
 use Rattle.rb_tree.specs.declared.span.Span.{Span}
-use Rattle.rb_model.specs.Values.{Nil, Int, plain}
+use Rattle.rb_model.specs.Values.{To, Nil, Int, plain}
 use Rattle.rb_model.specs.Log.{has_end}
-use Rattle.rb_machine.specs.Control.{On, Following, Looping, Turning, Counting, Passing, Joining, Aim}
+use Rattle.rb_machine.specs.Control.{EachPair, On, Following, Looping, Turning, Counting, Passing, Joining, Aim}
 use Rattle.rb_code.specs.Erase.{erase, erase_block, erase_piece}
 use Rattle.rb_code.specs.Resolved.{fits, piece_fits, block_fits, every}
 use Rattle.rb_machine.specs.Texts.{max_bytes}
 use Rattle.rb_render.specs.Forms.{style_of}
 use Rattle.rb_interp.specs.Outcome.{is_left, value_of}
 use Rattle.rb_interp.specs.Texts.{WritesOn}
+use Rattle.rb_interp.specs.Walks.{WalksOn}
+use Rattle.std.specs.Vec.Iter.{into_iter_items}
+use Rattle.rb_model.specs.Doing.{pair}
+use Rattle.rb_builtin.specs.Deeds.{thing_of}
+use Rattle.rb_interp.specs.Lines.{LinesOn}
+use Rattle.rb_interp.specs.Collections.{work_of}
 use Rattle.rb_interp.specs.Carries.{Keeps, Reaches, both, me_of}
 use Rattle.rb_interp.proofs.walker.Walker.+walk.Given as goal
 
@@ -20,7 +26,7 @@ abbrev pub decreases-walk_here : goal.decreases-walk_here
 decreases-walk_here g l = 24 * (1001 - l.depth)
 
 abbrev pub decreases-evaluate_call : goal.decreases-evaluate_call
-decreases-evaluate_call g l = 24 * (1001 - l.depth) + 2
+decreases-evaluate_call g l = 24 * (1001 - l.depth) + 3
 
 abbrev pub decreases-begin : goal.decreases-begin
 decreases-begin g l = 24 * (1001 - l.depth) + 23
@@ -41,16 +47,28 @@ abbrev pub decreases-store_by : goal.decreases-store_by
 decreases-store_by g l = 24 * (1001 - l.depth) + 7
 
 abbrev pub decreases-send_block : goal.decreases-send_block
-decreases-send_block g l = 24 * (1001 - l.depth) + 7
+decreases-send_block g l = 24 * (1001 - l.depth) + 8
 
 abbrev pub decreases-turns : goal.decreases-turns
 decreases-turns g l = 24 * (1001 - l.depth) + 6
+
+abbrev pub decreases-iteration : goal.decreases-iteration
+decreases-iteration g l = 24 * (1001 - l.depth) + 5
+
+abbrev pub decreases-walk_elements : goal.decreases-walk_elements
+decreases-walk_elements g l = 24 * (1001 - l.depth) + 6
+
+abbrev pub decreases-pair_turns : goal.decreases-pair_turns
+decreases-pair_turns g l = 24 * (1001 - l.depth) + 6
+
+abbrev pub decreases-walk_pairs : goal.decreases-walk_pairs
+decreases-walk_pairs g l = 24 * (1001 - l.depth) + 7
 
 abbrev pub decreases-function : goal.decreases-function
 decreases-function g l = 24 * (1001 - l.depth) + 6
 
 abbrev pub decreases-print : goal.decreases-print
-decreases-print g l = 24 * (1001 - l.depth) + 10
+decreases-print g l = 24 * (1001 - l.depth) + 14
 
 abbrev pub decreases-told : goal.decreases-told
 decreases-told g l = 24 * (1001 - l.depth) + 6
@@ -58,11 +76,26 @@ decreases-told g l = 24 * (1001 - l.depth) + 6
 abbrev pub decreases-told_at : goal.decreases-told_at
 decreases-told_at g l = 24 * (1001 - l.depth) + 7
 
+abbrev pub decreases-line : goal.decreases-line
+decreases-line g l = 24 * (1001 - l.depth) + 7
+
+abbrev pub decreases-advance_line : goal.decreases-advance_line
+decreases-advance_line g l = 24 * (1001 - l.depth) + 8
+
+abbrev pub decreases-lines : goal.decreases-lines
+decreases-lines g l = 24 * (1001 - l.depth) + 9
+
+abbrev pub decreases-write_array : goal.decreases-write_array
+decreases-write_array g l = 24 * (1001 - l.depth) + 10
+
+abbrev pub decreases-write_one : goal.decreases-write_one
+decreases-write_one g l = 24 * (1001 - l.depth) + 11
+
 abbrev pub decreases-print_from : goal.decreases-print_from
-decreases-print_from g l = 24 * (1001 - l.depth) + 8
+decreases-print_from g l = 24 * (1001 - l.depth) + 12
 
 abbrev pub decreases-print_texts : goal.decreases-print_texts
-decreases-print_texts g l = 24 * (1001 - l.depth) + 9
+decreases-print_texts g l = 24 * (1001 - l.depth) + 13
 
 abbrev pub decreases-array : goal.decreases-array
 decreases-array g l = 24 * (1001 - l.depth) + 7
@@ -125,7 +158,7 @@ abbrev pub decreases-begin_set : goal.decreases-begin_set
 decreases-begin_set g l = 24 * (1001 - l.depth) + 6
 
 abbrev pub decreases-begin_update : goal.decreases-begin_update
-decreases-begin_update g l = 24 * (1001 - l.depth) + 13
+decreases-begin_update g l = 24 * (1001 - l.depth) + 14
 
 abbrev pub decreases-begin_slow_update : goal.decreases-begin_slow_update
 decreases-begin_slow_update g l = 24 * (1001 - l.depth) + 12
@@ -157,8 +190,17 @@ decreases-begin_new g l = 24 * (1001 - l.depth) + 12
 abbrev pub decreases-operate_target : goal.decreases-operate_target
 decreases-operate_target g l = 24 * (1001 - l.depth) + 6
 
+abbrev pub decreases-begin_update_over : goal.decreases-begin_update_over
+decreases-begin_update_over g l = 24 * (1001 - l.depth) + 13
+
+abbrev pub decreases-evaluate_operand : goal.decreases-evaluate_operand
+decreases-evaluate_operand g l = 24 * (1001 - l.depth) + 2
+
+abbrev pub decreases-begin_operand : goal.decreases-begin_operand
+decreases-begin_operand g l = 24 * (1001 - l.depth) + 9
+
 abbrev pub decreases-begin_other : goal.decreases-begin_other
-decreases-begin_other g l = 24 * (1001 - l.depth) + 12
+decreases-begin_other g l = 24 * (1001 - l.depth) + 16
 
 abbrev pub decreases-operate_integer : goal.decreases-operate_integer
 decreases-operate_integer g l = 24 * (1001 - l.depth) + 5
@@ -191,7 +233,7 @@ abbrev pub decreases-store_with : goal.decreases-store_with
 decreases-store_with g l = 24 * (1001 - l.depth) + 6
 
 abbrev pub decreases-begin_print : goal.decreases-begin_print
-decreases-begin_print g l = 24 * (1001 - l.depth) + 11
+decreases-begin_print g l = 24 * (1001 - l.depth) + 15
 
 abbrev pub decreases-set_field : goal.decreases-set_field
 decreases-set_field g l = 24 * (1001 - l.depth) + 5
@@ -274,6 +316,21 @@ invariant-text-pieces g l =
       came : Reaches l.fn.self.context.script.now l.fn.self.context.program.now l.fn.self.context.steps (me_of l.fn.self.context.me) (λ S. every (map (piece_fits S) l.pieces)) (λ S k sc d n. On (Joining [] (map erase_piece l.pieces) l.at) k sc d n) (λ S k sc d n. On (Joining l.bytes.items (map erase_piece (drop l.piece-index l.pieces)) l.at) k sc d n) l.fn.self.base l.depth l.fn.self.left l.self.left l.fn.room l.room (g.O.ThreadStore.log l.fn.self.store) (g.O.ThreadStore.log l.self.store) (g.O.ThreadStore.private l.fn.self.store) (g.O.ThreadStore.private l.self.store);
     }
 
+abbrev pub invariant-lines-text : goal.invariant-lines-text
+invariant-lines-text g l =
+    record {
+      base : l.self.base ≡ l.fn.self.base;
+      context : l.self.context ≡ l.fn.self.context;
+      room : length l.room ≡ length l.fn.room;
+      less : l.self.left ≤ l.fn.self.left;
+      unended : has_end (g.O.ThreadStore.log l.self.store).entries ≡ false;
+      kept : (i : ℕ) → i < l.fn.self.base → slice_get l.room i ≡ slice_get l.fn.room i;
+      came : LinesOn l.fn.self.context.script.now l.fn.self.context.program.now l.fn.self.context.steps (me_of l.fn.self.context.me) l.fn.array l.draft l.at l.fn.self.base l.depth l.fn.self.left l.self.left l.fn.room l.room (g.O.ThreadStore.log l.fn.self.store) (g.O.ThreadStore.log l.self.store) (g.O.ThreadStore.private l.fn.self.store) (g.O.ThreadStore.private l.self.store);
+    }
+
+abbrev pub decreases-lines-text : goal.decreases-lines-text
+decreases-lines-text g l = 4 * l.self.left + work_of l.draft
+
 abbrev pub invariant-print_from-values : goal.invariant-print_from-values
 invariant-print_from-values g l =
     record {
@@ -300,3 +357,36 @@ invariant-arguments-each g l =
       came : (aim : Aim) (at : Span) → Reaches l.fn.self.context.script.now l.fn.self.context.program.now l.fn.self.context.steps (me_of l.fn.self.context.me) (λ S. every (map (fits S) l.args)) (λ S k sc d n. On (Passing aim [] (map erase l.args) at) k sc d n)
           (λ S k sc d n. On (Passing aim (map plain (take l.arg-index (drop l.fn.self.base l.room))) (map erase (drop l.arg-index l.args)) at) k sc d n) l.fn.self.base l.depth l.fn.self.left l.self.left l.fn.room l.room (g.O.ThreadStore.log l.fn.self.store) (g.O.ThreadStore.log l.self.store) (g.O.ThreadStore.private l.fn.self.store) (g.O.ThreadStore.private l.self.store);
     }
+
+abbrev pub invariant-walk_elements-elements : goal.invariant-walk_elements-elements
+invariant-walk_elements-elements g l =
+    record {
+      base : l.self.base ≡ l.fn.self.base;
+      context : l.self.context ≡ l.fn.self.context;
+      room : length l.room ≡ length l.fn.room;
+      less : l.self.left ≤ l.fn.self.left;
+      unended : has_end (g.O.ThreadStore.log l.self.store).entries ≡ false;
+      kept : Keeps l.fn.self.context.script.now l.fn.self.context.program.now (λ S. block_fits S l.block) l.fn.self.base l.fn.room l.room;
+      came : WalksOn l.fn.self.context.script.now l.fn.self.context.program.now l.fn.self.context.steps (me_of l.fn.self.context.me) l.block l.array l.pass l.at l.next (map plain l.made.items) l.fn.self.base l.depth l.fn.self.left l.self.left l.fn.room l.room (g.O.ThreadStore.log l.fn.self.store) (g.O.ThreadStore.log l.self.store) (g.O.ThreadStore.private l.fn.self.store) (g.O.ThreadStore.private l.self.store);
+    }
+
+abbrev pub decreases-walk_elements-elements : goal.decreases-walk_elements-elements
+decreases-walk_elements-elements g l = l.self.left
+
+abbrev pub invariant-pair_turns-pairs : goal.invariant-pair_turns-pairs
+invariant-pair_turns-pairs g l =
+    record {
+      base : l.self.base ≡ l.fn.self.base;
+      context : l.self.context ≡ l.fn.self.context;
+      room : length l.room ≡ length l.fn.room;
+      less : l.self.left ≤ l.fn.self.left;
+      unended : has_end (g.O.ThreadStore.log l.self.store).entries ≡ false;
+      kept : Keeps l.fn.self.context.script.now l.fn.self.context.program.now (λ S. block_fits S l.block) l.fn.self.base l.fn.room l.room;
+      came : Reaches l.fn.self.context.script.now l.fn.self.context.program.now l.fn.self.context.steps (me_of l.fn.self.context.me) (λ S. block_fits S l.block) (λ S k sc d n. On (Turning (EachPair (map pair l.fn.pairs.items) (To (thing_of l.hash))) (erase_block l.block)) k sc d n) (λ S k sc d n. On (Turning (EachPair (map pair (into_iter_items l.key-iterator)) (To (thing_of l.hash))) (erase_block l.block)) k sc d n) l.fn.self.base l.depth l.fn.self.left l.self.left l.fn.room l.room (g.O.ThreadStore.log l.fn.self.store) (g.O.ThreadStore.log l.self.store) (g.O.ThreadStore.private l.fn.self.store) (g.O.ThreadStore.private l.self.store);
+    }
+
+abbrev pub decreases-operate_collection : goal.decreases-operate_collection
+decreases-operate_collection g l = 24 * (1001 - l.depth) + 6
+
+abbrev pub decreases-begin_store : goal.decreases-begin_store
+decreases-begin_store g l = 24 * (1001 - l.depth) + 8

@@ -1,6 +1,6 @@
 use Rattle.std.proofs.Common.{◌≡◌, ◌∙◌, refl, sym, ap, arith}
 use Rattle.std.specs.Prelude.{Err}
-use Rattle.rb_interp.proofs.Drafting.{text_ends, text_given}
+use Rattle.rb_interp.proofs.Drafting.{finished_is, text_ends, text_given}
 use Rattle.rb_interp.proofs.walker.Walker.inspected.Goals as goal
 
 pub text-init : goal.text-init
@@ -42,7 +42,7 @@ pub returns-then-is_finished-clause-came : goal.returns-then-is_finished-clause-
 returns-then-is_finished-clause-came g c = λ S start k sc p a.
     let inv = c.text.invariant in
     let o = c.give_bytes.ensures in
-    let w = rw (c.is_finished.ensures c.if-is_finished.true, inv.context) at c.in-Ok.ensures.wants in
+    let w = rw (finished_is c.in-Ok.want (sym c.is_finished.ensures ∙ c.if-is_finished.true), inv.context) at c.in-Ok.ensures.wants in
     let m = rw c.into_bytes.ensures at o.gives in
     rw (o.left, o.store, inv.log) (text_given S _ start _ _ c.args.self.now.context.program.now c.text.draft c.args.at k sc c.args.depth _ p _ _ w.0 m (inv.came S start k sc p a))
 

@@ -1,0 +1,159 @@
+// Arrays that are written line by line: values are asked for their texts.
+
+ghost use Rattle.std.specs.Prelude.{◌≡◌, ◌≤◌, ◌<◌, ◌+◌, ℕ, true, false, length, slice_get, Some, None, Err, OnOk, IfSome};
+ghost use Rattle.rb_model.specs.Values.{plain};
+ghost use Rattle.rb_model.specs.Log.{has_end};
+ghost use Rattle.rb_machine.specs.Drafts.{with_line};
+ghost use Rattle.rb_machine.specs.Texts.{shown};
+ghost use Rattle.rb_interp.specs.Outcome.{is_left, outcome, value_of};
+ghost use Rattle.rb_interp.specs.Carries.{me_of};
+ghost use Rattle.rb_interp.specs.Collections.{Shortens, work_of};
+ghost use Rattle.rb_interp.specs.Lines.{AdvancesLine, AsksLine, GivesLines, JoinsLine};
+ghost use Rattle.rb_interp.specs.Texts.{as_text};
+
+use super::Walker;
+use super::drafts::is_finished;
+use crate::came::{Came, Cut, is_left};
+use crate::rounds::count_of;
+use rb_model::{Ref, ThreadStore, Value};
+use rb_render::{Draft, RenderFault, TextForm, Want, add_shown};
+use rb_tree::{Program, Span};
+use std::alloc::Global;
+
+/// Gives the text of a value to a text, as a line.
+fn give_line(
+    alloc: Global,
+    program: &Program,
+    draft: &mut Draft,
+    value: Value,
+) -> Result<(), RenderFault>
+    ensures given { OnOk result (with_line draft.old (shown program.now (plain value)) ≡ Some draft.new) }
+    ensures too_long { result ≡ Err RenderFault.TooLong → with_line draft.old (shown program.now (plain value)) ≡ None }
+{
+    let mut text = Vec::new(alloc);
+    if let Err(_) = add_shown(alloc, &mut text, program, &value) {
+        return Err(RenderFault::Memory);
+    }
+    draft.give_text(text.as_slice())
+}
+
+/// The depth inside so many collections that are begun; none where it is no number of 32 bits.
+fn depth_inside(depth: u32, begun: usize) -> Option<u32>
+    ensures { IfSome result (λ inside. inside ≡ depth + begun) }
+{
+    let begun = count_of(begun)?;
+    depth.checked_add(begun)
+}
+
+impl<'p, O: ThreadStore + Drop> Walker<'p, O> {
+    /// Adds the text of the value that came to a text, as a line.
+    fn add_line(&mut self, draft: &mut Draft, came: Came, at: Span) -> Came
+        ensures base { self.new.base ≡ self.old.base }
+        ensures left { self.new.left ≡ self.old.left }
+        ensures context { self.new.context ≡ self.old.context }
+        ensures store { self.new.store ≡ self.old.store }
+        ensures work { is_left result ≡ false → work_of draft.new ≤ length draft.old.begun }
+        ensures came { JoinsLine self.old.context.steps (shown self.old.context.program.now (value_of came self.old.value)) draft.old draft.new at self.old.left (O.log self.old.store) (O.private self.old.store) result (outcome result self.new.value self.new.leave) }
+    {
+        let value = self.take(came);
+        match give_line(self.context.alloc, self.context.program, draft, value) {
+            Ok(()) => Came::Nil,
+            Err(fault) => self.end_text(fault, at),
+        }
+    }
+
+    /// Asks a value for its text, which is a line of a text.
+    #[cycle(walk)]
+    #[inline(never)]
+    fn line(
+        &mut self,
+        draft: &mut Draft,
+        value: &Value,
+        at: Span,
+        depth: u32,
+        room: &mut [Value],
+    ) -> Came
+        requires unended { has_end (O.log self.old.store).entries ≡ false }
+        requires steps { self.old.left ≤ self.old.context.steps }
+        ensures base { self.new.base ≡ self.old.base }
+        ensures context { self.new.context ≡ self.old.context }
+        ensures room { length room.new ≡ length room.old }
+        ensures less { self.new.left ≤ self.old.left }
+        ensures unended { has_end (O.log self.new.store).entries ≡ false }
+        ensures kept { (i : ℕ) → i < self.old.base → slice_get room.new i ≡ slice_get room.old i }
+        ensures work { is_left result ≡ false → work_of draft.new ≤ length draft.old.begun }
+        ensures came { AsksLine self.old.context.script.now self.old.context.program.now self.old.context.steps (me_of self.old.context.me) (plain value.now) draft.old draft.new at self.old.base depth self.old.left self.new.left room.old room.new (O.log self.old.store) (O.log self.new.store) (O.private self.old.store) (O.private self.new.store) result (outcome result self.new.value self.new.leave) }
+    {
+        // Always a number, as depths stay far below.
+        let Some(inside) = depth_inside(depth, draft.depth()) else {
+            return self.over(Cut::Memory);
+        };
+        let shared = self.read_shared(value);
+        if is_left(shared) {
+            return shared;
+        }
+        let came = self.told(shared, at, inside, room);
+        if is_left(came) {
+            return came;
+        }
+        self.add_line(draft, came, at)
+    }
+
+    /// Does what a text needs next that is made line by line.
+    #[cycle(walk)]
+    fn advance_line(
+        &mut self,
+        draft: &mut Draft,
+        want: &Want,
+        at: Span,
+        depth: u32,
+        room: &mut [Value],
+    ) -> Came
+        requires unended { has_end (O.log self.old.store).entries ≡ false }
+        requires steps { self.old.left ≤ self.old.context.steps }
+        ensures base { self.new.base ≡ self.old.base }
+        ensures context { self.new.context ≡ self.old.context }
+        ensures room { length room.new ≡ length room.old }
+        ensures less { self.new.left ≤ self.old.left }
+        ensures unended { has_end (O.log self.new.store).entries ≡ false }
+        ensures kept { (i : ℕ) → i < self.old.base → slice_get room.new i ≡ slice_get room.old i }
+        ensures shortens { Shortens self.old.context.program.now want.now draft.old draft.new self.old.left self.new.left result }
+        ensures came { AdvancesLine self.old.context.script.now self.old.context.program.now self.old.context.steps (me_of self.old.context.me) want.now draft.old draft.new at self.old.base depth self.old.left self.new.left room.old room.new (O.log self.old.store) (O.log self.new.store) (O.private self.old.store) (O.private self.new.store) result (outcome result self.new.value self.new.leave) }
+    {
+        match want {
+            Want::Text(value) => self.line(draft, value, at, depth, room),
+            _ => self.advance(draft, want, at, depth),
+        }
+    }
+
+    /// The text of an array line by line.
+    #[cycle(walk)]
+    #[inline(never)]
+    pub(super) fn lines(&mut self, array: Ref, at: Span, depth: u32, room: &mut [Value]) -> Came
+        requires unended { has_end (O.log self.old.store).entries ≡ false }
+        requires steps { self.old.left ≤ self.old.context.steps }
+        ensures base { self.new.base ≡ self.old.base }
+        ensures context { self.new.context ≡ self.old.context }
+        ensures room { length room.new ≡ length room.old }
+        ensures less { self.new.left ≤ self.old.left }
+        ensures unended { has_end (O.log self.new.store).entries ≡ false }
+        ensures kept { (i : ℕ) → i < self.old.base → slice_get room.new i ≡ slice_get room.old i }
+        ensures text { as_text self.old.context.program.now (outcome result self.new.value self.new.leave) ≡ outcome result self.new.value self.new.leave }
+        ensures came { GivesLines self.old.context.script.now self.old.context.program.now self.old.context.steps (me_of self.old.context.me) array at self.old.base depth self.old.left self.new.left room.old room.new (O.log self.old.store) (O.log self.new.store) (O.private self.old.store) (O.private self.new.store) (outcome result self.new.value self.new.leave) }
+    {
+        let mut draft = Draft::new(self.context.alloc, TextForm::Lined, Value::Ref(array));
+        'text: loop {
+            let want = match draft.ask(self.context.program) {
+                Ok(want) => want,
+                Err(fault) => return self.end_text(fault, at),
+            };
+            if is_finished(&want) {
+                return self.give_bytes(draft.into_bytes());
+            }
+            let came = self.advance_line(&mut draft, &want, at, depth, room);
+            if is_left(came) {
+                return came;
+            }
+        }
+    }
+}
