@@ -216,6 +216,32 @@ fn calls_answer(rt: HostRuntime) -> Result<(), Fail> {
     Ok(())
 }
 
+/// Calls of methods of arrays and hashes without elements, and what they answer.
+const COLLECTION_CALLS: [(&str, &str); 12] = [
+    ("[] each {1", "over elements"),
+    ("[] each {2", "ArgumentCount"),
+    ("[] map {1", "maps elements"),
+    ("[] << 1", "asked, gives itself"),
+    ("[] empty?", "asked for zero"),
+    ("[] [] nil", "TypeMismatch"),
+    ("[] keys", "NoMethod"),
+    ("=> keys", "keys"),
+    ("=> each {2", "over pairs"),
+    ("=> each {1", "ArgumentCount"),
+    ("=> to_s", "inspected"),
+    ("=> []= [] 1", "BadKey"),
+];
+
+#[test]
+fn calls_on_collections_answer(rt: HostRuntime) -> Result<(), Fail> {
+    let alloc = rt.alloc();
+    for (call, wanted) in COLLECTION_CALLS {
+        let found = answer(alloc, call)?;
+        assert_eq!(rt; found.as_str(), wanted);
+    }
+    Ok(())
+}
+
 /// A text and itself behind it, or an argument behind a text.
 fn sum(alloc: Global, args: &[Value]) -> Result<Deed, AllocError> {
     let program = program_of(alloc, Names::new(alloc))?;
