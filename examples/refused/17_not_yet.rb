@@ -1,1 +1,1 @@
-puts [1]
+puts $a

@@ -1,5 +1,5 @@
 -- What of a program is not run yet, and what of that stands first in its text.
-use Rattle.std.specs.Prelude.{ℕ, Bool, true, false, not, ◌&&◌, ◌==◌, nat_lt, is_some, List, [], ◌∷◌, length, map, Option, Some, None, if◌then◌else◌, slice_get, unwrap_or, codes}
+use Rattle.std.specs.Prelude.{ℕ, Bool, true, false, not, ◌||◌, ◌==◌, nat_lt, is_some, List, [], ◌∷◌, map, Option, Some, None, if◌then◌else◌, slice_get, unwrap_or, codes}
 use Rattle.std.specs.List.{list_any}
 use Rattle.std.specs.Str.{bytes_eq}
 use Rattle.rb_tree.specs.declared.span.NameId.{NameId}
@@ -43,9 +43,13 @@ here false at = None
 abbrev pub text_of : List (List ℕ) → NameId → List ℕ
 text_of names name = unwrap_or (slice_get names name.0) []
 
--- whether a text is the name `p`
-abbrev pub is_p : List ℕ → Bool
-is_p text = bytes_eq text (codes "p")
+-- whether a method of this name takes a block that is not run yet: only that of a mutex
+abbrev pub locks : List ℕ → Bool
+locks text = bytes_eq text (codes "synchronize")
+
+-- whether a class of this name is built in and has `new`
+abbrev pub is_collection : List ℕ → Bool
+is_collection text = bytes_eq text (codes "Array") || bytes_eq text (codes "Hash")
 
 -- whether one of the classes has this name
 abbrev pub has_class : List Class → NameId → Bool
@@ -66,20 +70,27 @@ piece_step (node.Code code) = code
 abbrev pub block_step : Block-F Found Found (Span → Found) Found → Found
 block_step block = first_of block.body
 
--- In a script with these texts of names, where `own_p` tells whether the top level has a method `p`: a call by a name alone that has a block;
--- and one of `p` that shows several values, since these would be an array.
-abbrev pub is_unbuilt_call : List (List ℕ) → (own_p : Bool) → (receiver : Bool) → NameId → ℕ → (block : Bool) → Bool
-is_unbuilt_call names own_p true name count block = false
-is_unbuilt_call names own_p false name count true = true
-is_unbuilt_call names own_p false name count false = not own_p && (is_p (text_of names name) && nat_lt 1 count)
+-- In a script with these texts of names: a call with a block that has no receiver, which no text spells, or that would lock.
+abbrev pub is_unbuilt_call : List (List ℕ) → (receiver : Bool) → NameId → (block : Bool) → Bool
+is_unbuilt_call names receiver name false = false
+is_unbuilt_call names false name true = true
+is_unbuilt_call names true name true = locks (text_of names name)
+
+-- of a pair of a hash
+abbrev pub in_pair : Found × Found → Found
+in_pair pair = earlier pair.0 pair.1
 
 -- In such a script, with these classes.
-module _ (names : List (List ℕ)) (own_p : Bool) (classes : List Class) where
+module _ (names : List (List ℕ)) (classes : List Class) where
+  -- a class that the script has, or one that is built in
+  abbrev pub is_built_class : NameId → Bool
+  is_built_class name = has_class classes name || is_collection (text_of names name)
+
   -- one layer of a node, with what is found in its parts
   abbrev pub node_step : Node-F Found Found (Span → Found) Found → Found
   node_step (node.Str pieces at) = first_of pieces
-  node_step (node.Array items at) = Some at
-  node_step (node.Hash pairs at) = Some at
+  node_step (node.Array items at) = first_of items
+  node_step (node.Hash pairs at) = first_of (map in_pair pairs)
   node_step (node.«Node::Global» name at) = Some at
   node_step (node.SetLocal name value at) = value
   node_step (node.SetField name value at) = value
@@ -87,8 +98,8 @@ module _ (names : List (List ℕ)) (own_p : Bool) (classes : List Class) where
   node_step (node.Store receiver name args at) = earlier receiver (first_of args)
   node_step (node.OpAssign target op value at) = earlier (target at) value
   node_step (node.Call receiver name args block at) =
-      earlier (here (is_unbuilt_call names own_p (is_some receiver) name (length args) (is_some block)) at) (earlier (in_any receiver) (earlier (first_of args) (in_any block)))
-  node_step (node.New class args at) = earlier (here (not (has_class classes class)) at) (first_of args)
+      earlier (here (is_unbuilt_call names (is_some receiver) name (is_some block)) at) (earlier (in_any receiver) (earlier (first_of args) (in_any block)))
+  node_step (node.New class args at) = earlier (here (not (is_built_class class)) at) (first_of args)
   node_step (node.ThreadNew args body at) = Some at
   node_step (node.And first second at) = earlier first second
   node_step (node.Or first second at) = earlier first second
@@ -112,7 +123,10 @@ module _ (names : List (List ℕ)) (own_p : Bool) (classes : List Class) where
   unfoldable pub unbuilt_in_block : Block → Found
   unbuilt_in_block = fold-Block Found Found (Span → Found) Found node_step piece_step target_step block_step
 
-  -- what of statements, and of methods
+  -- what of a pair of a hash, of statements, and of methods
+  abbrev pub unbuilt_in_pair : Node × Node → Found
+  unbuilt_in_pair pair = earlier (unbuilt_in pair.0) (unbuilt_in pair.1)
+
   abbrev pub unbuilt_in_all : List Node → Found
   unbuilt_in_all nodes = first_of (map unbuilt_in nodes)
 
@@ -123,13 +137,8 @@ module _ (names : List (List ℕ)) (own_p : Bool) (classes : List Class) where
   abbrev pub unbuilt_in_classes : List Class → Found
   unbuilt_in_classes all = first_of (map (λ (k : Class). unbuilt_in_methods k.methods) all)
 
--- whether one of the methods is named `p`
-abbrev pub has_own_p : List (List ℕ) → List Method → Bool
-has_own_p names methods = list_any (λ (m : Method). is_p (text_of names m.name)) methods
-
 -- what stands first of a program that is not run yet, in its classes, in the methods of its top level, or in the top level itself
 abbrev pub first_unbuilt : Program → Found
 first_unbuilt program =
-    let own_p = has_own_p program.names program.functions in
-    earlier (unbuilt_in_classes program.names own_p program.classes program.classes)
-    (earlier (unbuilt_in_methods program.names own_p program.classes program.functions) (unbuilt_in_all program.names own_p program.classes program.main))
+    earlier (unbuilt_in_classes program.names program.classes program.classes)
+    (earlier (unbuilt_in_methods program.names program.classes program.functions) (unbuilt_in_all program.names program.classes program.main))

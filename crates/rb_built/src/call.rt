@@ -1,6 +1,6 @@
 // Which calls and new objects are not run yet.
 
-ghost use Rattle.std.specs.Prelude.{◌≡◌, length, is_some};
+ghost use Rattle.std.specs.Prelude.{◌≡◌, is_some};
 ghost use Rattle.rb_built.specs.Unbuilt as spec;
 
 use rb_tree::{Block, Boxed, Class, NameId, Names, Node};
@@ -16,35 +16,40 @@ fn text_of(names: &Names, name: NameId) -> &[u8]
     }
 }
 
-/// Whether a name is `p`.
-pub(crate) fn is_p(names: &Names, name: NameId) -> bool
-    ensures { result ≡ spec.is_p (spec.text_of names.now name) }
+/// Whether a method of this name takes a block that is not run yet.
+fn locks(text: &[u8]) -> bool
+    ensures { result ≡ spec.locks text.now }
 {
-    text_of(names, name) == b"p".as_slice()
+    text == b"synchronize".as_slice()
 }
 
-/// Whether a call is not run yet, in a script that has a method `p` of its own or has none.
+/// Whether a class of this name is built in and has `new`.
+fn is_collection(text: &[u8]) -> bool
+    ensures { result ≡ spec.is_collection text.now }
+{
+    text == b"Array".as_slice() || text == b"Hash".as_slice()
+}
+
+/// Whether a call is not run yet.
 pub(crate) fn is_unbuilt_call(
     names: &Names,
-    own_p: bool,
     receiver: &Option<Boxed<Node>>,
     name: NameId,
-    args: &[Node],
     block: &Option<Boxed<Block>>,
 ) -> bool
-    ensures { result ≡ spec.is_unbuilt_call names.now own_p (is_some receiver.now) name (length args.now) (is_some block.now) }
+    ensures { result ≡ spec.is_unbuilt_call names.now (is_some receiver.now) name (is_some block.now) }
 {
-    if receiver.is_some() {
+    if block.is_none() {
         return false;
     }
-    if block.is_some() {
+    if receiver.is_none() {
         return true;
     }
-    !own_p && (is_p(names, name) && args.len() > 1)
+    locks(text_of(names, name))
 }
 
 /// Whether one of the classes has this name.
-pub(crate) fn has_class(classes: &[Class], name: NameId) -> bool
+fn has_class(classes: &[Class], name: NameId) -> bool
     ensures { result ≡ spec.has_class classes.now name }
 {
     'classes: for class in classes {
@@ -53,4 +58,11 @@ pub(crate) fn has_class(classes: &[Class], name: NameId) -> bool
         }
     }
     false
+}
+
+/// Whether a class is one of these, or is built in.
+pub(crate) fn is_built_class(names: &Names, classes: &[Class], name: NameId) -> bool
+    ensures { result ≡ spec.is_built_class names.now classes.now name }
+{
+    has_class(classes, name) || is_collection(text_of(names, name))
 }

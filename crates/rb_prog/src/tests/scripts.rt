@@ -1,6 +1,7 @@
 // Scripts with what they print and how they end: the values of those that end well are Ruby's own.
 
 mod classes;
+mod collections;
 mod object_texts;
 mod objects;
 
@@ -362,6 +363,50 @@ const LONG_TEXTS: [Row; 2] = [
     ),
 ];
 
+/// Arrays as long as an array may be.
+const LONG_ARRAYS: [Row; 2] = [
+    (
+        "a = Array.new(16777216, 0)\nputs a.length\na << 1",
+        "16777216\n",
+        "fault ArrayTooLong at 3:3",
+    ),
+    (
+        "a = []\na[16777215] = 1\nputs a.length\na.unshift(1)",
+        "16777216\n",
+        "fault ArrayTooLong at 4:3",
+    ),
+];
+
+/// Arrays and hashes inside each other, as deep as their texts may be, and one deeper.
+const NESTED: [Row; 6] = [
+    (
+        "a = []\n996.times { a = [a] }\nputs a.to_s.length",
+        "1994\n",
+        "",
+    ),
+    (
+        "a = []\n997.times { a = [a] }\nputs a.to_s.length",
+        "",
+        "fault TooDeep at 3:8",
+    ),
+    (
+        "h = {}\n997.times { h = { 1 => h } }\ns = h.inspect\nputs s.length",
+        "4987\n",
+        "",
+    ),
+    (
+        "h = {}\n998.times { h = { 1 => h } }\ns = h.inspect\nputs s.length",
+        "",
+        "fault TooDeep at 3:7",
+    ),
+    ("a = [1]\n998.times { a = [a] }\nputs a", "1\n", ""),
+    (
+        "a = [1]\n999.times { a = [a] }\nputs a",
+        "",
+        "fault TooDeep at 3:1",
+    ),
+];
+
 /// The line on standard error, whole.
 fn line_of(alloc: Global, said: &str) -> Result<String, AllocError> {
     if said.is_empty() {
@@ -417,12 +462,38 @@ fn scripts_with_classes_print_what_they_should_and_end_so(rt: HostRuntime) -> Re
 }
 
 #[test]
+fn scripts_with_arrays_and_hashes_print_what_they_should_and_end_so(
+    rt: HostRuntime,
+) -> Result<(), Fail> {
+    let tables: [&[Row]; 4] = [
+        &collections::ARRAYS,
+        &collections::ARRAY_BLOCKS,
+        &collections::HASHES,
+        &collections::COLLECTION_FAULTS,
+    ];
+    for rows in tables {
+        all_hold(&rt, rt.alloc(), rows)?;
+    }
+    Ok(())
+}
+
+#[test]
+fn an_array_has_at_most_16777216_elements(rt: HostRuntime) -> Result<(), Fail> {
+    all_hold(&rt, rt.alloc(), &LONG_ARRAYS)
+}
+
+#[test]
+fn texts_of_collections_are_at_most_1000_deep(rt: HostRuntime) -> Result<(), Fail> {
+    all_hold(&rt, rt.alloc(), &NESTED)
+}
+
+#[test]
 fn a_text_has_at_most_16777216_bytes(rt: HostRuntime) -> Result<(), Fail> {
     all_hold(&rt, rt.alloc(), &LONG_TEXTS)
 }
 
 /// A script, the steps that it makes in all, and what it has printed where it may make one less.
-const COUNTED: [(&str, u32, &str); 13] = [
+const COUNTED: [(&str, u32, &str); 19] = [
     ("puts 1", 2, ""),
     ("puts 1\nputs 2", 4, "1\n"),
     ("a = 6\nputs a * 7", 6, ""),
@@ -431,6 +502,12 @@ const COUNTED: [(&str, u32, &str); 13] = [
     ("def f(x)\n  x\nend\nputs f(2)", 4, ""),
     ("puts \"a#{1}b\"", 3, ""),
     ("nil && puts(1)\n1 || puts(1)", 4, ""),
+    ("p [1, 2]", 6, ""),
+    ("puts [1, [2]]", 8, ""),
+    ("[1, 2].each { |v| v }", 8, ""),
+    ("{ a: 1 }.each { |k, v| v }", 6, ""),
+    ("a = [3]\na[0] += 1\na << 4", 10, ""),
+    ("a = []\na[1] = 2\np a.map { |v| v }", 15, ""),
     ("class Foo\nend\nputs 1\nFoo.new", 3, "1\n"),
     (
         "class Foo\n  def initialize(n)\n    @n = n\n  end\nend\nputs 1\nFoo.new(1)",

@@ -3,7 +3,10 @@ use Rattle.rb_built.specs.Unbuilt as spec
 use Rattle.rb_built.proofs.nodes.+looking.Given as goal
 
 abbrev pub invariant-in_all-nodes : goal.invariant-in_all-nodes
-invariant-in_all-nodes l = spec.earlier l.first (spec.unbuilt_in_all l.names l.own_p l.classes (drop l.node-index l.nodes)) ≡ spec.unbuilt_in_all l.names l.own_p l.classes l.nodes
+invariant-in_all-nodes l = spec.earlier l.first (spec.unbuilt_in_all l.names l.classes (drop l.node-index l.nodes)) ≡ spec.unbuilt_in_all l.names l.classes l.nodes
 
 abbrev pub invariant-in_pieces-pieces : goal.invariant-in_pieces-pieces
-invariant-in_pieces-pieces l = spec.earlier l.first (spec.first_of (map (spec.unbuilt_in_piece l.names l.own_p l.classes) (drop l.piece-index l.pieces))) ≡ spec.first_of (map (spec.unbuilt_in_piece l.names l.own_p l.classes) l.pieces)
+invariant-in_pieces-pieces l = spec.earlier l.first (spec.first_of (map (spec.unbuilt_in_piece l.names l.classes) (drop l.piece-index l.pieces))) ≡ spec.first_of (map (spec.unbuilt_in_piece l.names l.classes) l.pieces)
+
+abbrev pub invariant-in_pairs-pairs : goal.invariant-in_pairs-pairs
+invariant-in_pairs-pairs l = spec.earlier l.first (spec.first_of (map (spec.unbuilt_in_pair l.names l.classes) (drop l.pair-index l.pairs))) ≡ spec.first_of (map (spec.unbuilt_in_pair l.names l.classes) l.pairs)
