@@ -2,10 +2,11 @@
 
 ghost use Rattle.std.specs.Prelude.{◌≡◌, ◌≢◌, ◌<◌, ◌≤◌, ◌+◌, ◌-◌, ◌++◌, ◌∷◌, [], length, take, drop, slice_get, IsTrue, All, ◌↔◌, None, Some, IsSome, IsSomeAnd, IfSome, IfOk, OnOk, OnErr, true};
 ghost use Rattle.array_strategy.specs.Elements.{IsIntegerBy, IsRaw, item_at, without_item, place_of, empty, of_items, pushed, unshifted, put_at, MayNeedMemory};
+ghost use Rattle.array_strategy.specs.Storage.{seen};
 
 use crate::fault::PutFault;
 use crate::place::place_at;
-use crate::storage::{Store, Strategy};
+use crate::storage::{Peeked, Store, Strategy};
 use std::alloc::{AllocError, Global};
 use std::marker::Model;
 use typed_location::Item;
@@ -68,6 +69,7 @@ impl<V: Item> LocalArray<V> {
     }
 
     /// How many items it has.
+    #[inline(always)]
     pub fn len(&self) -> usize
         ensures exact { result ≡ length self.now.items }
         ensures bound { result ≤ MAX_LEN }
@@ -92,6 +94,7 @@ impl<V: Item> LocalArray<V> {
     }
 
     /// A copy of the item at an index, where a negative one counts from the end. An integer needs no memory.
+    #[inline(always)]
     pub fn at(&self, index: i64) -> Result<Option<V>, AllocError>
         ensures found { IfOk result (λ found. found ≡ item_at self.now.items index) }
         ensures raw { self.now.strategy ≡ Strategy.Ints → IfOk result (λ found. IfSome found (λ item. IsSome (V.integer item))) }
@@ -104,8 +107,20 @@ impl<V: Item> LocalArray<V> {
         }
     }
 
+    /// The item at an index, where a negative one counts from the end, seen where it stands. No item is copied, and none shared.
+    #[inline(always)]
+    pub fn peek(&self, index: i64) -> Peeked<'_, V>
+        ensures { seen V.int result ≡ item_at self.now.items index }
+    {
+        match place_at(index, self.len()) {
+            Some(place) => self.store.peek(place),
+            None => Peeked::Nothing,
+        }
+    }
+
     /// Puts an item at an index, where a negative one counts from the end. The array is first filled up to there.
     #[tactic(auto, using(crate::proofs::Puts::puts))]
+    #[inline(always)]
     pub fn put(&mut self, index: i64, item: V, fill: V) -> Result<(), PutFault>
         ensures done { OnOk result (IsSomeAnd (place_of index (length self.old.items)) (λ j. self.new ≡ put_at V.integer self.old j item fill)) }
         ensures too_small { (result ≡ Err PutFault.TooSmall) ↔ (place_of index (length self.old.items) ≡ None) }

@@ -14,4 +14,4 @@ pub use fault::PutFault;
 // A crate can name an array in a contract only if the types of its fields are exported.
 #[doc(hidden)]
 pub use storage::Store;
-pub use storage::Strategy;
+pub use storage::{Peeked, Strategy};

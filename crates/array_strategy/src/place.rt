@@ -4,6 +4,7 @@ ghost use Rattle.std.specs.Prelude.{◌≡◌};
 ghost use Rattle.array_strategy.specs.Elements.{place_of};
 
 /// The place that an index names in an array of this length; a negative one counts from the end.
+#[inline(always)]
 pub(crate) fn place_at(index: i64, len: usize) -> Option<usize>
     ensures { result ≡ place_of index len }
 {

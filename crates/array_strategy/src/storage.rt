@@ -27,8 +27,19 @@ pub enum Store<V> {
     Anys(VecDeque<V>),
 }
 
+/// What stands at a place, seen where it stands.
+#[derive(Drop)]
+pub enum Peeked<'a, V> {
+    /// No item.
+    Nothing,
+    /// The item of a raw integer.
+    Int(i64),
+    /// An item that is held itself.
+    Item(&'a V),
+}
+
 impl<V: Item> Store<V> {
-    ghost use Rattle.array_strategy.specs.Storage.{stored, replaced, filled};
+    ghost use Rattle.array_strategy.specs.Storage.{stored, seen, replaced, filled};
     ghost use Rattle.array_strategy.specs.Elements.{IsIntegerBy, IsRaw, strategy_with, empty, of_items, pushed, unshifted};
 
     /// The storage of these items.
@@ -56,6 +67,7 @@ impl<V: Item> Store<V> {
     }
 
     /// How many items it holds.
+    #[inline(always)]
     pub(crate) fn len(&self) -> usize
         ensures { result ≡ length (stored V.int self.now).items }
     {
@@ -80,6 +92,7 @@ impl<V: Item> Store<V> {
     }
 
     /// A copy of the item at a place; only an item that is no raw integer needs memory.
+    #[inline(always)]
     pub(crate) fn get(&self, place: usize) -> Result<Option<V>, AllocError>
         ensures found { IfOk result (λ found. found ≡ slice_get (stored V.int self.now).items place) }
         ensures raw { (stored V.int self.now).strategy ≡ Strategy.Ints → IfOk result (λ found. IfSome found (λ item. IsSome (V.integer item))) }
@@ -96,6 +109,24 @@ impl<V: Item> Store<V> {
             Store::Anys(anys) => match anys.get(place) {
                 Some(item) => Ok(Some(item.copy()?)),
                 None => Ok(None),
+            },
+        }
+    }
+
+    /// The item at a place, where it stands.
+    #[inline(always)]
+    pub(crate) fn peek(&self, place: usize) -> Peeked<'_, V>
+        ensures { seen V.int result ≡ slice_get (stored V.int self.now).items place }
+    {
+        match self {
+            Store::Empty => Peeked::Nothing,
+            Store::Ints(ints) => match ints.get(place) {
+                Some(n) => Peeked::Int(*n),
+                None => Peeked::Nothing,
+            },
+            Store::Anys(anys) => match anys.get(place) {
+                Some(item) => Peeked::Item(item),
+                None => Peeked::Nothing,
             },
         }
     }
@@ -151,6 +182,7 @@ impl<V: Item> Store<V> {
 
     #[tactic(auto, using(crate::proofs::Places::places))]
     /// Puts an item in place of another; only a change of strategy needs memory.
+    #[inline(always)]
     pub(crate) fn replace(&mut self, alloc: Global, place: usize, item: V) -> Result<(), AllocError>
         requires within { place < length (stored V.int self.old).items }
         requires few { length (stored V.int self.old).items < 2 ^ 32 }

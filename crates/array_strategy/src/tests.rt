@@ -3,7 +3,7 @@
 ghost use Rattle.std.specs.Prelude.{◌≡◌, ◌-ℤ◌, pos, Some, length, IfSome, IfNone, IfOk, IsSomeAnd, OnErr};
 ghost use Rattle.array_strategy.specs.Elements.{item_at, place_of, put_at};
 
-use crate::{LocalArray, MAX_LEN, PutFault, Strategy};
+use crate::{LocalArray, MAX_LEN, Peeked, PutFault, Strategy};
 use std::alloc::{AllocError, Global};
 use std::test::Fail;
 use typed_location::Item;
@@ -212,6 +212,34 @@ fn an_array_is_made_of_items_and_copied_back(rt: HostRuntime) -> Result<(), Fail
     assert!(rt; scarce.to_vec().is_err());
     assert!(rt; scarce.at(1).is_err());
     assert_eq!(rt; scarce.at(0)?, Some(Int(1)));
+    Ok(())
+}
+
+// What is seen at an index.
+fn seen_at(array: &LocalArray<Value>, index: i64) -> Option<Value> {
+    match array.peek(index) {
+        Peeked::Nothing => None,
+        Peeked::Int(n) => Some(Int(n)),
+        Peeked::Item(item) => Some(*item),
+    }
+}
+
+#[test]
+fn an_item_is_seen_where_it_stands(rt: HostRuntime) -> Result<(), Fail> {
+    let alloc = rt.alloc();
+    let raw = [Int(1), Int(2)];
+    for held in [Strategy::Ints, Strategy::Anys] {
+        let array = array_of(alloc, held, &raw)?;
+        for (index, item) in [(0, Some(Int(1))), (-1, Some(Int(2))), (2, None), (-3, None)] {
+            assert_eq!(rt; seen_at(&array, index), item, "{index}");
+        }
+    }
+    // A copy of the last item is refused.
+    let array = array_of(alloc, Strategy::Anys, &[Nil, Scarce])?;
+    for (index, item) in [(0, Some(Nil)), (-1, Some(Scarce)), (i64::MIN, None)] {
+        assert_eq!(rt; seen_at(&array, index), item, "{index}");
+    }
+    assert_eq!(rt; seen_at(&LocalArray::new(alloc), 0), None);
     Ok(())
 }
 

@@ -10,6 +10,8 @@ use Rattle.std.proofs.lemmas.Option.{slice_get-map}
 use Rattle.array_strategy.specs.Elements.{place_of, item_at, without_item}
 use Rattle.rb_model.specs.declared.value.Value.{Value as Held}
 use Rattle.rb_model.specs.Values.{Value as Val, plain, or_nil, is_text}
+use Rattle.rb_model.specs.declared.immediate.Immediate.{Immediate}
+use Rattle.rb_model.specs.Immediates.{told, told_reply}
 use Rattle.local_heap.specs.Memory.{may_want}
 use Rattle.rb_model.specs.Acts.{At, Pop, Shift, DeleteAt}
 use Rattle.rb_model.specs.Acts as reply
@@ -97,6 +99,10 @@ found_at xs i some = by (item_at xs i) some
 pub reads : (xs : List Held) (i : ℤ) (found : Option Held) (value : Held) → found ≡ item_at xs i → plain value ≡ or_nil (option_map plain found)
     → reply.Value (plain value) ≡ gives (Elements (map plain xs)) (At i)
 reads xs i found value taken is = ap reply.Value (is ∙ ap (λ o. or_nil (option_map plain o)) taken ∙ at_index xs i)
+
+pub reads_told : (xs : List Held) (i : ℤ) (found : Option Held) (answer : Immediate) → found ≡ item_at xs i → answer ≡ told (or_nil (option_map plain found))
+    → answer ≡ told_reply (gives (Elements (map plain xs)) (At i))
+reads_told xs i found answer taken is = is ∙ ap (λ o. told (or_nil (option_map plain o))) taken ∙ ap told (at_index xs i)
 
 pub read_wants : (xs : List Held) (i : ℤ) → IsSomeAnd (item_at xs i) (λ v. is_text (plain v) ≡ true) → may_want (Elements (map plain xs)) (At i) ≡ true
 read_wants xs i some = ap is_text (sym (at_index xs i)) ∙ found_at xs i some

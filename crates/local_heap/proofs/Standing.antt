@@ -14,6 +14,7 @@ use Rattle.rb_model.specs.Doing.{said}
 use Rattle.rb_model.specs.Things.{Thing, Field, becomes, gives}
 use Rattle.rb_model.specs.Things as thing
 use Rattle.rb_model.specs.Paths.{shape_behind, shape_made}
+use Rattle.rb_model.specs.Immediates.{told_answer}
 use Rattle.rb_model.specs.Private.{Becomes, Gives, Private, changed, entered, held, or_none, shape_held, with_shape_of}
 use Rattle.rb_model.specs.Private as private
 use Rattle.shape_core.specs.Shape.{Shape}
@@ -484,6 +485,15 @@ module _ (thread : ℕ) (shapes : List Shape) (cells : List Cell) (h : Private) 
     length_there c at = by c ∙ ap has_length (sym (held_there ∙ ap (option_and_then (still shapes home)) at))
       where
         by : (d : Cell) → has_length (contents d) ≡ has_length (still shapes home d)
+        by cell.Empty = refl
+        by (cell.Object o) = refl
+        by (cell.List list) = refl
+        by (cell.Pairs pairs) = refl
+
+    pub told_there : (i : ℤ) (c : Cell) → found ≡ Some c → told_answer (contents c) (At i) ≡ told_answer (held h id) (At i)
+    told_there i c at = by c ∙ ap (λ o. told_answer o (At i)) (sym (held_there ∙ ap (option_and_then (still shapes home)) at))
+      where
+        by : (d : Cell) → told_answer (contents d) (At i) ≡ told_answer (still shapes home d) (At i)
         by cell.Empty = refl
         by (cell.Object o) = refl
         by (cell.List list) = refl

@@ -7,6 +7,7 @@ ghost use Rattle.rb_model.specs.Acts.{At, Len};
 ghost use Rattle.rb_model.specs.Acts as answer;
 ghost use Rattle.rb_model.specs.Doing.{doing, said};
 ghost use Rattle.rb_model.specs.Things.{field, gives};
+ghost use Rattle.rb_model.specs.Immediates.{told_answer};
 ghost use Rattle.local_heap.specs.Memory.{may_want};
 ghost use Rattle.local_heap.specs.Contents.{has_length, is_list};
 ghost use Rattle.local_heap.specs.Slots.{IsOwnBy, IsWord, class_at, meaning, own, slot_at};
@@ -20,7 +21,7 @@ use crate::pairs;
 use crate::row::value_at;
 use crate::slot::Whose;
 use ordered_pairs::OrderedPairs;
-use rb_model::{Act, Fault, Id, Ref, Reply, Sort, Value};
+use rb_model::{Act, Fault, Id, Immediate, Ref, Reply, Sort, Value};
 use rb_tree::NameId;
 use shape_core::{Kind, Place, ShapeStore};
 use std::alloc::{AllocError, Global};
@@ -38,6 +39,7 @@ pub enum Cell {
 
 impl Cell {
     /// Does what is asked of a thing, other than of its fields.
+    #[inline(always)]
     pub fn apply(&mut self, alloc: Global, act: Act) -> Result<Reply, AllocError>
         ensures { CellDoes self.old (doing act) result self.new }
     {
@@ -50,6 +52,7 @@ impl Cell {
     }
 
     /// The element at an index, if this is a list.
+    #[inline(always)]
     pub fn element(&self, index: i64) -> Result<Option<Value>, AllocError>
         ensures list { IfOk result (λ found. is_some found ≡ is_list (contents self.now)) }
         ensures value { IfOk result (λ found. IfSome found (λ value. IsSomeAnd (contents self.now) (λ thing. answer.Value (plain value) ≡ gives thing (At index)))) }
@@ -58,6 +61,17 @@ impl Cell {
         match self {
             Cell::List(list) => Ok(Some(list::at(list, index)?)),
             _ => Ok(None),
+        }
+    }
+
+    /// The element at an index, told where this is a list and the element an immediate value.
+    #[inline(always)]
+    pub fn immediate(&self, index: i64) -> Immediate
+        ensures { result ≡ told_answer (contents self.now) (At index) }
+    {
+        match self {
+            Cell::List(list) => list::immediate(list, index),
+            _ => Immediate::Other,
         }
     }
 
@@ -86,6 +100,7 @@ pub struct Cells {
 
 impl Cells {
     /// What stands at an id.
+    #[inline(always)]
     pub fn cell(&self, id: Id) -> Option<&Cell>
         ensures { option_copied result ≡ cell_at self.now.thread self.now.items.items id }
     {

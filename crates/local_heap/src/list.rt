@@ -7,11 +7,12 @@ ghost use Rattle.rb_model.specs.Acts.{Clear, Copy, DeleteAt, Len, Pop, Push, Put
 ghost use Rattle.rb_model.specs.Acts as answer;
 ghost use Rattle.rb_model.specs.Doing.{doing, seen};
 ghost use Rattle.rb_model.specs.Things.{gives, max_elements};
+ghost use Rattle.rb_model.specs.Immediates.{told, told_reply};
 ghost use Rattle.local_heap.specs.Memory.{may_want};
 ghost use Rattle.local_heap.specs.Contents.{Does, Refuses, Tells, listed};
 
-use array_strategy::{LocalArray, PutFault};
-use rb_model::{Act, Fault, Reply, Thing, Value};
+use array_strategy::{LocalArray, Peeked, PutFault};
+use rb_model::{Act, Fault, Immediate, Reply, Thing, Value};
 use std::alloc::{AllocError, Global};
 
 /// The elements of a list.
@@ -29,6 +30,7 @@ pub fn made(alloc: Global, values: Vec<Value>) -> Result<List, AllocError>
 }
 
 /// Does what is asked of a list.
+#[inline(always)]
 pub fn apply(list: &mut List, act: Act) -> Result<Reply, AllocError>
     ensures { Does (listed list.old) (doing act) result (listed list.new) }
 {
@@ -48,6 +50,7 @@ pub fn apply(list: &mut List, act: Act) -> Result<Reply, AllocError>
 }
 
 /// The element at an index.
+#[inline(always)]
 pub fn at(list: &List, index: i64) -> Result<Value, AllocError>
     ensures value { IfOk result (λ value. answer.Value (plain value) ≡ gives (listed list.now) (At index)) }
     ensures refused { OnErr result (may_want (listed list.now) (At index) ≡ true) }
@@ -55,7 +58,36 @@ pub fn at(list: &List, index: i64) -> Result<Value, AllocError>
     Ok(or_nil(list.at(index)?))
 }
 
+/// The element at an index, told where it is an immediate value. Nothing is copied or shared.
+#[inline(always)]
+pub fn immediate(list: &List, index: i64) -> Immediate
+    ensures { result ≡ told_reply (gives (listed list.now) (At index)) }
+{
+    match list.peek(index) {
+        Peeked::Nothing => Immediate::Nil,
+        Peeked::Int(n) => Immediate::Int(n),
+        Peeked::Item(value) => immediate_of(value),
+    }
+}
+
+/// A value, told where it is an immediate one.
+#[inline(always)]
+fn immediate_of(value: &Value) -> Immediate
+    ensures { result ≡ told (plain value.now) }
+{
+    match value {
+        Value::Nil => Immediate::Nil,
+        Value::False => Immediate::False,
+        Value::True => Immediate::True,
+        Value::Int(n) => Immediate::Int(*n),
+        Value::Sym(_) => Immediate::Other,
+        Value::Str(_) => Immediate::Other,
+        Value::Ref(_) => Immediate::Other,
+    }
+}
+
 /// A value where there is one, and else nil.
+#[inline(always)]
 fn or_nil(found: Option<Value>) -> Value
     ensures { plain result ≡ nil_or (option_map plain found) }
 {
@@ -65,12 +97,14 @@ fn or_nil(found: Option<Value>) -> Value
     }
 }
 
+#[inline(always)]
 fn read(list: &List, index: i64) -> Result<Reply, AllocError>
     ensures { Does (listed list.now) (At index) result (listed list.now) }
 {
     Ok(Reply::Value(at(list, index)?))
 }
 
+#[inline(always)]
 fn put(list: &mut List, index: i64, value: Value) -> Result<Reply, AllocError>
     ensures { Does (listed list.old) (Put index (plain value)) result (listed list.new) }
 {
@@ -90,6 +124,7 @@ fn unshift(list: &mut List, value: Value) -> Result<Reply, AllocError>
 }
 
 /// What a list answers to a write.
+#[inline(always)]
 fn answered(done: Result<(), PutFault>) -> Result<Reply, AllocError>
     ensures { Tells done result }
 {
@@ -135,6 +170,7 @@ fn clear(list: &mut List) -> Result<Reply, AllocError>
     Ok(Reply::Done)
 }
 
+#[inline(always)]
 fn len(list: &List) -> Result<Reply, AllocError>
     ensures { Does (listed list.now) Len result (listed list.now) }
 {

@@ -24,6 +24,7 @@ pub fn made(alloc: Global, given: Vec<(Value, Value)>) -> Result<OrderedPairs, A
 }
 
 /// Does what is asked of the pairs of a hash.
+#[inline(always)]
 pub fn apply(pairs: &mut OrderedPairs, alloc: Global, act: Act) -> Result<Reply, AllocError>
     ensures { Does (Pairs pairs.old) (doing act) result (Pairs pairs.new) }
 {
@@ -50,6 +51,7 @@ fn add(pairs: &mut OrderedPairs, key: Value, value: Value) -> Result<(), AllocEr
     }
 }
 
+#[inline(always)]
 fn get(pairs: &OrderedPairs, key: &Value) -> Result<Reply, AllocError>
     ensures { Does (Pairs pairs.now) (KGet (plain key.now)) result (Pairs pairs.now) }
 {

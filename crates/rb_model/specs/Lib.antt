@@ -7,6 +7,7 @@ pub mod Ends
 pub mod Faults
 pub mod Acts
 pub mod Things
+pub mod Immediates
 pub mod Doing
 pub mod Paths
 pub mod Private

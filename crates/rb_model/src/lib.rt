@@ -5,6 +5,7 @@
 mod act;
 mod call;
 mod fault;
+mod immediate;
 mod item;
 mod shared_text;
 mod store;
@@ -16,6 +17,7 @@ mod value;
 pub use act::{Act, Make, Reply};
 pub use call::{Answer, Call, End};
 pub use fault::Fault;
+pub use immediate::Immediate;
 pub use shared_text::SharedText;
 pub use store::{OneStore, ThreadStore};
 pub use thing::{Field, Thing};

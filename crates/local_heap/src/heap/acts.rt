@@ -17,7 +17,7 @@ use std::alloc::AllocError;
 
 impl<S: ShapeStore> LocalHeap<S> {
     /// Does what is asked of a thing, other than of its fields.
-    #[inline(never)]
+    #[inline(always)]
     pub(super) fn apply_within(&mut self, id: Id, act: Act) -> Result<Reply, AllocError>
         requires held { IsSome (held self.old id) }
         requires other { is_of_field (doing act) ≡ false }

@@ -8,8 +8,8 @@ use Deed::{
     At, Clear, Copy, DeleteAt, Get, KDelete, KGet, KHas, KPut, Len, Pop, Push, Put, Set, Shift,
     Unshift,
 };
-use Row::{Int, Nil, Text};
-use rb_model::{Fault, Make, Ref, Sort, Thing, Value};
+use Row::{False, Int, Nil, Text, True};
+use rb_model::{Fault, Id, Immediate, Make, Ref, Sort, Thing, Value};
 use std::alloc::{AllocError, Global};
 use std::test::Fail;
 
@@ -174,6 +174,49 @@ fn a_list_is_read_without_an_act(rt: HostRuntime) -> Result<(), Fail> {
     let object = heap.make(Make::Object(7))?;
     assert!(rt; heap.element(object.id, 0)?.is_none());
     assert_eq!(rt; heap.length(object.id), None);
+    Ok(())
+}
+
+/// How the elements of a list of 5, nil, true, false and a text are told.
+const TOLD: [(i64, Immediate); 8] = [
+    (0, Immediate::Int(5)),
+    (1, Immediate::Nil),
+    (2, Immediate::True),
+    (-2, Immediate::False),
+    (-1, Immediate::Other),
+    (5, Immediate::Nil),
+    (-6, Immediate::Nil),
+    (i64::MIN, Immediate::Nil),
+];
+
+#[test]
+fn an_immediate_element_is_told_and_no_other(rt: HostRuntime) -> Result<(), Fail> {
+    let alloc = rt.alloc();
+    let mut heap = new_heap(alloc)?;
+    let mut values = Vec::new(alloc);
+    for row in [Int(5), Nil, True, False, Text("a")] {
+        values.push(value(alloc, row)?)?;
+    }
+    let list = heap.make(Make::Elements(values))?;
+    for (index, told) in TOLD {
+        assert_eq!(rt; heap.immediate_element(list.id, index), told, "{index}");
+    }
+    let integers = new_list(&mut heap, alloc, 2)?;
+    for (index, told) in [(-1, Immediate::Int(2)), (2, Immediate::Nil)] {
+        assert_eq!(rt; heap.immediate_element(integers.id, index), told, "{index}");
+    }
+    let hash = heap.make(Make::Pairs(Vec::new(alloc)))?;
+    let unheld = Id {
+        thread: 3,
+        serial: 9,
+    };
+    let of_another = Id {
+        thread: 4,
+        serial: list.id.serial,
+    };
+    for id in [hash.id, unheld, of_another] {
+        assert_eq!(rt; heap.immediate_element(id, 0), Immediate::Other);
+    }
     Ok(())
 }
 
