@@ -1,15 +1,16 @@
 -- Items at places of a list.
-use Rattle.std.proofs.Common.{◌≡◌, ℕ, zero, suc, ◌+◌, ◌-◌, ◌<◌, ◌≤◌, List, [], ◌∷◌, ◌++◌, map, length, take, drop, replicate, slice_get, slice_set, refl, ap, sym, ◌∙◌, subst, arith, append_assoc, append-nil, add-one}
-use Rattle.std.specs.Prelude.{ℤ, None, All, slice_index_or, Result, Ok, Err, OnErr}
+use Rattle.std.proofs.Common.{◌≡◌, ℕ, zero, suc, ◌+◌, ◌-◌, ◌<◌, ◌≤◌, List, [], ◌∷◌, ◌++◌, map, length, take, drop, replicate, slice_get, slice_set, refl, ap, sym, ◌∙◌, inl, inr, arith, append_assoc, append-nil, add-one}
+use Rattle.std.specs.Prelude.{ℤ, Option, None, All, slice_index_or, Result, Ok, Err, OnErr}
 use Rattle.std.specs.List.{remove}
 use Rattle.std.proofs.lemmas.Grind.{common_steps}
 use Rattle.std.proofs.lemmas.List.{take-map, drop-map, map-set, map-append, length-replicate, take-append-le}
 use Rattle.std.proofs.lemmas.List.Edits.{sets-eq}
 use Rattle.std.proofs.lemmas.List.Elements.{All-map}
 use Rattle.std.proofs.lemmas.Option.{slice_get_past}
+use Rattle.typed_location.specs.declared.flag.Flag.{Flag}
 use Rattle.array_strategy.specs.declared.storage.Store.{Store}
 use Rattle.array_strategy.specs.declared.storage.Store.TheVariants as stores
-use Rattle.array_strategy.specs.Elements.{IsIntegerBy, IsRaw, with_item}
+use Rattle.array_strategy.specs.Elements.{IsFlagBy, IsIntegerBy, Widens, with_item}
 use Rattle.array_strategy.specs.Storage.{stored}
 
 pub map-remove : {X Y : Type 0} (f : X → Y) (xs : List X) (i : ℕ) → map f (remove xs i) ≡ remove (map f xs) i
@@ -29,6 +30,10 @@ map-filled f xs n x y = simp (map-append, map-replicate)
 -- the items of integers stand for integers
 pub All-integers : {V : Type 0} (int : ℤ → V) (ns : List ℤ) → All (IsIntegerBy int) (map int ns)
 All-integers int ns = All-map (IsIntegerBy int) int ns (λ k d h. (slice_index_or ns k d, refl))
+
+-- the items of flags stand for flags
+pub All-flags : {V : Type 0} (flag : Flag → V) (fs : List Flag) → All (IsFlagBy flag) (map flag fs)
+All-flags flag fs = All-map (IsFlagBy flag) flag fs (λ k d h. (slice_index_or fs k d, refl))
 
 pub ruleset places = (map-remove, slice_get-outside, map-set, map-filled)
 
@@ -55,10 +60,13 @@ with_item-end xs j v fill h =
     let le : length xs ≤ j = omega arith in
     grind (arith, common_steps, with_item-beyond xs j v fill le, none)
 
--- raw integers
-pub ints_raw : {V : Type 0} (int : ℤ → V) (store : Store V) (ints : _) → store ≡ stores.Ints ints → IsRaw int (stored int store)
-ints_raw int store ints is =
-    subst (λ (s : Store _). IsRaw int (stored int s)) (sym is) (record { strategy = refl; items = All-integers int ints.items })
+-- what a storage of items of one kind alone is widened by
+module _ {V : Type 0} (int : ℤ → V) (integer : V → Option ℤ) (flag : Flag → V) (flag_of : V → Option Flag) (store : Store V) (v : V) where
+  pub ints_widen : (ints : _) (found : Option ℤ) → store ≡ stores.Ints ints → found ≡ integer v → found ≡ None → Widens int integer flag flag_of (stored int flag store) v
+  ints_widen ints found is tells none = rw is (inl (record { strategy = refl; items = All-integers int ints.items }, sym tells ∙ none))
+
+  pub flags_widen : (flags : _) (found : Option Flag) → store ≡ stores.Flags flags → found ≡ flag_of v → found ≡ None → Widens int integer flag flag_of (stored int flag store) v
+  flags_widen flags found is tells none = rw is (inr (record { strategy = refl; items = All-flags flag flags.items }, sym tells ∙ none))
 
 -- what holds anyway holds where there is an error
 pub always_err : {T E P : Type 0} (r : Result T E) → P → OnErr r P

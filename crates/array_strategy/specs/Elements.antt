@@ -1,7 +1,8 @@
 -- What a contract sees of an array: its items, and the storage strategy that they are held by.
-use Rattle.std.specs.Prelude.{◌≡◌, ◌≢◌, Bool, is_some, ℕ, suc, ◌-◌, ◌<◌, nat_lt, if◌then◌else◌, ℤ, pos, negsuc, List, [], ◌∷◌, ◌++◌, length, All, take, drop, replicate, slice_get, option_and_then, Option, None, Some, IsSomeAnd}
+use Rattle.std.specs.Prelude.{◌≡◌, ◌⊎◌, Bool, is_some, ℕ, suc, ◌-◌, ◌<◌, nat_lt, if◌then◌else◌, ℤ, pos, negsuc, List, [], ◌∷◌, ◌++◌, length, All, take, drop, replicate, slice_get, option_and_then, Option, None, Some, IsSomeAnd}
 use Rattle.std.specs.List.{list_all, remove}
 use Rattle.std.specs.Option.{option_map_or}
+use Rattle.typed_location.specs.declared.flag.Flag.{Flag}
 use Rattle.array_strategy.specs.declared.storage.Strategy.{Strategy}
 use Rattle.array_strategy.specs.declared.storage.Strategy.TheVariants.{Empty, Ints, Anys}
 
@@ -33,6 +34,15 @@ module _ {V : Type 0} where
     pub strategy : array.strategy ≡ Ints
     pub items : All (IsIntegerBy int) array.items
 
+  -- an item that stands for a flag
+  abbrev pub IsFlagBy : (Flag → V) → V → Type 0
+  IsFlagBy flag v = (f : Flag) × (v ≡ flag f)
+
+  -- an array of flags alone that is not held as raw integers
+  pub record IsFlags (flag : Flag → V) (array : Elements V) : Type 0 where
+    pub strategy : array.strategy ≡ Anys
+    pub items : All (IsFlagBy flag) array.items
+
   -- no items
   abbrev pub empty : Elements V
   empty = record { items = []; strategy = Empty }
@@ -40,6 +50,10 @@ module _ {V : Type 0} where
   -- whether all items stand for integers
   abbrev pub all_integers : (V → Option ℤ) → List V → Bool
   all_integers integer xs = list_all (λ v. is_some (integer v)) xs
+
+  -- whether all items stand for flags
+  abbrev pub all_flags : (V → Option Flag) → List V → Bool
+  all_flags flag_of xs = list_all (λ v. is_some (flag_of v)) xs
 
   -- the strategy of an array that is made of items: raw where all stand for integers
   abbrev pub strategy_of : (V → Option ℤ) → List V → Strategy
@@ -78,6 +92,11 @@ module _ {V : Type 0} where
     abbrev pub put_at : ℕ → V → V → Elements V
     put_at j v fill = record { items = with_item old.items j v fill; strategy = strategy_with (filled_strategy j fill) (integer v) }
 
-    -- a put of v at an index may ask for memory: the list grows, or its strategy changes
+  module _ (int : ℤ → V) (integer : V → Option ℤ) (flag : Flag → V) (flag_of : V → Option Flag) (old : Elements V) where
+    -- an item of another kind comes among items of one kind alone: v is no integer and they are raw ones, or v is no flag and they are flags
+    abbrev pub Widens : V → Type 0
+    Widens v = (IsRaw int old × (integer v ≡ None)) ⊎ (IsFlags flag old × (flag_of v ≡ None))
+
+    -- a put of v at an index may ask for memory: the list grows, or it is widened
     abbrev pub MayNeedMemory : ℤ → V → Type 0
-    MayNeedMemory i v = IsSomeAnd (place_of i (length old.items)) (λ j. j < length old.items → strategy_with old.strategy (integer v) ≢ old.strategy)
+    MayNeedMemory i v = IsSomeAnd (place_of i (length old.items)) (λ j. j < length old.items → Widens v)

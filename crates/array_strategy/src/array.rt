@@ -1,7 +1,7 @@
 //! The array.
 
 ghost use Rattle.std.specs.Prelude.{◌≡◌, ◌≢◌, ◌<◌, ◌≤◌, ◌+◌, ◌-◌, ◌++◌, ◌∷◌, [], length, take, drop, slice_get, IsTrue, All, ◌↔◌, None, Some, IsSome, IsSomeAnd, IfSome, IfOk, OnOk, OnErr, true};
-ghost use Rattle.array_strategy.specs.Elements.{IsIntegerBy, IsRaw, item_at, without_item, place_of, empty, of_items, pushed, unshifted, put_at, MayNeedMemory};
+ghost use Rattle.array_strategy.specs.Elements.{IsIntegerBy, item_at, without_item, place_of, empty, of_items, pushed, unshifted, put_at, MayNeedMemory};
 ghost use Rattle.array_strategy.specs.Storage.{seen};
 
 use crate::fault::PutFault;
@@ -14,7 +14,8 @@ use typed_location::Item;
 /// The greatest length of an array.
 pub const MAX_LEN: usize = 16_777_216;
 
-/// A list of items, which holds them as raw integers for as long as they all stand for integers.
+/// A list of items, which holds them as raw integers for as long as they all stand for integers, and in a byte each for as long as they
+/// all stand for flags.
 #[derive(Drop)]
 pub struct LocalArray<V: Item> {
     store: Store<V>,
@@ -30,9 +31,9 @@ impl<V: Item> Model for LocalArray<V> {
 
     ghost use Rattle.array_strategy.specs.Storage.{stored};
 
-    ghost view = { λ a. stored V.int a.store };
+    ghost view = { λ a. stored V.int V.flag a.store };
 
-    ghost invariant = { λ a. length (stored V.int a.store).items ≤ MAX_LEN };
+    ghost invariant = { λ a. length (stored V.int V.flag a.store).items ≤ MAX_LEN };
 }
 
 impl<V: Item> LocalArray<V> {
@@ -46,7 +47,7 @@ impl<V: Item> LocalArray<V> {
         }
     }
 
-    /// The array of these items. It holds them as raw integers where all stand for integers.
+    /// The array of these items. It holds them as raw integers where all stand for integers, and in a byte each where all stand for flags.
     pub fn from_vec(alloc: Global, items: Vec<V>) -> Result<Self, PutFault>
         ensures done { IfOk result (λ array. array ≡ of_items V.integer items.items) }
         ensures too_long { (result ≡ Err PutFault.TooLong) ↔ (MAX_LEN < length items.items) }
@@ -110,7 +111,7 @@ impl<V: Item> LocalArray<V> {
     /// The item at an index, where a negative one counts from the end, seen where it stands. No item is copied, and none shared.
     #[inline(always)]
     pub fn peek(&self, index: i64) -> Peeked<'_, V>
-        ensures { seen V.int result ≡ item_at self.now.items index }
+        ensures { seen V.int V.flag result ≡ item_at self.now.items index }
     {
         match place_at(index, self.len()) {
             Some(place) => self.store.peek(place),
@@ -125,8 +126,7 @@ impl<V: Item> LocalArray<V> {
         ensures done { OnOk result (IsSomeAnd (place_of index (length self.old.items)) (λ j. self.new ≡ put_at V.integer self.old j item fill)) }
         ensures too_small { (result ≡ Err PutFault.TooSmall) ↔ (place_of index (length self.old.items) ≡ None) }
         ensures too_long { (result ≡ Err PutFault.TooLong) ↔ IsSomeAnd (place_of index (length self.old.items)) (λ j. MAX_LEN ≤ j) }
-        ensures memory { result ≡ Err PutFault.Memory → MayNeedMemory V.integer self.old index item }
-        ensures raw { result ≡ Err PutFault.Memory → IsSomeAnd (place_of index (length self.old.items)) (λ j. j < length self.old.items → IsRaw V.int self.old) }
+        ensures memory { result ≡ Err PutFault.Memory → MayNeedMemory V.int V.integer V.flag V.flag_of self.old index item }
         ensures kept { OnErr result (self.new ≡ self.old) }
     {
         let len = self.len();

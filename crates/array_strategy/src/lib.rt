@@ -1,8 +1,9 @@
-//! A list that stores its items as raw integers for as long as it holds nothing else.
+//! A list that stores its items as raw integers, or as flags of a byte each, for as long as it holds nothing else.
 #![tactic(auto)]
 
 mod array;
 mod fault;
+mod flags;
 mod growth;
 mod place;
 mod storage;

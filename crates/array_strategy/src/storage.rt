@@ -1,12 +1,13 @@
-//! The storage of an array: nothing, raw integers or any items.
+//! The storage of an array: nothing, raw integers, flags or any items.
 
-ghost use Rattle.std.specs.Prelude.{◌≡◌, ◌≢◌, ◌<◌, ◌≤◌, ◌+◌, ◌-◌, ◌^◌, ◌++◌, ◌∷◌, [], length, map, take, drop, slice_get, All, IsSome, IsSomeAnd, IfSome, IfOk, OnOk, OnErr, true};
+ghost use Rattle.std.specs.Prelude.{◌≡◌, ◌<◌, ◌≤◌, ◌+◌, ◌-◌, ◌^◌, ◌++◌, ◌∷◌, [], length, map, take, drop, replicate, slice_get, All, IsSome, IsSomeAnd, IfSome, IfOk, OnOk, OnErr, None, true};
 ghost use Rattle.std.specs.List.{remove};
 
+use crate::flags::{are_flags, narrowed_flags, push_flags, told_flags, widened_flags};
 use crate::growth::{are_integers, copies, narrowed, push_filled, told, widened};
 use std::alloc::{AllocError, Global};
 use std::collections::VecDeque;
-use typed_location::Item;
+use typed_location::{Flag, Item};
 
 /// How an array holds its items.
 #[derive(Clone, Copy, PartialEq, Eq, Debug)]
@@ -15,7 +16,7 @@ pub enum Strategy {
     Empty,
     /// It holds raw integers.
     Ints,
-    /// It holds the items themselves.
+    /// It holds any items: a byte each where all are flags, and else the items themselves.
     Anys,
 }
 
@@ -24,6 +25,7 @@ pub enum Strategy {
 pub enum Store<V> {
     Empty,
     Ints(VecDeque<i64>),
+    Flags(VecDeque<Flag>),
     Anys(VecDeque<V>),
 }
 
@@ -34,17 +36,19 @@ pub enum Peeked<'a, V> {
     Nothing,
     /// The item of a raw integer.
     Int(i64),
+    /// The item of a flag.
+    Flag(Flag),
     /// An item that is held itself.
     Item(&'a V),
 }
 
 impl<V: Item> Store<V> {
     ghost use Rattle.array_strategy.specs.Storage.{stored, seen, replaced, filled};
-    ghost use Rattle.array_strategy.specs.Elements.{IsIntegerBy, IsRaw, strategy_with, empty, of_items, pushed, unshifted};
+    ghost use Rattle.array_strategy.specs.Elements.{IsIntegerBy, Widens, empty, of_items, pushed, unshifted};
 
     /// The storage of these items.
     pub(crate) fn of_vec(alloc: Global, items: Vec<V>) -> Result<Store<V>, AllocError>
-        ensures { IfOk result (λ store. stored V.int store ≡ of_items V.integer items.items) }
+        ensures { IfOk result (λ store. stored V.int V.flag store ≡ of_items V.integer items.items) }
     {
         if items.is_empty() {
             return Ok(Store::Empty);
@@ -52,16 +56,20 @@ impl<V: Item> Store<V> {
         if are_integers(items.as_slice()) {
             return Ok(Store::Ints(narrowed(alloc, items.as_slice())?));
         }
+        if are_flags(items.as_slice()) {
+            return Ok(Store::Flags(narrowed_flags(alloc, items.as_slice())?));
+        }
         Ok(Store::Anys(VecDeque::from_vec(items)))
     }
 
     /// A copy of each item.
     pub(crate) fn to_vec(&self, alloc: Global) -> Result<Vec<V>, AllocError>
-        ensures { IfOk result (λ items. items.items ≡ (stored V.int self.now).items) }
+        ensures { IfOk result (λ items. items.items ≡ (stored V.int V.flag self.now).items) }
     {
         match self {
             Store::Empty => Ok(Vec::new(alloc)),
             Store::Ints(ints) => told(alloc, ints),
+            Store::Flags(flags) => told_flags(alloc, flags),
             Store::Anys(anys) => copies(alloc, anys),
         }
     }
@@ -69,41 +77,47 @@ impl<V: Item> Store<V> {
     /// How many items it holds.
     #[inline(always)]
     pub(crate) fn len(&self) -> usize
-        ensures { result ≡ length (stored V.int self.now).items }
+        ensures { result ≡ length (stored V.int V.flag self.now).items }
     {
         match self {
             Store::Empty => 0,
             Store::Ints(ints) => ints.len(),
+            Store::Flags(flags) => flags.len(),
             Store::Anys(anys) => anys.len(),
         }
     }
 
     /// How it holds them.
     pub(crate) fn strategy(&self) -> Strategy
-        ensures exact { result ≡ (stored V.int self.now).strategy }
-        ensures none { result ≡ Strategy.Empty → (stored V.int self.now).items ≡ [] }
-        ensures raw { result ≡ Strategy.Ints → All (IsIntegerBy V.int) (stored V.int self.now).items }
+        ensures exact { result ≡ (stored V.int V.flag self.now).strategy }
+        ensures none { result ≡ Strategy.Empty → (stored V.int V.flag self.now).items ≡ [] }
+        ensures raw { result ≡ Strategy.Ints → All (IsIntegerBy V.int) (stored V.int V.flag self.now).items }
     {
         match self {
             Store::Empty => Strategy::Empty,
             Store::Ints(_) => Strategy::Ints,
+            Store::Flags(_) => Strategy::Anys,
             Store::Anys(_) => Strategy::Anys,
         }
     }
 
-    /// A copy of the item at a place; only an item that is no raw integer needs memory.
+    /// A copy of the item at a place; one that is held as a raw integer or a flag needs no memory.
     #[inline(always)]
     pub(crate) fn get(&self, place: usize) -> Result<Option<V>, AllocError>
-        ensures found { IfOk result (λ found. found ≡ slice_get (stored V.int self.now).items place) }
-        ensures raw { (stored V.int self.now).strategy ≡ Strategy.Ints → IfOk result (λ found. IfSome found (λ item. IsSome (V.integer item))) }
-        ensures refused { OnErr result ((stored V.int self.now).strategy ≡ Strategy.Anys) }
-        ensures at_item { OnErr result (place < length (stored V.int self.now).items) }
-        ensures counted { OnErr result (IsSomeAnd (slice_get (stored V.int self.now).items place) (λ item. V.counted item ≡ true)) }
+        ensures found { IfOk result (λ found. found ≡ slice_get (stored V.int V.flag self.now).items place) }
+        ensures raw { (stored V.int V.flag self.now).strategy ≡ Strategy.Ints → IfOk result (λ found. IfSome found (λ item. IsSome (V.integer item))) }
+        ensures refused { OnErr result ((stored V.int V.flag self.now).strategy ≡ Strategy.Anys) }
+        ensures at_item { OnErr result (place < length (stored V.int V.flag self.now).items) }
+        ensures counted { OnErr result (IsSomeAnd (slice_get (stored V.int V.flag self.now).items place) (λ item. V.counted item ≡ true)) }
     {
         match self {
             Store::Empty => Ok(None),
             Store::Ints(ints) => match ints.get(place) {
                 Some(n) => Ok(Some(V::of_int(*n))),
+                None => Ok(None),
+            },
+            Store::Flags(flags) => match flags.get(place) {
+                Some(flag) => Ok(Some(V::of_flag(*flag))),
                 None => Ok(None),
             },
             Store::Anys(anys) => match anys.get(place) {
@@ -116,12 +130,16 @@ impl<V: Item> Store<V> {
     /// The item at a place, where it stands.
     #[inline(always)]
     pub(crate) fn peek(&self, place: usize) -> Peeked<'_, V>
-        ensures { seen V.int result ≡ slice_get (stored V.int self.now).items place }
+        ensures { seen V.int V.flag result ≡ slice_get (stored V.int V.flag self.now).items place }
     {
         match self {
             Store::Empty => Peeked::Nothing,
             Store::Ints(ints) => match ints.get(place) {
                 Some(n) => Peeked::Int(*n),
+                None => Peeked::Nothing,
+            },
+            Store::Flags(flags) => match flags.get(place) {
+                Some(flag) => Peeked::Flag(*flag),
                 None => Peeked::Nothing,
             },
             Store::Anys(anys) => match anys.get(place) {
@@ -133,14 +151,18 @@ impl<V: Item> Store<V> {
 
     /// Takes the last item out.
     pub(crate) fn pop(&mut self) -> Option<V>
-        ensures taken { result ≡ slice_get (stored V.int self.old).items (length (stored V.int self.old).items - 1) }
-        ensures rest { (stored V.int self.new).items ≡ take (length (stored V.int self.old).items - 1) (stored V.int self.old).items }
-        ensures strategy { (stored V.int self.new).strategy ≡ (stored V.int self.old).strategy }
+        ensures taken { result ≡ slice_get (stored V.int V.flag self.old).items (length (stored V.int V.flag self.old).items - 1) }
+        ensures rest { (stored V.int V.flag self.new).items ≡ take (length (stored V.int V.flag self.old).items - 1) (stored V.int V.flag self.old).items }
+        ensures strategy { (stored V.int V.flag self.new).strategy ≡ (stored V.int V.flag self.old).strategy }
     {
         match self {
             Store::Empty => None,
             Store::Ints(ints) => match ints.pop_back() {
                 Some(n) => Some(V::of_int(n)),
+                None => None,
+            },
+            Store::Flags(flags) => match flags.pop_back() {
+                Some(flag) => Some(V::of_flag(flag)),
                 None => None,
             },
             Store::Anys(anys) => anys.pop_back(),
@@ -149,14 +171,18 @@ impl<V: Item> Store<V> {
 
     /// Takes the first item out.
     pub(crate) fn shift(&mut self) -> Option<V>
-        ensures taken { result ≡ slice_get (stored V.int self.old).items 0 }
-        ensures rest { (stored V.int self.new).items ≡ drop 1 (stored V.int self.old).items }
-        ensures strategy { (stored V.int self.new).strategy ≡ (stored V.int self.old).strategy }
+        ensures taken { result ≡ slice_get (stored V.int V.flag self.old).items 0 }
+        ensures rest { (stored V.int V.flag self.new).items ≡ drop 1 (stored V.int V.flag self.old).items }
+        ensures strategy { (stored V.int V.flag self.new).strategy ≡ (stored V.int V.flag self.old).strategy }
     {
         match self {
             Store::Empty => None,
             Store::Ints(ints) => match ints.pop_front() {
                 Some(n) => Some(V::of_int(n)),
+                None => None,
+            },
+            Store::Flags(flags) => match flags.pop_front() {
+                Some(flag) => Some(V::of_flag(flag)),
                 None => None,
             },
             Store::Anys(anys) => anys.pop_front(),
@@ -166,14 +192,18 @@ impl<V: Item> Store<V> {
     /// Takes the item at a place out.
     #[tactic(auto, using(crate::proofs::Places::places))]
     pub(crate) fn remove(&mut self, place: usize) -> Option<V>
-        ensures taken { result ≡ slice_get (stored V.int self.old).items place }
-        ensures rest { (stored V.int self.new).items ≡ remove (stored V.int self.old).items place }
-        ensures strategy { (stored V.int self.new).strategy ≡ (stored V.int self.old).strategy }
+        ensures taken { result ≡ slice_get (stored V.int V.flag self.old).items place }
+        ensures rest { (stored V.int V.flag self.new).items ≡ remove (stored V.int V.flag self.old).items place }
+        ensures strategy { (stored V.int V.flag self.new).strategy ≡ (stored V.int V.flag self.old).strategy }
     {
         match self {
             Store::Empty => None,
             Store::Ints(ints) => match ints.remove(place) {
                 Some(n) => Some(V::of_int(n)),
+                None => None,
+            },
+            Store::Flags(flags) => match flags.remove(place) {
+                Some(flag) => Some(V::of_flag(flag)),
                 None => None,
             },
             Store::Anys(anys) => anys.remove(place),
@@ -184,12 +214,11 @@ impl<V: Item> Store<V> {
     /// Puts an item in place of another; only a change of strategy needs memory.
     #[inline(always)]
     pub(crate) fn replace(&mut self, alloc: Global, place: usize, item: V) -> Result<(), AllocError>
-        requires within { place < length (stored V.int self.old).items }
-        requires few { length (stored V.int self.old).items < 2 ^ 32 }
-        ensures done { OnOk result (stored V.int self.new ≡ replaced V.integer (stored V.int self.old) place item) }
-        ensures kept { OnErr result (stored V.int self.new ≡ stored V.int self.old) }
-        ensures refused { OnErr result (strategy_with (stored V.int self.old).strategy (V.integer item) ≢ (stored V.int self.old).strategy) }
-        ensures raw { OnErr result (IsRaw V.int (stored V.int self.old)) }
+        requires within { place < length (stored V.int V.flag self.old).items }
+        requires few { length (stored V.int V.flag self.old).items < 2 ^ 32 }
+        ensures done { OnOk result (stored V.int V.flag self.new ≡ replaced V.integer (stored V.int V.flag self.old) place item) }
+        ensures kept { OnErr result (stored V.int V.flag self.new ≡ stored V.int V.flag self.old) }
+        ensures refused { OnErr result (Widens V.int V.integer V.flag V.flag_of (stored V.int V.flag self.old) item) }
     {
         match self {
             Store::Empty => unreachable!(),
@@ -205,6 +234,18 @@ impl<V: Item> Store<V> {
                     Ok(())
                 }
             },
+            Store::Flags(flags) => match item.as_flag() {
+                Some(flag) => {
+                    flags[place] = flag;
+                    Ok(())
+                }
+                None => {
+                    let mut anys = widened_flags(alloc, flags, 0)?;
+                    anys[place] = item;
+                    *self = Store::Anys(anys);
+                    Ok(())
+                }
+            },
             Store::Anys(anys) => {
                 anys[place] = item;
                 Ok(())
@@ -214,9 +255,9 @@ impl<V: Item> Store<V> {
 
     /// Puts an item behind the last.
     pub(crate) fn push(&mut self, alloc: Global, item: V) -> Result<(), AllocError>
-        requires { length (stored V.int self.old).items < 2 ^ 32 }
-        ensures done { OnOk result (stored V.int self.new ≡ pushed V.integer (stored V.int self.old) item) }
-        ensures kept { OnErr result (stored V.int self.new ≡ stored V.int self.old) }
+        requires { length (stored V.int V.flag self.old).items < 2 ^ 32 }
+        ensures done { OnOk result (stored V.int V.flag self.new ≡ pushed V.integer (stored V.int V.flag self.old) item) }
+        ensures kept { OnErr result (stored V.int V.flag self.new ≡ stored V.int V.flag self.old) }
     {
         match self {
             Store::Empty => {
@@ -235,6 +276,18 @@ impl<V: Item> Store<V> {
                     Ok(())
                 }
             },
+            Store::Flags(flags) => match item.as_flag() {
+                Some(flag) => {
+                    flags.push_back(flag)?;
+                    Ok(())
+                }
+                None => {
+                    let mut anys = widened_flags(alloc, flags, 1)?;
+                    anys.push_back_reserved(item);
+                    *self = Store::Anys(anys);
+                    Ok(())
+                }
+            },
             Store::Anys(anys) => {
                 anys.push_back(item)?;
                 Ok(())
@@ -244,9 +297,9 @@ impl<V: Item> Store<V> {
 
     /// Puts an item before the first.
     pub(crate) fn unshift(&mut self, alloc: Global, item: V) -> Result<(), AllocError>
-        requires { length (stored V.int self.old).items < 2 ^ 32 }
-        ensures done { OnOk result (stored V.int self.new ≡ unshifted V.integer (stored V.int self.old) item) }
-        ensures kept { OnErr result (stored V.int self.new ≡ stored V.int self.old) }
+        requires { length (stored V.int V.flag self.old).items < 2 ^ 32 }
+        ensures done { OnOk result (stored V.int V.flag self.new ≡ unshifted V.integer (stored V.int V.flag self.old) item) }
+        ensures kept { OnErr result (stored V.int V.flag self.new ≡ stored V.int V.flag self.old) }
     {
         match self {
             Store::Empty => {
@@ -260,6 +313,18 @@ impl<V: Item> Store<V> {
                 }
                 None => {
                     let mut anys = widened(alloc, ints, 1)?;
+                    anys.push_front_reserved(item);
+                    *self = Store::Anys(anys);
+                    Ok(())
+                }
+            },
+            Store::Flags(flags) => match item.as_flag() {
+                Some(flag) => {
+                    flags.push_front(flag)?;
+                    Ok(())
+                }
+                None => {
+                    let mut anys = widened_flags(alloc, flags, 1)?;
                     anys.push_front_reserved(item);
                     *self = Store::Anys(anys);
                     Ok(())
@@ -283,9 +348,9 @@ impl<V: Item> Store<V> {
     ) -> Result<(), AllocError>
         requires some { 0 < count }
         requires small { count < 2 ^ 32 }
-        requires few { length (stored V.int self.old).items < 2 ^ 32 }
-        ensures done { OnOk result (stored V.int self.new ≡ filled V.integer (stored V.int self.old) count fill item) }
-        ensures kept { OnErr result (stored V.int self.new ≡ stored V.int self.old) }
+        requires few { length (stored V.int V.flag self.old).items < 2 ^ 32 }
+        ensures done { OnOk result (stored V.int V.flag self.new ≡ filled V.integer (stored V.int V.flag self.old) count fill item) }
+        ensures kept { OnErr result (stored V.int V.flag self.new ≡ stored V.int V.flag self.old) }
     {
         match self {
             Store::Empty => {
@@ -301,19 +366,43 @@ impl<V: Item> Store<V> {
                     Ok(())
                 }
             },
+            Store::Flags(flags) => match (fill.as_flag(), item.as_flag()) {
+                (Some(filler), Some(flag)) => push_flags(flags, count, filler, flag),
+                _ => {
+                    let mut anys = widened_flags(alloc, flags, count + 1)?;
+                    push_filled(&mut anys, count, fill, item)?;
+                    *self = Store::Anys(anys);
+                    Ok(())
+                }
+            },
             Store::Anys(anys) => push_filled(anys, count, fill, item),
         }
     }
 
     // The storage of one item.
     fn of_one(alloc: Global, item: V) -> Result<Store<V>, AllocError>
-        ensures { IfOk result (λ store. stored V.int store ≡ pushed V.integer empty item) }
+        ensures { IfOk result (λ store. stored V.int V.flag store ≡ pushed V.integer empty item) }
     {
         match item.as_int() {
             Some(n) => {
                 let mut ints = VecDeque::new(alloc);
                 ints.push_back(n)?;
                 Ok(Store::Ints(ints))
+            }
+            None => Store::of_one_other(alloc, item),
+        }
+    }
+
+    // The storage of one item that is no integer.
+    fn of_one_other(alloc: Global, item: V) -> Result<Store<V>, AllocError>
+        requires { V.integer item ≡ None }
+        ensures { IfOk result (λ store. stored V.int V.flag store ≡ pushed V.integer empty item) }
+    {
+        match item.as_flag() {
+            Some(flag) => {
+                let mut flags = VecDeque::new(alloc);
+                flags.push_back(flag)?;
+                Ok(Store::Flags(flags))
             }
             None => {
                 let mut anys = VecDeque::new(alloc);
@@ -328,13 +417,31 @@ impl<V: Item> Store<V> {
     fn of_filled(alloc: Global, count: usize, fill: V, item: V) -> Result<Store<V>, AllocError>
         requires some { 0 < count }
         requires small { count < 2 ^ 32 }
-        ensures { IfOk result (λ store. stored V.int store ≡ filled V.integer empty count fill item) }
+        ensures { IfOk result (λ store. stored V.int V.flag store ≡ filled V.integer empty count fill item) }
     {
         match (fill.as_int(), item.as_int()) {
             (Some(filler), Some(n)) => {
                 let mut ints = VecDeque::new(alloc);
                 push_filled(&mut ints, count, filler, n)?;
                 Ok(Store::Ints(ints))
+            }
+            _ => Store::of_others(alloc, count, fill, item),
+        }
+    }
+
+    #[tactic(auto, using(crate::proofs::Places::places))]
+    // The storage of `count` copies of `fill` and then an item, of which one is no integer.
+    fn of_others(alloc: Global, count: usize, fill: V, item: V) -> Result<Store<V>, AllocError>
+        requires some { 0 < count }
+        requires small { count < 2 ^ 32 }
+        ensures items { IfOk result (λ store. (stored V.int V.flag store).items ≡ replicate count fill ++ item ∷ []) }
+        ensures strategy { IfOk result (λ store. (stored V.int V.flag store).strategy ≡ Strategy.Anys) }
+    {
+        match (fill.as_flag(), item.as_flag()) {
+            (Some(filler), Some(flag)) => {
+                let mut flags = VecDeque::new(alloc);
+                push_flags(&mut flags, count, filler, flag)?;
+                Ok(Store::Flags(flags))
             }
             _ => {
                 let mut anys = VecDeque::new(alloc);

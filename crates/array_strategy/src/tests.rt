@@ -1,12 +1,14 @@
-//! Each call by example, by both strategies, and a caller that a runtime would have.
+//! Each call by example, however the items are held, and a caller that a runtime would have.
 
 ghost use Rattle.std.specs.Prelude.{◌≡◌, ◌-ℤ◌, pos, Some, length, IfSome, IfNone, IfOk, IsSomeAnd, OnErr};
 ghost use Rattle.array_strategy.specs.Elements.{item_at, place_of, put_at};
 
+mod flags;
+
 use crate::{LocalArray, MAX_LEN, Peeked, PutFault, Strategy};
 use std::alloc::{AllocError, Global};
 use std::test::Fail;
-use typed_location::Item;
+use typed_location::{Flag, Item};
 
 // `array[index] += 1`, where that item is an integer that has a next one; the answer is the next one.
 fn increment<V: Item>(array: &mut LocalArray<V>, index: i64) -> Result<Option<i64>, PutFault>
@@ -33,25 +35,40 @@ fn increment<V: Item>(array: &mut LocalArray<V>, index: i64) -> Result<Option<i6
 #[derive(Clone, Copy, PartialEq, Eq, Debug)]
 enum Value {
     Nil,
+    False,
+    True,
     Int(i64),
     Scarce,
 }
 
-use Value::{Int, Nil, Scarce};
+use Value::{False, Int, Nil, Scarce, True};
 
 impl Item for Value {
     ghost use Rattle.std.specs.Prelude.{ℤ, Some, None, true, false, refl};
-    ghost use Rattle.array_strategy.specs.declared.tests.Value.TheVariants.{Nil, Int, Scarce};
+    ghost use Rattle.typed_location.specs.declared.flag.Flag.TheVariants as flags;
+    ghost use Rattle.array_strategy.specs.declared.tests.Value.TheVariants.{Nil, False, True, Int, Scarce};
 
     ghost int = { Int };
 
-    ghost integer = { elim [ Nil ↦ None | Int n ↦ Some n | Scarce ↦ None ] };
+    ghost integer = { elim [ Nil ↦ None | False ↦ None | True ↦ None | Int n ↦ Some n | Scarce ↦ None ] };
 
-    ghost counted = { elim [ Nil ↦ false | Int n ↦ false | Scarce ↦ true ] };
+    ghost flag = { elim [ flags.Nil ↦ Nil | flags.False ↦ False | flags.True ↦ True ] };
+
+    ghost flag_of = { elim [ Nil ↦ Some flags.Nil | False ↦ Some flags.False | True ↦ Some flags.True | Int n ↦ None | Scarce ↦ None ] };
+
+    ghost counted = { elim [ Nil ↦ false | False ↦ false | True ↦ false | Int n ↦ false | Scarce ↦ true ] };
 
     ghost known = { λ _ _. refl };
 
-    ghost only = { elim [ Nil ↦ λ n e. Prim.cc | Int m ↦ λ n e. Prim.cc | Scarce ↦ λ n e. Prim.cc ] };
+    ghost only = { elim [ Nil ↦ λ n e. Prim.cc | False ↦ λ n e. Prim.cc | True ↦ λ n e. Prim.cc | Int m ↦ λ n e. Prim.cc | Scarce ↦ λ n e. Prim.cc ] };
+
+    ghost only_flag = { elim [
+      | Nil ↦ elim [ flags.Nil ↦ λ e. refl | flags.False ↦ λ e. absurd (Prim.cc) | flags.True ↦ λ e. absurd (Prim.cc) ]
+      | False ↦ elim [ flags.Nil ↦ λ e. absurd (Prim.cc) | flags.False ↦ λ e. refl | flags.True ↦ λ e. absurd (Prim.cc) ]
+      | True ↦ elim [ flags.Nil ↦ λ e. absurd (Prim.cc) | flags.False ↦ λ e. absurd (Prim.cc) | flags.True ↦ λ e. refl ]
+      | Int n ↦ λ f e. absurd (Prim.cc)
+      | Scarce ↦ λ f e. absurd (Prim.cc)
+    ] };
 
     fn as_int(&self) -> Option<i64> {
         match self {
@@ -64,6 +81,23 @@ impl Item for Value {
         Value::Int(n)
     }
 
+    fn as_flag(&self) -> Option<Flag> {
+        match self {
+            Value::Nil => Some(Flag::Nil),
+            Value::False => Some(Flag::False),
+            Value::True => Some(Flag::True),
+            _ => None,
+        }
+    }
+
+    fn of_flag(value: Flag) -> Self {
+        match value {
+            Flag::Nil => Value::Nil,
+            Flag::False => Value::False,
+            Flag::True => Value::True,
+        }
+    }
+
     fn copy(&self) -> Result<Self, AllocError> {
         match self {
             Value::Scarce => Err(AllocError),
@@ -72,7 +106,7 @@ impl Item for Value {
     }
 }
 
-// The array of these items, general from the first on if `strategy` says so.
+// The array of these items, which holds the items themselves from the first on if `strategy` says so.
 fn array_of(
     alloc: Global,
     strategy: Strategy,
@@ -80,7 +114,7 @@ fn array_of(
 ) -> Result<LocalArray<Value>, PutFault> {
     let mut array = LocalArray::new(alloc);
     if strategy == Strategy::Anys {
-        array.push(Nil)?;
+        array.push(Scarce)?;
         let _ = array.pop();
     }
     for item in items {
@@ -203,6 +237,7 @@ fn an_array_is_made_of_items_and_copied_back(rt: HostRuntime) -> Result<(), Fail
         ([Int(1), Int(2)].as_slice(), Strategy::Ints),
         ([Int(1), Nil, Int(2)].as_slice(), Strategy::Anys),
         ([Nil].as_slice(), Strategy::Anys),
+        ([True, Nil, False].as_slice(), Strategy::Anys),
     ] {
         let array = LocalArray::from_vec(alloc, Vec::from_slice(alloc, items)?)?;
         assert_eq!(rt; array.strategy(), strategy);
@@ -220,6 +255,7 @@ fn seen_at(array: &LocalArray<Value>, index: i64) -> Option<Value> {
     match array.peek(index) {
         Peeked::Nothing => None,
         Peeked::Int(n) => Some(Int(n)),
+        Peeked::Flag(flag) => Some(Value::of_flag(flag)),
         Peeked::Item(item) => Some(*item),
     }
 }
@@ -280,17 +316,28 @@ fn a_general_item_widens_an_array_for_good(rt: HostRuntime) -> Result<(), Fail> 
     Ok(())
 }
 
+// An item, picked by a number: mostly an integer, or mostly a flag.
+fn item_for(strategy: Strategy, pick: u64) -> Value {
+    let integer = Int(i64::from((pick % 1000) as u32));
+    match strategy {
+        Strategy::Ints if pick % 13 != 0 => integer,
+        Strategy::Ints => Nil,
+        _ => match pick % 97 {
+            0 => integer,
+            n if n % 3 == 0 => Nil,
+            n if n % 3 == 1 => True,
+            _ => False,
+        },
+    }
+}
+
 // One call, picked by a number, on an array and on a plain list: whether they answer alike.
 fn answers_alike(
     array: &mut LocalArray<Value>,
     plain: &mut Vec<Value>,
+    item: Value,
     pick: u64,
 ) -> Result<bool, Fail> {
-    let item = if pick % 13 == 0 {
-        Nil
-    } else {
-        Int(i64::from((pick % 1000) as u32))
-    };
     let back = (pick / 8 % 6) as usize;
     match pick % 8 {
         0 | 1 => {
@@ -318,21 +365,24 @@ fn answers_alike(
 #[test]
 fn a_long_sequence_goes_as_on_a_plain_list(rt: HostRuntime) -> Result<(), Fail> {
     let alloc = rt.alloc();
-    let mut array = LocalArray::new(alloc);
-    let mut plain = Vec::new(alloc);
-    let mut pick = 1_u64;
-    for _ in 0..3000 {
-        pick = pick.wrapping_mul(6_364_136_223_846_793_005).wrapping_add(1);
-        assert!(rt;
-            answers_alike(&mut array, &mut plain, pick >> 33)?,
-            "{pick}"
-        );
-        assert_eq!(rt; array.len(), plain.len());
-        if pick % 512 == 0 {
-            array.clear();
-            plain.clear();
+    for mostly in [Strategy::Ints, Strategy::Anys] {
+        let mut array = LocalArray::new(alloc);
+        let mut plain = Vec::new(alloc);
+        let mut pick = 1_u64;
+        for _ in 0..3000 {
+            pick = pick.wrapping_mul(6_364_136_223_846_793_005).wrapping_add(1);
+            let item = item_for(mostly, pick >> 33);
+            assert!(rt;
+                answers_alike(&mut array, &mut plain, item, pick >> 33)?,
+                "{pick}"
+            );
+            assert_eq!(rt; array.len(), plain.len());
+            if pick % 512 == 0 {
+                array.clear();
+                plain.clear();
+            }
         }
+        assert_eq!(rt; items_of(alloc, array)?.as_slice(), plain.as_slice());
     }
-    assert_eq!(rt; items_of(alloc, array)?.as_slice(), plain.as_slice());
     Ok(())
 }

@@ -1,24 +1,26 @@
 -- Writes to lists, from the words of their storage to those of things.
-use Rattle.std.proofs.Common.{◌≡◌, ◌≢◌, ℕ, ◌-◌, ◌<◌, ◌≤◌, Bool, true, false, List, [], ◌∷◌, ◌++◌, map, length, replicate, Option, Some, None, Ok, Err, OnOk, OnErr, refl, ap, sym, ◌∙◌, subst, arith}
-use Rattle.std.specs.Prelude.{ℤ, All, IsSomeAnd, ◌↔◌, Result, nat_lt, not, ◌&&◌, ◌||◌}
+use Rattle.std.proofs.Common.{◌≡◌, ◌≢◌, ℕ, ◌-◌, ◌<◌, ◌≤◌, Bool, true, false, List, [], ◌∷◌, ◌++◌, map, length, replicate, Option, Some, None, Ok, Err, OnOk, OnErr, refl, ap, sym, ◌∙◌, subst, inl, inr, arith}
+use Rattle.std.specs.Prelude.{ℤ, All, IsSomeAnd, ◌↔◌, Result, nat_lt, not, ◌||◌}
 use Rattle.std.specs.List.{list_all}
 use Rattle.std.proofs.lemmas.Bool.{le-ltb, lt-ltb, ltb-true, ltb-false}
 use Rattle.std.proofs.lemmas.List.{map-set, map_push}
 use Rattle.std.proofs.lemmas.List.Elements.{All-tail}
-use Rattle.array_strategy.specs.Elements.{Elements as Stored, IsRaw, IsIntegerBy, place_of, pushed, put_at, strategy_with, unshifted, with_item}
-use Rattle.array_strategy.specs.declared.storage.Strategy.TheVariants.{Ints}
+use Rattle.typed_location.specs.declared.flag.Flag.{Flag}
+use Rattle.typed_location.specs.declared.flag.Flag.TheVariants as flags
+use Rattle.array_strategy.specs.Elements.{Elements as Stored, IsFlagBy, IsIntegerBy, Widens, place_of, pushed, put_at, unshifted, with_item}
 use Rattle.array_strategy.specs.declared.fault.PutFault.{PutFault}
 use Rattle.array_strategy.specs.declared.fault.PutFault.TheVariants.{TooSmall, TooLong, Memory}
 use Rattle.array_strategy.proofs.Places.{map-filled, with_item-within, with_item-beyond}
 use Rattle.rb_model.specs.declared.act.Reply.{Reply as Answered}
 use Rattle.rb_model.specs.declared.value.Value.{Value as Held}
 use Rattle.rb_model.specs.declared.value.Value.TheVariants as held
+use Rattle.rb_model.specs.Flags.{flag_in, value_of}
 use Rattle.rb_model.specs.Integers.{integer_in}
 use Rattle.rb_model.specs.Values.{Value as Val, Nil, plain}
 use Rattle.rb_model.specs.Doing.{said}
 use Rattle.rb_model.specs.Acts.{Push, Put, Unshift}
 use Rattle.rb_model.specs.Things.{Elements, has_room, index_of, is_integer, put_reply, put, with_element}
-use Rattle.local_heap.specs.Memory.{put_wants}
+use Rattle.local_heap.specs.Memory.{is_flag, put_wants, widens}
 use Rattle.local_heap.specs.Contents.{Does, Tells, listed}
 use Rattle.local_heap.proofs.Listing.{place_is, as_long}
 
@@ -87,28 +89,49 @@ all_integers (x ∷ xs) all =
     let head : is_integer (plain x) ≡ true = ap (λ (w : Held). is_integer (plain w)) first.1 in
     rw head (all_integers xs (All-tail (IsIntegerBy held.Int) x xs all))
 
--- a value that changes the strategy of a list of integers is none
-no_integer : (v : Held) → strategy_with Ints (integer_in v) ≢ Ints → is_integer (plain v) ≡ false
+flag_is : (f : Flag) → is_flag (plain (value_of f)) ≡ true
+flag_is flags.Nil = refl
+flag_is flags.False = refl
+flag_is flags.True = refl
+
+all_flags : (xs : List Held) → All (IsFlagBy value_of) xs → list_all is_flag (map plain xs) ≡ true
+all_flags [] all = refl
+all_flags (x ∷ xs) all =
+    let first = all 0 x (omega arith) in
+    let head : is_flag (plain x) ≡ true = ap (λ (w : Held). is_flag (plain w)) first.1 ∙ flag_is first.0 in
+    rw head (all_flags xs (All-tail (IsFlagBy value_of) x xs all))
+
+no_integer : (v : Held) → integer_in v ≡ None → is_integer (plain v) ≡ false
 no_integer held.Nil e = refl
 no_integer held.False e = refl
 no_integer held.True e = refl
-no_integer (held.Int n) e = absurd (e refl)
+no_integer (held.Int n) e = absurd (cc)
 no_integer (held.Sym s) e = refl
 no_integer (held.Str t) e = refl
 no_integer (held.Ref r) e = refl
 
+no_flag : (v : Held) → flag_in v ≡ None → is_flag (plain v) ≡ false
+no_flag held.Nil e = absurd (cc)
+no_flag held.False e = absurd (cc)
+no_flag held.True e = absurd (cc)
+no_flag (held.Int n) e = refl
+no_flag (held.Sym s) e = refl
+no_flag (held.Str t) e = refl
+no_flag (held.Ref r) e = refl
+
+or_true : (b : Bool) → (b || true) ≡ true
+or_true true = refl
+or_true false = refl
+
 -- a write within a list that was refused memory
-widens : (a : Stored Held) (v : Held) → strategy_with a.strategy (integer_in v) ≢ a.strategy → IsRaw held.Int a
-    → (not (is_integer (plain v)) && list_all is_integer (map plain a.items)) ≡ true
-widens a v changes raw =
-    let other : is_integer (plain v) ≡ false = no_integer v (subst (λ s. strategy_with s (integer_in v) ≢ s) raw.strategy changes) in
-    rw (other, all_integers a.items raw.items) refl
+wider : (a : Stored Held) (v : Held) → Widens held.Int integer_in value_of flag_in a v → widens (map plain a.items) (plain v) ≡ true
+wider a v (inl (raw, other)) = rw (no_integer v other, all_integers a.items raw.items) refl
+wider a v (inr (flags, other)) = rw (no_flag v other, all_flags a.items flags.items) (or_true _)
 
 module _ {E : Type 0} (a a' : Stored Held) (v : Held) (done : Result Unit PutFault) (result : Result Answered E) (p : Option ℕ)
     (done_is : OnOk done (IsSomeAnd p (λ j. a' ≡ put_at integer_in a j v held.Nil)))
     (small : (done ≡ Err TooSmall) ↔ (p ≡ None)) (long : (done ≡ Err TooLong) ↔ IsSomeAnd p (λ j. 16777216 ≤ j))
-    (memory : done ≡ Err Memory → IsSomeAnd p (λ j. j < length a.items → strategy_with a.strategy (integer_in v) ≢ a.strategy))
-    (raw : done ≡ Err Memory → IsSomeAnd p (λ j. j < length a.items → IsRaw held.Int a))
+    (memory : done ≡ Err Memory → IsSomeAnd p (λ j. j < length a.items → Widens held.Int integer_in value_of flag_in a v))
     (kept : OnErr done (a' ≡ a)) (tells : Tells done result) where
   abbrev elements : List Val
   elements = map plain a.items
@@ -134,13 +157,11 @@ module _ {E : Type 0} (a a' : Stored Held) (v : Held) (done : Result Unit PutFau
   wants : (n : ℕ) → p ≡ Some n → done ≡ Err Memory → put_wants elements (Some n) (plain v) ≡ true
   wants n at is = rw (below n at (λ e. let z : Err Memory ≡ Err TooLong = sym is ∙ e in cc)) (by (nat_lt n (length elements)) refl)
     where
-      by : (b : Bool) → nat_lt n (length elements) ≡ b → (not b || (not (is_integer (plain v)) && list_all is_integer elements)) ≡ true
+      by : (b : Bool) → nat_lt n (length elements) ≡ b → (not b || widens elements (plain v)) ≡ true
       by false e = refl
       by true e =
           let lt : n < length a.items = ltb-true n (length a.items) (ap (nat_lt n) (sym (as_long a.items)) ∙ e) in
-          widens a v
-          (subst (λ q. IsSomeAnd q (λ j. j < length a.items → strategy_with a.strategy (integer_in v) ≢ a.strategy)) at (memory is) lt)
-          (subst (λ q. IsSomeAnd q (λ j. j < length a.items → IsRaw held.Int a)) at (raw is) lt)
+          wider a v (subst (λ q. IsSomeAnd q (λ j. j < length a.items → Widens held.Int integer_in value_of flag_in a v)) at (memory is) lt)
 
   by : (q : Option ℕ) (d : Result Unit PutFault) (r : Result Answered E) → Known q d r → DoesAt r q
   by None (Err TooSmall) (Ok reply) k = (k.2, ap listed k.3)

@@ -2,7 +2,7 @@
 use Rattle.std.specs.Prelude.{◌≡◌, ◌==◌, ◌^◌, ◌&&◌, ◌||◌, ℕ, Bool, true, false, nat_lt, not, if◌then◌else◌, pos, negsuc, List, [], ◌∷◌, length, Option, Some, None}
 use Rattle.std.specs.List.{list_all}
 use Rattle.rb_tree.specs.declared.span.NameId.{NameId}
-use Rattle.rb_model.specs.Values.{Value as Val, Int, Str, To, is_text}
+use Rattle.rb_model.specs.Values.{Value as Val, Nil, False, True, Int, Str, To, is_text}
 use Rattle.rb_model.specs.Acts.{Act, GetField, SetField, At, Put, Push, Unshift, KGet, KPut, Copy}
 use Rattle.rb_model.specs.declared.value.Id.{Id}
 use Rattle.rb_model.specs.Private.{Private, held}
@@ -27,11 +27,22 @@ write_wants None v = true
 write_wants (Some false) v = not (is_integer v)
 write_wants (Some true) v = is_kept v
 
--- A write within a list wants memory only where the list has integers alone and the value is none. One behind the last element
--- lengthens the list, where that may be.
+-- nil or a truth value
+abbrev pub is_flag : Val → Bool
+is_flag Nil = true
+is_flag False = true
+is_flag True = true
+is_flag v = false
+
+-- A value of another kind comes among values of one kind alone: they are integers and it is none, or each of them is nil or a truth
+-- value and it is neither.
+abbrev pub widens : List Val → Val → Bool
+widens vs v = (not (is_integer v) && list_all is_integer vs) || (not (is_flag v) && list_all is_flag vs)
+
+-- A write within a list wants memory only where it widens the list. One behind the last element lengthens the list, where that may be.
 abbrev pub put_wants : List Val → Option ℕ → Val → Bool
 put_wants vs None v = false
-put_wants vs (Some n) v = nat_lt n max_elements && (not (nat_lt n (length vs)) || (not (is_integer v) && list_all is_integer vs))
+put_wants vs (Some n) v = nat_lt n max_elements && (not (nat_lt n (length vs)) || widens vs v)
 
 -- An act that may want memory. A read wants none but where as many own a text as can be counted. What takes out, counts or clears wants
 -- none, and neither does what is refused.

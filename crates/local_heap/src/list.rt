@@ -3,6 +3,7 @@
 ghost use Rattle.std.specs.Prelude.{◌≡◌, ◌≤◌, length, true, IfOk, OnErr};
 ghost use Rattle.std.specs.Option.{option_map};
 ghost use Rattle.rb_model.specs.Values.{or_nil as nil_or, plain};
+ghost use Rattle.rb_model.specs.Flags.{value_of};
 ghost use Rattle.rb_model.specs.Acts.{Clear, Copy, DeleteAt, Len, Pop, Push, Put, Shift, Unshift, At};
 ghost use Rattle.rb_model.specs.Acts as answer;
 ghost use Rattle.rb_model.specs.Doing.{doing, seen};
@@ -14,6 +15,7 @@ ghost use Rattle.local_heap.specs.Contents.{Does, Refuses, Tells, listed};
 use array_strategy::{LocalArray, Peeked, PutFault};
 use rb_model::{Act, Fault, Immediate, Reply, Thing, Value};
 use std::alloc::{AllocError, Global};
+use typed_location::Flag;
 
 /// The elements of a list.
 pub type List = LocalArray<Value>;
@@ -66,6 +68,7 @@ pub fn immediate(list: &List, index: i64) -> Immediate
     match list.peek(index) {
         Peeked::Nothing => Immediate::Nil,
         Peeked::Int(n) => Immediate::Int(n),
+        Peeked::Flag(flag) => immediate_of_flag(flag),
         Peeked::Item(value) => immediate_of(value),
     }
 }
@@ -83,6 +86,18 @@ fn immediate_of(value: &Value) -> Immediate
         Value::Sym(_) => Immediate::Other,
         Value::Str(_) => Immediate::Other,
         Value::Ref(_) => Immediate::Other,
+    }
+}
+
+/// Nil or a truth value, told as an immediate one.
+#[inline(always)]
+fn immediate_of_flag(flag: Flag) -> Immediate
+    ensures { result ≡ told (plain (value_of flag)) }
+{
+    match flag {
+        Flag::Nil => Immediate::Nil,
+        Flag::False => Immediate::False,
+        Flag::True => Immediate::True,
     }
 }
 

@@ -2,6 +2,7 @@ pub mod Characters
 pub mod Values
 pub mod Hashed
 pub mod Integers
+pub mod Flags
 pub mod Sameness
 pub mod Ends
 pub mod Faults

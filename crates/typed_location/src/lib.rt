@@ -2,6 +2,7 @@
 #![tactic(auto)]
 
 mod element;
+mod flag;
 mod general_place;
 mod integer_place;
 mod laws;
@@ -9,6 +10,7 @@ mod laws;
 mod tests;
 
 pub use element::Item;
+pub use flag::Flag;
 pub use general_place::{Any, from_any_word, is_address, to_any_word};
 pub use integer_place::{SMALL_MAX, SMALL_MIN, from_int_word, is_small, to_int_word};
 pub use laws::{one_int_word, one_word, words_fit};

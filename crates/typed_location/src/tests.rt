@@ -5,7 +5,7 @@ ghost use Rattle.typed_location.specs.Word.{word_of, IsSmall};
 ghost use Rattle.typed_location.specs.declared.general_place.Any.TheVariants.{Small};
 
 use crate::{
-    Any, Item, SMALL_MAX, SMALL_MIN, from_any_word, from_int_word, is_address, is_small,
+    Any, Flag, Item, SMALL_MAX, SMALL_MIN, from_any_word, from_int_word, is_address, is_small,
     to_any_word, to_int_word,
 };
 use std::alloc::AllocError;
@@ -44,17 +44,24 @@ enum Value {
 
 impl Item for Value {
     ghost use Rattle.std.specs.Prelude.{ℤ, Some, None, false, refl};
+    ghost use Rattle.typed_location.specs.declared.flag.Flag.TheVariants as flags;
     ghost use Rattle.typed_location.specs.declared.tests.Value.TheVariants.{Nil, Int};
 
     ghost int = { Int };
 
     ghost integer = { elim [ Nil ↦ None | Int n ↦ Some n ] };
 
+    ghost flag = { λ _. Nil };
+
+    ghost flag_of = { elim [ Nil ↦ Some flags.Nil | Int n ↦ None ] };
+
     ghost counted = { λ _. false };
 
     ghost known = { λ _ _. refl };
 
     ghost only = { elim [ Nil ↦ λ n e. Prim.cc | Int m ↦ λ n e. Prim.cc ] };
+
+    ghost only_flag = { elim [ Nil ↦ λ f e. refl | Int n ↦ λ f e. Prim.cc ] };
 
     fn as_int(&self) -> Option<i64> {
         match self {
@@ -65,6 +72,17 @@ impl Item for Value {
 
     fn of_int(n: i64) -> Self {
         Value::Int(n)
+    }
+
+    fn as_flag(&self) -> Option<Flag> {
+        match self {
+            Value::Nil => Some(Flag::Nil),
+            Value::Int(_) => None,
+        }
+    }
+
+    fn of_flag(_: Flag) -> Self {
+        Value::Nil
     }
 
     fn copy(&self) -> Result<Self, AllocError> {
@@ -79,6 +97,16 @@ fn through_int<V: Item>(item: V) -> Result<V, AllocError>
     match item.as_int() {
         Some(n) => Ok(V::of_int(n)),
         None => item.copy(),
+    }
+}
+
+// The item, through the flag that it stands for.
+fn through_flag<V: Item>(item: V) -> V
+    ensures { result ≡ item }
+{
+    match item.as_flag() {
+        Some(flag) => V::of_flag(flag),
+        None => item,
     }
 }
 
@@ -156,4 +184,13 @@ fn items_go_through_integers(rt: HostRuntime) -> Result<(), AllocError> {
     }
     assert_eq!(rt; through_int(-7_i64)?, -7);
     Ok(())
+}
+
+#[test]
+fn items_go_through_flags(rt: HostRuntime) {
+    for value in [Value::Nil, Value::Int(7)] {
+        assert_eq!(rt; through_flag(value), value);
+    }
+    assert_eq!(rt; through_flag(-7_i64), -7);
+    assert_eq!(rt; size_of::<Flag>(), 1);
 }

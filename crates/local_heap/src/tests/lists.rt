@@ -121,6 +121,28 @@ fn a_list_of_integers_takes_other_values_in(rt: HostRuntime) -> Result<(), Fail>
     Ok(())
 }
 
+/// A list of nil and truth values, which takes another value in.
+const FLAGS: [(Deed, Answer); 12] = [
+    (Clear, Done),
+    (Put(1, True), Done),
+    (Push(False), Done),
+    (Unshift(True), Done),
+    (Copy, All("true nil true false")),
+    (At(-2), Gives(True)),
+    (Put(1, False), Done),
+    (DeleteAt(0), Gives(True)),
+    (Put(4, True), Done),
+    (Put(0, Int(1)), Done),
+    (Copy, All("1 true false nil true")),
+    (Pop, Gives(True)),
+];
+
+#[test]
+fn a_list_of_truth_values_takes_other_values_in(rt: HostRuntime) -> Result<(), Fail> {
+    assert_eq!(rt; first_wrong_of_list(rt.alloc(), &FLAGS)?, None);
+    Ok(())
+}
+
 const NOT_OF_LISTS: [(Deed, Answer); 7] = [
     (Get(1), Fails(Fault::NoMethod)),
     (Set(1, Int(1)), Fails(Fault::NoMethod)),
@@ -216,6 +238,26 @@ fn an_immediate_element_is_told_and_no_other(rt: HostRuntime) -> Result<(), Fail
     };
     for id in [hash.id, unheld, of_another] {
         assert_eq!(rt; heap.immediate_element(id, 0), Immediate::Other);
+    }
+    Ok(())
+}
+
+#[test]
+fn an_element_among_truth_values_is_told(rt: HostRuntime) -> Result<(), Fail> {
+    let alloc = rt.alloc();
+    let mut heap = new_heap(alloc)?;
+    let mut values = Vec::new(alloc);
+    for row in [False, Nil, True] {
+        values.push(value(alloc, row)?)?;
+    }
+    let list = heap.make(Make::Elements(values))?;
+    for (index, told) in [
+        (0, Immediate::False),
+        (1, Immediate::Nil),
+        (-1, Immediate::True),
+        (3, Immediate::Nil),
+    ] {
+        assert_eq!(rt; heap.immediate_element(list.id, index), told, "{index}");
     }
     Ok(())
 }
