@@ -16,7 +16,7 @@ pub enum Strategy {
     Empty,
     /// It holds raw integers.
     Ints,
-    /// It holds any items: a byte each where all are flags, and else the items themselves.
+    /// It holds any items: a byte each while nothing but flags has come, and else the items themselves.
     Anys,
 }
 
@@ -211,7 +211,7 @@ impl<V: Item> Store<V> {
     }
 
     #[tactic(auto, using(crate::proofs::Places::places))]
-    /// Puts an item in place of another; only a change of strategy needs memory.
+    /// Puts an item in place of another; only one of another kind among raw integers or flags needs memory.
     #[inline(always)]
     pub(crate) fn replace(&mut self, alloc: Global, place: usize, item: V) -> Result<(), AllocError>
         requires within { place < length (stored V.int V.flag self.old).items }
