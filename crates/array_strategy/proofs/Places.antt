@@ -1,16 +1,16 @@
 -- Items at places of a list.
-use Rattle.std.proofs.Common.{◌≡◌, ℕ, zero, suc, ◌+◌, ◌-◌, ◌<◌, ◌≤◌, List, [], ◌∷◌, ◌++◌, map, length, take, drop, replicate, slice_get, slice_set, refl, ap, sym, ◌∙◌, inl, inr, arith, append_assoc, append-nil, add-one}
-use Rattle.std.specs.Prelude.{ℤ, Option, None, All, slice_index_or, Result, Ok, Err, OnErr}
+use Rattle.std.proofs.Common.{◌≡◌, ℕ, zero, suc, ◌+◌, ◌-◌, ◌<◌, ◌≤◌, List, [], ◌∷◌, ◌++◌, map, length, take, drop, replicate, slice_get, slice_set, refl, ap, sym, subst, ◌∙◌, inl, inr, arith, append_assoc, append-nil, add-one}
+use Rattle.std.specs.Prelude.{ℤ, Option, None, Some, IsSomeAnd, All, slice_index_or, Result, Ok, Err, OnErr}
 use Rattle.std.specs.List.{remove}
 use Rattle.std.proofs.lemmas.Grind.{common_steps}
-use Rattle.std.proofs.lemmas.List.{take-map, drop-map, map-set, map-append, length-replicate, take-append-le}
+use Rattle.std.proofs.lemmas.List.{take-map, drop-map, length-map, map-set, map-append, length-replicate, take-append-le}
 use Rattle.std.proofs.lemmas.List.Edits.{sets-eq}
 use Rattle.std.proofs.lemmas.List.Elements.{All-map}
 use Rattle.std.proofs.lemmas.Option.{slice_get_past}
 use Rattle.typed_location.specs.declared.flag.Flag.{Flag}
 use Rattle.array_strategy.specs.declared.storage.Store.{Store}
 use Rattle.array_strategy.specs.declared.storage.Store.TheVariants as stores
-use Rattle.array_strategy.specs.Elements.{IsFlagBy, IsIntegerBy, Widens, with_item}
+use Rattle.array_strategy.specs.Elements.{IsFlagBy, IsIntegerBy, IsSetAt, Widens, place_of, with_item}
 use Rattle.array_strategy.specs.Storage.{stored}
 
 pub map-remove : {X Y : Type 0} (f : X → Y) (xs : List X) (i : ℕ) → map f (remove xs i) ≡ remove (map f xs) i
@@ -36,6 +36,17 @@ pub All-flags : {V : Type 0} (flag : Flag → V) (fs : List Flag) → All (IsFla
 All-flags flag fs = All-map (IsFlagBy flag) flag fs (λ k d h. (slice_index_or fs k d, refl))
 
 pub ruleset places = (map-remove, slice_get-outside, map-set, map-filled)
+
+-- an item that gave way to another, as the items that both stand for
+pub set_mapped : {X Y : Type 0} (f : X → Y) (xs ys : List X) (i : ℤ) (x : X) → IsSetAt xs i x ys → IsSetAt (map f xs) i (f x) (map f ys)
+set_mapped f xs ys i x is = subst (λ n. IsSomeAnd (place_of i n) Then) (sym (length-map xs f)) (by (place_of i (length xs)) is)
+  where
+    Then : ℕ → Type 0
+    Then j = (j < length (map f xs)) × (map f ys ≡ slice_set (map f xs) j (f x))
+
+    by : (o : Option ℕ) → IsSomeAnd o (λ j. (j < length xs) × (ys ≡ slice_set xs j x)) → IsSomeAnd o Then
+    by None e = absurd e
+    by (Some j) e = (rw (length-map xs f) e.0, ap (map f) e.1 ∙ map-set f xs j x)
 
 -- within the list, the item there gives way
 pub with_item-within : {X : Type 0} (xs : List X) (j : ℕ) (v fill : X) → j < length xs → with_item xs j v fill ≡ slice_set xs j v

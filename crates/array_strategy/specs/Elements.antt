@@ -1,5 +1,5 @@
 -- What a contract sees of an array: its items, and the storage strategy that they are held by.
-use Rattle.std.specs.Prelude.{◌≡◌, ◌⊎◌, Bool, is_some, ℕ, suc, ◌-◌, ◌<◌, nat_lt, if◌then◌else◌, ℤ, pos, negsuc, List, [], ◌∷◌, ◌++◌, length, All, take, drop, replicate, slice_get, option_and_then, Option, None, Some, IsSomeAnd}
+use Rattle.std.specs.Prelude.{◌≡◌, ◌⊎◌, Bool, is_some, ℕ, suc, ◌-◌, ◌<◌, nat_lt, if◌then◌else◌, ℤ, pos, negsuc, List, [], ◌∷◌, ◌++◌, length, All, take, drop, replicate, slice_get, slice_set, option_and_then, Option, None, Some, IsSomeAnd}
 use Rattle.std.specs.List.{list_all, remove}
 use Rattle.std.specs.Option.{option_map_or}
 use Rattle.typed_location.specs.declared.flag.Flag.{Flag}
@@ -70,6 +70,10 @@ module _ {V : Type 0} where
   -- the items without the one at an index
   abbrev pub without_item : List V → ℤ → List V
   without_item xs i = option_map_or (remove xs) (place_of i (length xs)) xs
+
+  -- The item at an index gave way to v, and no other item changed.
+  abbrev pub IsSetAt : List V → ℤ → V → List V → Type 0
+  IsSetAt xs i v ys = IsSomeAnd (place_of i (length xs)) (λ j. (j < length xs) × (ys ≡ slice_set xs j v))
 
   -- the items with v at place j, first filled up to there
   abbrev pub with_item : List V → ℕ → V → V → List V

@@ -1,7 +1,7 @@
 //! The array.
 
-ghost use Rattle.std.specs.Prelude.{◌≡◌, ◌≢◌, ◌<◌, ◌≤◌, ◌+◌, ◌-◌, ◌++◌, ◌∷◌, [], length, take, drop, slice_get, IsTrue, All, ◌↔◌, None, Some, IsSome, IsSomeAnd, IfSome, IfOk, OnOk, OnErr, true};
-ghost use Rattle.array_strategy.specs.Elements.{IsIntegerBy, item_at, without_item, place_of, empty, of_items, pushed, unshifted, put_at, MayNeedMemory};
+ghost use Rattle.std.specs.Prelude.{◌≡◌, ◌≢◌, ◌<◌, ◌≤◌, ◌+◌, ◌-◌, ◌++◌, ◌∷◌, [], length, take, drop, replicate, slice_get, IsTrue, All, ◌↔◌, None, Some, IsSome, IsSomeAnd, IfSome, IfOk, OnOk, OnErr, true, false};
+ghost use Rattle.array_strategy.specs.Elements.{IsIntegerBy, IsSetAt, item_at, without_item, place_of, empty, of_items, pushed, unshifted, put_at, MayNeedMemory};
 ghost use Rattle.array_strategy.specs.Storage.{seen};
 
 use crate::fault::PutFault;
@@ -9,7 +9,7 @@ use crate::place::place_at;
 use crate::storage::{Peeked, Store, Strategy};
 use std::alloc::{AllocError, Global};
 use std::marker::Model;
-use typed_location::Item;
+use typed_location::{Flag, Item};
 
 /// The greatest length of an array.
 pub const MAX_LEN: usize = 16_777_216;
@@ -58,6 +58,22 @@ impl<V: Item> LocalArray<V> {
         }
         Ok(LocalArray {
             store: Store::of_vec(alloc, items)?,
+            alloc,
+        })
+    }
+
+    /// The array of `count` copies of an item. It holds them as raw integers or in a byte each from the first on, where the item stands for
+    /// an integer or a flag.
+    pub fn filled(alloc: Global, count: usize, item: V) -> Result<Self, PutFault>
+        ensures done { IfOk result (λ array. array ≡ of_items V.integer (replicate count item)) }
+        ensures too_long { (result ≡ Err PutFault.TooLong) ↔ (MAX_LEN < count) }
+        ensures cause { result ≢ Err PutFault.TooSmall }
+    {
+        if count > MAX_LEN {
+            return Err(PutFault::TooLong);
+        }
+        Ok(LocalArray {
+            store: Store::of_repeated(alloc, count, item)?,
             alloc,
         })
     }
@@ -113,6 +129,18 @@ impl<V: Item> LocalArray<V> {
     pub fn peek(&self, index: i64) -> Peeked<'_, V>
         ensures { seen V.int V.flag result ≡ item_at self.now.items index }
     {
+        // An index that is not negative needs no length.
+        match usize::try_from(index) {
+            Ok(place) => self.store.peek(place),
+            Err(_) => self.peek_from_end(index),
+        }
+    }
+
+    /// The same by the length.
+    #[inline(never)]
+    fn peek_from_end(&self, index: i64) -> Peeked<'_, V>
+        ensures { seen V.int V.flag result ≡ item_at self.now.items index }
+    {
         match place_at(index, self.len()) {
             Some(place) => self.store.peek(place),
             None => Peeked::Nothing,
@@ -146,6 +174,30 @@ impl<V: Item> LocalArray<V> {
         }
         self.store.push_filled(self.alloc, place - len, fill, item)?;
         Ok(())
+    }
+
+    /// Puts the item of an integer in place of the one at an index, where a negative one counts from the end. It is done where there is such an
+    /// item and the array holds raw integers, or the items themselves, and needs no memory. Else nothing is done.
+    #[inline(always)]
+    pub fn put_int(&mut self, index: i64, n: i64) -> bool
+        ensures done { result ≡ true → IsSetAt self.old.items index (V.int n) self.new.items }
+        ensures bound { length self.old.items ≤ MAX_LEN }
+        ensures strategy { self.new.strategy ≡ self.old.strategy }
+        ensures kept { result ≡ false → self.new ≡ self.old }
+    {
+        self.store.put_int(index, n)
+    }
+
+    /// Puts the item of a flag in place of the one at an index, where a negative one counts from the end. It is done where there is such an
+    /// item and the array holds a byte for each item, or the items themselves, and needs no memory. Else nothing is done.
+    #[inline(always)]
+    pub fn put_flag(&mut self, index: i64, flag: Flag) -> bool
+        ensures done { result ≡ true → IsSetAt self.old.items index (V.flag flag) self.new.items }
+        ensures bound { length self.old.items ≤ MAX_LEN }
+        ensures strategy { self.new.strategy ≡ self.old.strategy }
+        ensures kept { result ≡ false → self.new ≡ self.old }
+    {
+        self.store.put_flag(index, flag)
     }
 
     /// Puts an item behind the last.

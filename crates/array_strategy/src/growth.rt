@@ -1,12 +1,39 @@
-//! Queues that grow by many items at once.
+//! Queues that grow by many items at once, and writes to one place of a queue.
 
-ghost use Rattle.std.specs.Prelude.{◌≡◌, ◌<◌, ◌≤◌, ◌+◌, ◌-◌, ◌^◌, ◌++◌, ◌∷◌, [], length, map, take, replicate, IfOk, OnOk, OnErr};
+ghost use Rattle.std.specs.Prelude.{◌≡◌, ◌<◌, ◌≤◌, ◌+◌, ◌-◌, ◌^◌, ◌++◌, ◌∷◌, [], length, map, take, replicate, slice_set, IfOk, OnOk, OnErr, true, false};
 ghost use Rattle.std.specs.VecDeque.{deque_len, deque_capacity};
-ghost use Rattle.array_strategy.specs.Elements.{all_integers};
+ghost use Rattle.array_strategy.specs.Elements.{IsSetAt, all_integers};
 
+use crate::place::place_at;
 use std::alloc::{AllocError, Global};
 use std::collections::VecDeque;
 use typed_location::Item;
+
+/// Puts an item in place of the one at an index, where a negative one counts from the end. Where there is none, nothing is done.
+#[inline(always)]
+pub(crate) fn set_at<T: Drop>(items: &mut VecDeque<T>, index: i64, item: T) -> bool
+    ensures done { result ≡ true → IsSetAt items.old.items index item items.new.items }
+    ensures kept { result ≡ false → items.new.items ≡ items.old.items }
+{
+    match place_at(index, items.len()) {
+        Some(place) => set_within(items, place, item),
+        None => false,
+    }
+}
+
+// Puts an item in place of another, where there is one.
+#[inline(always)]
+fn set_within<T: Drop>(items: &mut VecDeque<T>, place: usize, item: T) -> bool
+    ensures within { result ≡ true → place < length items.old.items }
+    ensures done { result ≡ true → items.new.items ≡ slice_set items.old.items place item }
+    ensures kept { result ≡ false → items.new.items ≡ items.old.items }
+{
+    if place < items.len() {
+        items[place] = item;
+        return true;
+    }
+    false
+}
 
 /// Adds `count` copies of `fill`, of which the last is `fill` itself, and then an item.
 pub(crate) fn push_filled<V: Item>(

@@ -1,10 +1,10 @@
 //! The storage of an array: nothing, raw integers, flags or any items.
 
-ghost use Rattle.std.specs.Prelude.{◌≡◌, ◌<◌, ◌≤◌, ◌+◌, ◌-◌, ◌^◌, ◌++◌, ◌∷◌, [], length, map, take, drop, replicate, slice_get, All, IsSome, IsSomeAnd, IfSome, IfOk, OnOk, OnErr, None, true};
+ghost use Rattle.std.specs.Prelude.{◌≡◌, ◌<◌, ◌≤◌, ◌+◌, ◌-◌, ◌^◌, ◌++◌, ◌∷◌, [], length, map, take, drop, replicate, slice_get, All, IsSome, IsSomeAnd, IfSome, IfOk, OnOk, OnErr, None, true, false};
 ghost use Rattle.std.specs.List.{remove};
 
 use crate::flags::{are_flags, narrowed_flags, push_flags, told_flags, widened_flags};
-use crate::growth::{are_integers, copies, narrowed, push_filled, told, widened};
+use crate::growth::{are_integers, copies, narrowed, push_filled, set_at, told, widened};
 use std::alloc::{AllocError, Global};
 use std::collections::VecDeque;
 use typed_location::{Flag, Item};
@@ -44,7 +44,7 @@ pub enum Peeked<'a, V> {
 
 impl<V: Item> Store<V> {
     ghost use Rattle.array_strategy.specs.Storage.{stored, seen, replaced, filled};
-    ghost use Rattle.array_strategy.specs.Elements.{IsIntegerBy, Widens, empty, of_items, pushed, unshifted};
+    ghost use Rattle.array_strategy.specs.Elements.{IsIntegerBy, IsSetAt, Widens, empty, of_items, pushed, unshifted};
 
     /// The storage of these items.
     pub(crate) fn of_vec(alloc: Global, items: Vec<V>) -> Result<Store<V>, AllocError>
@@ -60,6 +60,22 @@ impl<V: Item> Store<V> {
             return Ok(Store::Flags(narrowed_flags(alloc, items.as_slice())?));
         }
         Ok(Store::Anys(VecDeque::from_vec(items)))
+    }
+
+    /// The storage of `count` copies of an item, of which the last is the item itself.
+    #[tactic(auto, using(crate::proofs::Repeats::repeats))]
+    pub(crate) fn of_repeated(alloc: Global, count: usize, item: V) -> Result<Store<V>, AllocError>
+        requires { count < 2 ^ 32 }
+        ensures { IfOk result (λ store. stored V.int V.flag store ≡ of_items V.integer (replicate count item)) }
+    {
+        if count == 0 {
+            return Ok(Store::Empty);
+        }
+        if count == 1 {
+            return Store::of_one(alloc, item);
+        }
+        let fill = item.copy()?;
+        Store::of_filled(alloc, count - 1, fill, item)
     }
 
     /// A copy of each item.
@@ -250,6 +266,38 @@ impl<V: Item> Store<V> {
                 anys[place] = item;
                 Ok(())
             }
+        }
+    }
+
+    /// Puts the item of an integer in place of the one at an index, where integers are held raw, or the items themselves. Else nothing is
+    /// done.
+    #[inline(always)]
+    pub(crate) fn put_int(&mut self, index: i64, n: i64) -> bool
+        ensures done { result ≡ true → IsSetAt (stored V.int V.flag self.old).items index (V.int n) (stored V.int V.flag self.new).items }
+        ensures strategy { (stored V.int V.flag self.new).strategy ≡ (stored V.int V.flag self.old).strategy }
+        ensures kept { result ≡ false → stored V.int V.flag self.new ≡ stored V.int V.flag self.old }
+    {
+        match self {
+            Store::Empty => false,
+            Store::Ints(ints) => set_at(ints, index, n),
+            Store::Flags(_) => false,
+            Store::Anys(anys) => set_at(anys, index, V::of_int(n)),
+        }
+    }
+
+    /// Puts the item of a flag in place of the one at an index, where flags are held in a byte each, or the items themselves. Else nothing
+    /// is done.
+    #[inline(always)]
+    pub(crate) fn put_flag(&mut self, index: i64, flag: Flag) -> bool
+        ensures done { result ≡ true → IsSetAt (stored V.int V.flag self.old).items index (V.flag flag) (stored V.int V.flag self.new).items }
+        ensures strategy { (stored V.int V.flag self.new).strategy ≡ (stored V.int V.flag self.old).strategy }
+        ensures kept { result ≡ false → stored V.int V.flag self.new ≡ stored V.int V.flag self.old }
+    {
+        match self {
+            Store::Empty => false,
+            Store::Ints(_) => false,
+            Store::Flags(flags) => set_at(flags, index, flag),
+            Store::Anys(anys) => set_at(anys, index, V::of_flag(flag)),
         }
     }
 

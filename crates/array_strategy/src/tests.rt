@@ -38,35 +38,37 @@ enum Value {
     False,
     True,
     Int(i64),
+    Text,
     Scarce,
 }
 
-use Value::{False, Int, Nil, Scarce, True};
+use Value::{False, Int, Nil, Scarce, Text, True};
 
 impl Item for Value {
     ghost use Rattle.std.specs.Prelude.{ℤ, Some, None, true, false, refl};
     ghost use Rattle.typed_location.specs.declared.flag.Flag.TheVariants as flags;
-    ghost use Rattle.array_strategy.specs.declared.tests.Value.TheVariants.{Nil, False, True, Int, Scarce};
+    ghost use Rattle.array_strategy.specs.declared.tests.Value.TheVariants.{Nil, False, True, Int, Text, Scarce};
 
     ghost int = { Int };
 
-    ghost integer = { elim [ Nil ↦ None | False ↦ None | True ↦ None | Int n ↦ Some n | Scarce ↦ None ] };
+    ghost integer = { elim [ Nil ↦ None | False ↦ None | True ↦ None | Int n ↦ Some n | Text ↦ None | Scarce ↦ None ] };
 
     ghost flag = { elim [ flags.Nil ↦ Nil | flags.False ↦ False | flags.True ↦ True ] };
 
-    ghost flag_of = { elim [ Nil ↦ Some flags.Nil | False ↦ Some flags.False | True ↦ Some flags.True | Int n ↦ None | Scarce ↦ None ] };
+    ghost flag_of = { elim [ Nil ↦ Some flags.Nil | False ↦ Some flags.False | True ↦ Some flags.True | Int n ↦ None | Text ↦ None | Scarce ↦ None ] };
 
-    ghost counted = { elim [ Nil ↦ false | False ↦ false | True ↦ false | Int n ↦ false | Scarce ↦ true ] };
+    ghost counted = { elim [ Nil ↦ false | False ↦ false | True ↦ false | Int n ↦ false | Text ↦ false | Scarce ↦ true ] };
 
     ghost known = { λ _ _. refl };
 
-    ghost only = { elim [ Nil ↦ λ n e. Prim.cc | False ↦ λ n e. Prim.cc | True ↦ λ n e. Prim.cc | Int m ↦ λ n e. Prim.cc | Scarce ↦ λ n e. Prim.cc ] };
+    ghost only = { elim [ Nil ↦ λ n e. Prim.cc | False ↦ λ n e. Prim.cc | True ↦ λ n e. Prim.cc | Int m ↦ λ n e. Prim.cc | Text ↦ λ n e. Prim.cc | Scarce ↦ λ n e. Prim.cc ] };
 
     ghost only_flag = { elim [
       | Nil ↦ elim [ flags.Nil ↦ λ e. refl | flags.False ↦ λ e. absurd (Prim.cc) | flags.True ↦ λ e. absurd (Prim.cc) ]
       | False ↦ elim [ flags.Nil ↦ λ e. absurd (Prim.cc) | flags.False ↦ λ e. refl | flags.True ↦ λ e. absurd (Prim.cc) ]
       | True ↦ elim [ flags.Nil ↦ λ e. absurd (Prim.cc) | flags.False ↦ λ e. absurd (Prim.cc) | flags.True ↦ λ e. refl ]
       | Int n ↦ λ f e. absurd (Prim.cc)
+      | Text ↦ λ f e. absurd (Prim.cc)
       | Scarce ↦ λ f e. absurd (Prim.cc)
     ] };
 
@@ -250,6 +252,53 @@ fn an_array_is_made_of_items_and_copied_back(rt: HostRuntime) -> Result<(), Fail
     Ok(())
 }
 
+#[test]
+fn an_array_is_filled_with_one_item(rt: HostRuntime) -> Result<(), Fail> {
+    let alloc = rt.alloc();
+    for (item, strategy) in [
+        (Int(7), Strategy::Ints),
+        (Nil, Strategy::Anys),
+        (True, Strategy::Anys),
+        (Text, Strategy::Anys),
+    ] {
+        for items in [
+            [].as_slice(),
+            [item].as_slice(),
+            [item, item].as_slice(),
+            [item, item, item, item, item].as_slice(),
+        ] {
+            let array = LocalArray::filled(alloc, items.len(), item)?;
+            let wanted = if items.is_empty() {
+                Strategy::Empty
+            } else {
+                strategy
+            };
+            assert_eq!(rt; array.strategy(), wanted);
+            assert_eq!(rt; array.to_vec()?.as_slice(), items);
+        }
+    }
+    assert_eq!(rt; LocalArray::filled(alloc, 1, Scarce)?.len(), 1);
+    assert!(rt; is_refused(LocalArray::filled(alloc, 2, Scarce), PutFault::Memory));
+    let full = LocalArray::filled(alloc, MAX_LEN, 5_i64)?;
+    assert_eq!(rt; full.len(), MAX_LEN);
+    assert_eq!(rt; full.at(-1)?, Some(5));
+    assert!(rt;
+        is_refused(
+            LocalArray::filled(alloc, MAX_LEN + 1, 5_i64),
+            PutFault::TooLong
+        )
+    );
+    Ok(())
+}
+
+// Whether there is no array for this cause.
+fn is_refused<V: Item>(made: Result<LocalArray<V>, PutFault>, cause: PutFault) -> bool {
+    match made {
+        Ok(_) => false,
+        Err(fault) => fault == cause,
+    }
+}
+
 // What is seen at an index.
 fn seen_at(array: &LocalArray<Value>, index: i64) -> Option<Value> {
     match array.peek(index) {
@@ -276,6 +325,50 @@ fn an_item_is_seen_where_it_stands(rt: HostRuntime) -> Result<(), Fail> {
         assert_eq!(rt; seen_at(&array, index), item, "{index}");
     }
     assert_eq!(rt; seen_at(&LocalArray::new(alloc), 0), None);
+    Ok(())
+}
+
+// The items of the array behind the write of an integer or a flag, and whether it was done.
+fn written(
+    alloc: Global,
+    mut array: LocalArray<Value>,
+    index: i64,
+    item: Value,
+) -> Result<(bool, Vec<Value>), AllocError> {
+    let done = match (item.as_int(), item.as_flag()) {
+        (Some(n), _) => array.put_int(index, n),
+        (None, Some(flag)) => array.put_flag(index, flag),
+        _ => false,
+    };
+    Ok((done, items_of(alloc, array)?))
+}
+
+#[test]
+fn an_integer_or_a_flag_is_written_where_it_fits(rt: HostRuntime) -> Result<(), Fail> {
+    let alloc = rt.alloc();
+    let (ints, flags, mixed) = ([Int(1), Int(2)], [True, Nil], [Scarce, Int(2)]);
+    for (start, index, item, done, left) in [
+        (ints, 0, Int(9), true, [Int(9), Int(2)]),
+        (ints, -1, Int(9), true, [Int(1), Int(9)]),
+        (ints, 2, Int(9), false, ints),
+        (ints, -3, Int(9), false, ints),
+        (ints, i64::MIN, Int(9), false, ints),
+        (ints, 0, Nil, false, ints),
+        (flags, 1, False, true, [True, False]),
+        (flags, -2, Nil, true, [Nil, Nil]),
+        (flags, 2, True, false, flags),
+        (flags, 0, Int(1), false, flags),
+        (mixed, 0, Int(7), true, [Int(7), Int(2)]),
+        (mixed, -1, True, true, [Scarce, True]),
+        (mixed, i64::MAX, True, false, mixed),
+    ] {
+        let array = array_of(alloc, Strategy::Empty, &start)?;
+        let (is_done, items) = written(alloc, array, index, item)?;
+        assert_eq!(rt; is_done, done, "{index}");
+        assert_eq!(rt; items.as_slice(), left.as_slice(), "{index}");
+    }
+    let mut none: LocalArray<Value> = LocalArray::new(alloc);
+    assert!(rt; !none.put_int(0, 1) && !none.put_flag(-1, Flag::Nil));
     Ok(())
 }
 

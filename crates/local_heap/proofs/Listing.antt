@@ -1,5 +1,5 @@
 -- What lists do, from the words of their storage to those of things.
-use Rattle.std.proofs.Common.{◌≡◌, ℕ, zero, suc, ◌-◌, true, List, [], ◌∷◌, map, length, take, drop, slice_get, Option, Some, None, refl, ap, sym, ◌∙◌, arith}
+use Rattle.std.proofs.Common.{◌≡◌, ℕ, zero, suc, ◌-◌, true, List, [], ◌∷◌, map, length, take, drop, replicate, slice_get, Option, Some, None, refl, ap, sym, ◌∙◌, arith}
 use Rattle.std.specs.Prelude.{ℤ, pos, negsuc, IsSomeAnd, nat_lt}
 use Rattle.std.specs.List.{remove}
 use Rattle.std.specs.Option.{option_map}
@@ -8,10 +8,14 @@ use Rattle.std.proofs.lemmas.Bool.{lt-ltb}
 use Rattle.std.proofs.lemmas.List.{append-nil, drop_all, length-map, take-map, drop-map}
 use Rattle.std.proofs.lemmas.Option.{slice_get-map}
 use Rattle.array_strategy.specs.Elements.{place_of, item_at, without_item}
+use Rattle.array_strategy.proofs.Places.{map-replicate}
 use Rattle.rb_model.specs.declared.value.Value.{Value as Held}
-use Rattle.rb_model.specs.Values.{Value as Val, plain, or_nil, is_text}
+use Rattle.rb_model.specs.Values.{Value as Val, Reference, plain, or_nil, is_text}
 use Rattle.rb_model.specs.declared.immediate.Immediate.{Immediate}
-use Rattle.rb_model.specs.Immediates.{told, told_reply}
+use Rattle.rb_model.specs.Immediates.{list_replied, told, told_reply}
+use Rattle.rb_model.specs.Flags.{value_of}
+use Rattle.typed_location.specs.declared.flag.Flag.{Flag}
+use Rattle.typed_location.specs.declared.flag.Flag.TheVariants as flag
 use Rattle.local_heap.specs.Memory.{may_want}
 use Rattle.rb_model.specs.Acts.{At, Pop, Shift, DeleteAt}
 use Rattle.rb_model.specs.Acts as reply
@@ -24,6 +28,10 @@ place_is (negsuc k) n = refl
 pub no_items : {X : Type 0} (ys : List X) → length ys ≡ 0 → ys ≡ []
 no_items [] e = refl
 no_items (y ∷ ys) e = absurd (cc)
+
+-- so many times a value, as the definitions know it
+pub plain_repeated : (n : ℕ) (value : Held) → map plain (replicate n value) ≡ replicate n (plain value)
+plain_repeated n value = map-replicate plain n value
 
 module _ (xs : List Held) where
   abbrev vs : List Val
@@ -103,6 +111,16 @@ reads xs i found value taken is = ap reply.Value (is ∙ ap (λ o. or_nil (optio
 pub reads_told : (xs : List Held) (i : ℤ) (found : Option Held) (answer : Immediate) → found ≡ item_at xs i → answer ≡ told (or_nil (option_map plain found))
     → answer ≡ told_reply (gives (Elements (map plain xs)) (At i))
 reads_told xs i found answer taken is = is ∙ ap (λ o. told (or_nil (option_map plain o))) taken ∙ ap told (at_index xs i)
+
+-- nil and truth values are no lists
+pub no_list : (f : Flag) → None ≡ list_replied (reply.Value (plain (value_of f)))
+no_list flag.Nil = refl
+no_list flag.False = refl
+no_list flag.True = refl
+
+pub reads_list : (xs : List Held) (i : ℤ) (found : Option Held) (answer : Option Reference) → found ≡ item_at xs i → answer ≡ list_replied (reply.Value (or_nil (option_map plain found)))
+    → answer ≡ list_replied (gives (Elements (map plain xs)) (At i))
+reads_list xs i found answer taken is = is ∙ ap (λ o. list_replied (reply.Value (or_nil (option_map plain o)))) taken ∙ ap (λ v. list_replied (reply.Value v)) (at_index xs i)
 
 pub read_wants : (xs : List Held) (i : ℤ) → IsSomeAnd (item_at xs i) (λ v. is_text (plain v) ≡ true) → may_want (Elements (map plain xs)) (At i) ≡ true
 read_wants xs i some = ap is_text (sym (at_index xs i)) ∙ found_at xs i some

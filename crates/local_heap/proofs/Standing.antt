@@ -1,32 +1,36 @@
 -- A heap before and behind an act on a list or a hash, and before and behind a new one.
-use Rattle.std.proofs.Common.{◌≡◌, ℕ, zero, suc, ◌==◌, cond, Bool, true, false, List, [], ◌∷◌, ◌++◌, map, get_or, set, Option, Some, None, inl, refl, ap, sym, ◌∙◌, subst}
-use Rattle.std.specs.Prelude.{slice_get, option_and_then, ℤ, pos, IsSome, IfSome, IsSomeAnd, Result, Ok, Err, IfOk, IsOkAnd, OnOk, OnErr}
+use Rattle.std.proofs.Common.{◌≡◌, ℕ, zero, suc, ◌==◌, cond, Bool, true, false, List, [], ◌∷◌, ◌++◌, map, get_or, set, Option, Some, None, inl, refl, ap, sym, ◌∙◌, subst, arith}
+use Rattle.std.specs.Prelude.{◌<◌, length, is_some, slice_get, option_and_then, ℤ, pos, IsSome, IfSome, IsSomeAnd, Result, Ok, Err, IfOk, IsOkAnd, OnOk, OnErr}
 use Rattle.std.specs.Option.{option_map}
+use Rattle.std.proofs.lemmas.Bool.Decides.{nat_tests}
 use Rattle.std.proofs.lemmas.List.{map_push, map-set, set-get_or}
+use Rattle.std.proofs.lemmas.Option.{slice_get_read}
 use Rattle.rb_model.specs.declared.act.Reply.{Reply as Answered}
+use Rattle.rb_model.specs.declared.act.Reply.TheVariants as answered
 use Rattle.rb_model.specs.declared.value.Id.{Id}
 use Rattle.rb_model.specs.declared.value.Value.{Value as Held}
-use Rattle.rb_model.specs.Values.{Int, plain}
+use Rattle.rb_model.specs.Values.{Value as Val, Int, plain}
 use Rattle.rb_model.specs.declared.fault.Fault.TheVariants.{NoMethod}
-use Rattle.rb_model.specs.Acts.{Act, At, GetField, Len, SetField}
+use Rattle.rb_model.specs.Acts.{Act, At, Done, GetField, KGet, Len, Put, SetField}
 use Rattle.rb_model.specs.Acts as reply
 use Rattle.rb_model.specs.Doing.{said}
 use Rattle.rb_model.specs.Things.{Thing, Field, becomes, gives}
 use Rattle.rb_model.specs.Things as thing
 use Rattle.rb_model.specs.Paths.{shape_behind, shape_made}
-use Rattle.rb_model.specs.Immediates.{told_answer}
+use Rattle.rb_model.specs.Immediates.{list_answered, told_answer}
 use Rattle.rb_model.specs.Private.{Becomes, Gives, Private, changed, entered, held, or_none, shape_held, with_shape_of}
 use Rattle.rb_model.specs.Private as private
 use Rattle.shape_core.specs.Shape.{Shape}
 use Rattle.shape_core.proofs.Sames.{gains_is_with}
+use Rattle.array_strategy.specs.Elements.{Elements as Stored}
 use Rattle.local_heap.specs.declared.cells.Cell.{Cell}
 use Rattle.local_heap.specs.declared.cells.Cell.TheVariants as cell
 use Rattle.local_heap.specs.declared.object.Object.{Object}
-use Rattle.local_heap.specs.Contents.{Does, has_length, is_list, is_of_field, listed}
+use Rattle.local_heap.specs.Contents.{Does, DoesPut, has_length, is_list, is_of_field, listed}
 use Rattle.local_heap.specs.Limits.{IsWithin, IsWithinAt}
 use Rattle.local_heap.specs.Memory.{MayWant, may_want}
 use Rattle.local_heap.specs.Slots.{Home}
-use Rattle.local_heap.specs.Cells.{AreSound, CellDoes, IsCell, IsContents, IsKnown, cell_at, contents, fields_in, home_by, private_by, shape_in, shaped_in, still, thing_in}
+use Rattle.local_heap.specs.Cells.{AreSound, CellDoes, CellPuts, IsCell, IsContents, IsKnown, cell_at, contents, fields_in, home_by, private_by, shape_in, shaped_in, still, thing_in}
 use Rattle.local_heap.proofs.Acting.{AreWhole, private_now}
 use Rattle.local_heap.proofs.Cellwise.{Grows, Holds, all_at, all_push, all_set, held_cell, holds_more, read_at, shaped_there, sound_all, stays_grown, things_keep}
 use Rattle.local_heap.proofs.Limits.{stays_within}
@@ -499,6 +503,24 @@ module _ (thread : ℕ) (shapes : List Shape) (cells : List Cell) (h : Private) 
         by (cell.List list) = refl
         by (cell.Pairs pairs) = refl
 
+    pub list_told_there : (i : ℤ) (c : Cell) → found ≡ Some c → list_answered (contents c) (At i) ≡ list_answered (held h id) (At i)
+    list_told_there i c at = by c ∙ ap (λ o. list_answered o (At i)) (sym (held_there ∙ ap (option_and_then (still shapes home)) at))
+      where
+        by : (d : Cell) → list_answered (contents d) (At i) ≡ list_answered (still shapes home d) (At i)
+        by cell.Empty = refl
+        by (cell.Object o) = refl
+        by (cell.List list) = refl
+        by (cell.Pairs pairs) = refl
+
+    pub value_told_there : (key : Val) (c : Cell) → found ≡ Some c → told_answer (contents c) (KGet key) ≡ told_answer (held h id) (KGet key)
+    value_told_there key c at = by c ∙ ap (λ o. told_answer o (KGet key)) (sym (held_there ∙ ap (option_and_then (still shapes home)) at))
+      where
+        by : (d : Cell) → told_answer (contents d) (KGet key) ≡ told_answer (still shapes home d) (KGet key)
+        by cell.Empty = refl
+        by (cell.Object o) = refl
+        by (cell.List list) = refl
+        by (cell.Pairs pairs) = refl
+
     pub none_there : found ≡ None → held h id ≡ None
     none_there at = held_there ∙ ap (option_and_then (still shapes home)) at
 
@@ -525,11 +547,113 @@ module _ (thread : ℕ) (shapes : List Shape) (cells : List Cell) (h : Private) 
     pub wants_there : (act : Act) (c : Cell) → found ≡ Some c → IsSomeAnd (contents c) (λ t. may_want t act ≡ true) → MayWant h id act
     wants_there act c at e = λ x held_x. so_there (λ t. may_want t act ≡ true) c at e x held_x
 
-  -- a read of an element, and a count, leave the heap as it was
+  -- ---- an element that is given a value
+
+  -- the cell of a serial number that is there is that of its id
+  pub cell_there : (id : Id) (c : Cell) → id.thread ≡ thread → id.serial < length cells → c ≡ get_or cells id.serial c → Some c ≡ cell_at thread cells id
+  cell_there id c same within read =
+      let own : (id.thread == thread) ≡ true = grind (arith, nat_tests) in
+      rw own (sym (slice_get_read cells (length cells) id.serial c refl within read))
+
+  module _ (id : Id) (c : Cell) (is_found : Some c ≡ cell_at thread cells id) (read : c ≡ get_or cells id.serial c) (c' : Cell) (i : ℤ) (value : Option Val) (done : Bool)
+      (puts : CellPuts done c i value c') where
+    abbrev cells_put : List Cell
+    cells_put = set cells id.serial c'
+
+    abbrev after : Private
+    after = private_now thread shapes cells_put
+
+    -- the answer of an act that was done
+    abbrev was_done : Result Answered Unit
+    was_done = Ok answered.Done
+
+    cells_same : c' ≡ c → cells_put ≡ cells
+    cells_same e = ap (set cells id.serial) (e ∙ read) ∙ set-get_or cells id.serial c
+
+    list_held : (list : Stored Held) → c ≡ cell.List list → held h id ≡ Some (listed list)
+    list_held list at = held_there id (Some c) is_found ∙ ap (still shapes home) at
+
+    list_here : (list : Stored Held) → c ≡ cell.List list → IsSome (held h id)
+    list_here list at = by (held h id) (list_held list at)
+      where
+        by : (o : Option Thing) → o ≡ Some (listed list) → IsSome o
+        by None e = absurd (cc)
+        by (Some u) e = refl
+
+    -- where it is said to be done the cell has a list
+    module _ (P : Type 0) (is_done : done ≡ true)
+        (of_list : (v : Val) (list : Stored Held) → value ≡ Some v → c ≡ cell.List list → (later : Thing) → contents c' ≡ Some later → Does (listed list) (Put i v) was_done later → P) where
+      where_done : P
+      where_done = by c refl (subst (λ d. CellPuts d c i value c') is_done puts)
+        where
+          listing : (v : Option Val) (list : Stored Held) → value ≡ v → c ≡ cell.List list → (later : Thing) → contents c' ≡ Some later → DoesPut true (listed list) i v later → P
+          listing None list told at later now e = absurd e
+          listing (Some v) list told at later now e = of_list v list told at later now e
+
+          by : (k : Cell) → c ≡ k → CellPuts true k i value c' → P
+          by cell.Empty at p = absurd (let e = p.1 in cc)
+          by (cell.Object o) at p = absurd (let e = p.1 in cc)
+          by (cell.List list) at p = listing value list refl at p.0 p.1 p.2
+          by (cell.Pairs pairs) at p = absurd (let e = p.1 in cc)
+
+    pub put_there : done ≡ true → is_some (held h id) ≡ true
+    put_there is_done = where_done (is_some (held h id) ≡ true) is_done (λ v list told at later now does. ap is_some (list_held list at))
+
+    pub put_told : done ≡ true → is_some value ≡ true
+    put_told is_done = where_done (is_some value ≡ true) is_done (λ v list told at later now does. ap is_some told)
+
+    pub put_gives : done ≡ true → IfSome value (λ v. Gives h id (Put i v) Done)
+    put_gives is_done =
+        where_done (IfSome value (λ v. Gives h id (Put i v) Done)) is_done
+        (λ v list told at later now does.
+        rw told (done_reply id (list_here list at) c read c' (listed list) later (ap contents at) now (Put i v) was_done does))
+
+    pub put_private : done ≡ true → IfSome value (λ v. Becomes h id (Put i v) after)
+    put_private is_done =
+        where_done (IfSome value (λ v. Becomes h id (Put i v) after)) is_done
+        (λ v list told at later now does.
+        rw told (done_private id (list_here list at) c read c' (listed list) later (ap contents at) now (Put i v) was_done does))
+
+    pub put_kept : done ≡ false → after ≡ h
+    put_kept not_done = by c refl (subst (λ d. CellPuts d c i value c') not_done puts)
+      where
+        by : (k : Cell) → c ≡ k → CellPuts false k i value c' → after ≡ h
+        by cell.Empty at p = ap (private_now thread shapes) (cells_same (p.0 ∙ sym at)) ∙ is
+        by (cell.Object o) at p = ap (private_now thread shapes) (cells_same (p.0 ∙ sym at)) ∙ is
+        by (cell.List list) at p = contents_left id (list_here list at) c read c' (listed list) p.0 (ap contents at) p.1 p.2
+        by (cell.Pairs pairs) at p = ap (private_now thread shapes) (cells_same (p.0 ∙ sym at)) ∙ is
+
+    pub put_whole : AreWhole thread shapes cells_put
+    put_whole = or_not done refl
+      where
+        by : (k : Cell) → c ≡ k → CellPuts false k i value c' → AreWhole thread shapes cells_put
+        by cell.Empty at p = subst (AreWhole thread shapes) (sym (cells_same (p.0 ∙ sym at))) whole
+        by (cell.Object o) at p = subst (AreWhole thread shapes) (sym (cells_same (p.0 ∙ sym at))) whole
+        by (cell.List list) at p =
+            let fits : IsWithin p.0 = subst IsWithin (sym p.2) (is_within id (list_here list at) c read (listed list) (ap contents at)) in
+            contents_cells id (list_here list at) c read c' (listed list) p.0 (ap contents at) p.1 fits
+        by (cell.Pairs pairs) at p = subst (AreWhole thread shapes) (sym (cells_same (p.0 ∙ sym at))) whole
+
+        or_not : (d : Bool) → done ≡ d → AreWhole thread shapes cells_put
+        or_not true is_done =
+            where_done (AreWhole thread shapes cells_put) is_done
+            (λ v list told at later now does. done_cells id (list_here list at) c read c' (listed list) later (ap contents at) now (Put i v) was_done does)
+        or_not false not_done = by c refl (subst (λ d. CellPuts d c i value c') not_done puts)
+
+  -- a read of an element or of a key, and a count, leave the heap as it was
   pub reads_only : (id : Id) (i : ℤ) → Becomes h id (At i) h
   reads_only id i x e = idle id (At i) x e (by x) (shape_stays (At i) refl (shape_held h id))
     where
       by : (t : Thing) → becomes t (At i) ≡ t
+      by (thing.Object c fs) = refl
+      by (thing.Elements vs) = refl
+      by (thing.Pairs ps) = refl
+      by (thing.Mutex o) = refl
+
+  pub looks_only : (id : Id) (key : Val) → Becomes h id (KGet key) h
+  looks_only id key x e = idle id (KGet key) x e (by x) (shape_stays (KGet key) refl (shape_held h id))
+    where
+      by : (t : Thing) → becomes t (KGet key) ≡ t
       by (thing.Object c fs) = refl
       by (thing.Elements vs) = refl
       by (thing.Pairs ps) = refl

@@ -1,13 +1,13 @@
 -- Writes to lists, from the words of their storage to those of things.
 use Rattle.std.proofs.Common.{◌≡◌, ◌≢◌, ℕ, ◌-◌, ◌<◌, ◌≤◌, Bool, true, false, List, [], ◌∷◌, ◌++◌, map, length, replicate, Option, Some, None, Ok, Err, OnOk, OnErr, refl, ap, sym, ◌∙◌, subst, inl, inr, arith}
-use Rattle.std.specs.Prelude.{ℤ, All, IsSomeAnd, ◌↔◌, Result, nat_lt, not, ◌||◌}
+use Rattle.std.specs.Prelude.{ℤ, All, IsSomeAnd, ◌↔◌, Result, nat_lt, not, slice_set, ◌||◌}
 use Rattle.std.specs.List.{list_all}
 use Rattle.std.proofs.lemmas.Bool.{le-ltb, lt-ltb, ltb-true, ltb-false}
 use Rattle.std.proofs.lemmas.List.{map-set, map_push}
 use Rattle.std.proofs.lemmas.List.Elements.{All-tail}
 use Rattle.typed_location.specs.declared.flag.Flag.{Flag}
 use Rattle.typed_location.specs.declared.flag.Flag.TheVariants as flags
-use Rattle.array_strategy.specs.Elements.{Elements as Stored, IsFlagBy, IsIntegerBy, Widens, place_of, pushed, put_at, unshifted, with_item}
+use Rattle.array_strategy.specs.Elements.{Elements as Stored, IsFlagBy, IsIntegerBy, IsSetAt, Widens, place_of, pushed, put_at, unshifted, with_item}
 use Rattle.array_strategy.specs.declared.fault.PutFault.{PutFault}
 use Rattle.array_strategy.specs.declared.fault.PutFault.TheVariants.{TooSmall, TooLong, Memory}
 use Rattle.array_strategy.proofs.Places.{map-filled, with_item-within, with_item-beyond}
@@ -18,10 +18,10 @@ use Rattle.rb_model.specs.Flags.{flag_in, value_of}
 use Rattle.rb_model.specs.Integers.{integer_in}
 use Rattle.rb_model.specs.Values.{Value as Val, Nil, plain}
 use Rattle.rb_model.specs.Doing.{said}
-use Rattle.rb_model.specs.Acts.{Push, Put, Unshift}
-use Rattle.rb_model.specs.Things.{Elements, has_room, index_of, is_integer, put_reply, put, with_element}
+use Rattle.rb_model.specs.Acts.{Done, Push, Put, Unshift}
+use Rattle.rb_model.specs.Things.{Elements, becomes, gives, has_room, index_of, is_integer, put_reply, put, with_element}
 use Rattle.local_heap.specs.Memory.{is_flag, put_wants, widens}
-use Rattle.local_heap.specs.Contents.{Does, Tells, listed}
+use Rattle.local_heap.specs.Contents.{Does, DoesPut, Tells, listed}
 use Rattle.local_heap.proofs.Listing.{place_is, as_long}
 
 -- ---- one element more
@@ -185,3 +185,27 @@ module _ {E : Type 0} (a a' : Stored Held) (v : Held) (done : Result Unit PutFau
   does_put i is =
       let same : p ≡ index_of (length elements) i = is ∙ place_is i (length a.items) ∙ ap (λ n. index_of n i) (sym (as_long a.items)) in
       as_asked result i (subst (λ q. DoesAt result q) same (by p done result (refl, refl, tells, kept, done_is)))
+
+-- ---- an element that gives way to a value in its place
+
+module _ (a a' : Stored Held) (i : ℤ) (v : Held) (few : length a.items ≤ 16777216) where
+  abbrev before : List Val
+  before = map plain a.items
+
+  sets_element : IsSetAt a.items i v a'.items → (Done ≡ gives (listed a) (Put i (plain v))) × (listed a' ≡ becomes (listed a) (Put i (plain v)))
+  sets_element is =
+      subst (λ o. (Done ≡ put_reply o) × (listed a' ≡ Elements (put before o (plain v))))
+      (place_is i (length a.items) ∙ ap (λ n. index_of n i) (sym (as_long a.items)))
+      (by (place_of i (length a.items)) is)
+    where
+      by : (o : Option ℕ) → IsSomeAnd o (λ j. (j < length a.items) × (a'.items ≡ slice_set a.items j v)) → (Done ≡ put_reply o) × (listed a' ≡ Elements (put before o (plain v)))
+      by None e = absurd e
+      by (Some n) e =
+          let below = e.0 in
+          let room : nat_lt n 16777216 ≡ true = lt-ltb n 16777216 (omega (arith, below, few)) in
+          let there : nat_lt n (length before) ≡ true = lt-ltb n (length before) (subst (λ k. n < k) (sym (as_long a.items)) below) in
+          rw (room, there) (refl, ap (λ ys. Elements (map plain ys)) e.1 ∙ ap Elements (map-set plain a.items n v))
+
+  pub does_set : (done : Bool) (value : Option Val) → value ≡ Some (plain v) → (done ≡ true → IsSetAt a.items i v a'.items) → (done ≡ false → a' ≡ a) → DoesPut done (listed a) i value (listed a')
+  does_set true value told set kept = rw told (sets_element (set refl))
+  does_set false value told set kept = ap listed (kept refl)

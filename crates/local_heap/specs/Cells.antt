@@ -1,5 +1,5 @@
 -- The private things as a heap keeps them.
-use Rattle.std.specs.Prelude.{◌≡◌, ℕ, ◌<◌, ◌==◌, if◌then◌else◌, slice_get, List, map, length, Option, Some, None, Result, IsErr, IsOkAnd}
+use Rattle.std.specs.Prelude.{◌≡◌, ℕ, ℤ, Bool, false, ◌<◌, ◌==◌, if◌then◌else◌, slice_get, List, map, length, Option, Some, None, Result, IsErr, IsOkAnd}
 use Rattle.std.specs.Option.{option_map}
 use Rattle.std.specs.List.{AllByRecursion}
 use Rattle.rb_tree.specs.declared.span.NameId.{NameId}
@@ -20,7 +20,7 @@ use Rattle.local_heap.specs.declared.slot.Whose.{Whose}
 use Rattle.local_heap.specs.declared.cells.Cell.{Cell}
 use Rattle.local_heap.specs.declared.cells.Cell.TheVariants as cell
 use Rattle.local_heap.specs.declared.cells.Cells.{Cells}
-use Rattle.local_heap.specs.Contents.{Does, listed}
+use Rattle.local_heap.specs.Contents.{Does, DoesPut, listed}
 use Rattle.local_heap.specs.Limits.{IsWithin}
 use Rattle.local_heap.specs.Slots.{Home, IsOwnBy, slot_at}
 use Rattle.local_heap.specs.Fields.{AreWords, Wrote, fields_of}
@@ -93,6 +93,13 @@ CellDoes cell.Empty act result now = (now ≡ cell.Empty) × IsErr result
 CellDoes (cell.Object o) act result now = (now ≡ cell.Object o) × IsOkAnd result (λ reply. said reply ≡ Failed NoMethod)
 CellDoes (cell.List list) act result now = DoesWithin (listed list) act result now
 CellDoes (cell.Pairs pairs) act result now = DoesWithin (thing.Pairs pairs.value) act result now
+
+-- Whether an element of what a cell has was given a value, and what the cell then has. Where it has no list, it was not.
+abbrev pub CellPuts : Bool → Cell → ℤ → Option Val → Cell → Type 0
+CellPuts done cell.Empty i value now = (now ≡ cell.Empty) × (done ≡ false)
+CellPuts done (cell.Object o) i value now = (now ≡ cell.Object o) × (done ≡ false)
+CellPuts done (cell.List list) i value now = (later : Thing) × (contents now ≡ Some later) × DoesPut done (listed list) i value later
+CellPuts done (cell.Pairs pairs) i value now = (now ≡ cell.Pairs pairs) × (done ≡ false)
 
 abbrev pub still : List Shape → Home → Cell → Option Thing
 still shapes home cell.Empty = None

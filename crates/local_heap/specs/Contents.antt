@@ -1,5 +1,5 @@
 -- What lists and hashes do by themselves.
-use Rattle.std.specs.Prelude.{◌≡◌, Bool, true, false, map, Option, Some, Result, Ok, Err}
+use Rattle.std.specs.Prelude.{◌≡◌, ℤ, Bool, true, false, map, Option, Some, IsSomeAnd, Result, Ok, Err}
 use Rattle.array_strategy.specs.Elements.{Elements as Stored}
 use Rattle.array_strategy.specs.declared.fault.PutFault.{PutFault}
 use Rattle.array_strategy.specs.declared.fault.PutFault.TheVariants as fault
@@ -8,8 +8,8 @@ use Rattle.ordered_pairs.specs.declared.pairs.PutFault.TheVariants as pair_fault
 use Rattle.rb_model.specs.declared.act.Reply.{Reply as Answered}
 use Rattle.rb_model.specs.declared.fault.Fault.TheVariants.{IndexTooSmall, ArrayTooLong}
 use Rattle.rb_model.specs.declared.value.Value.{Value as Held}
-use Rattle.rb_model.specs.Values.{plain}
-use Rattle.rb_model.specs.Acts.{Act, GetField, SetField, Done, Failed}
+use Rattle.rb_model.specs.Values.{Value as Val, plain}
+use Rattle.rb_model.specs.Acts.{Act, GetField, Put, SetField, Done, Failed}
 use Rattle.rb_model.specs.Doing.{said}
 use Rattle.rb_model.specs.Things.{Thing, Elements, Pairs, becomes, gives}
 use Rattle.local_heap.specs.Memory.{may_want}
@@ -37,6 +37,11 @@ is_of_field act = false
 abbrev pub Does : {E : Type 0} → Thing → Act → Result Answered E → Thing → Type 0
 Does thing act (Ok reply) now = (said reply ≡ gives thing act) × (now ≡ becomes thing act)
 Does thing act (Err refused) now = (now ≡ thing) × (may_want thing act ≡ true)
+
+-- Whether an element of a thing was given a value, and what the thing then is. Where it was not, the thing is what it was.
+abbrev pub DoesPut : Bool → Thing → ℤ → Option Val → Thing → Type 0
+DoesPut true thing i value now = IsSomeAnd value (λ v. (Done ≡ gives thing (Put i v)) × (now ≡ becomes thing (Put i v)))
+DoesPut false thing i value now = now ≡ thing
 
 -- what is answered to a write that was refused
 abbrev pub Refuses : {E : Type 0} → PutFault → Result Answered E → Type 0

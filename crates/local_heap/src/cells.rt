@@ -1,19 +1,19 @@
 // The things of a heap by serial number.
 
 ghost use Rattle.std.specs.Prelude.{◌≡◌, ◌<◌, length, is_some, pos, IfSome, IsSomeAnd, IfOk, OnErr, true};
-ghost use Rattle.std.specs.Option.{option_copied};
+ghost use Rattle.std.specs.Option.{option_copied, option_map};
 ghost use Rattle.rb_model.specs.Values.{Int, is_text, plain};
-ghost use Rattle.rb_model.specs.Acts.{At, Len};
+ghost use Rattle.rb_model.specs.Acts.{At, KGet, Len};
 ghost use Rattle.rb_model.specs.Acts as answer;
 ghost use Rattle.rb_model.specs.Doing.{doing, said};
 ghost use Rattle.rb_model.specs.Things.{field, gives};
-ghost use Rattle.rb_model.specs.Immediates.{told_answer};
+ghost use Rattle.rb_model.specs.Immediates.{list_answered, reference, told_answer, value_told};
 ghost use Rattle.local_heap.specs.Memory.{may_want};
 ghost use Rattle.local_heap.specs.Contents.{has_length, is_list};
 ghost use Rattle.local_heap.specs.Slots.{IsOwnBy, IsWord, class_at, meaning, own, slot_at};
 ghost use Rattle.local_heap.specs.Words.{any_of};
 ghost use Rattle.local_heap.specs.Fields.{value_by};
-ghost use Rattle.local_heap.specs.Cells.{AreKnown, CellDoes, IsObject, IsSound, cell_at, contents, fields_in, home_of};
+ghost use Rattle.local_heap.specs.Cells.{AreKnown, CellDoes, CellPuts, IsObject, IsSound, cell_at, contents, fields_in, home_of};
 
 use crate::list::{self, List};
 use crate::object::Object;
@@ -72,6 +72,41 @@ impl Cell {
         match self {
             Cell::List(list) => list::immediate(list, index),
             _ => Immediate::Other,
+        }
+    }
+
+    /// The list that the element at an index is, if this is a list and the element one.
+    #[inline(always)]
+    pub fn list_element(&self, index: i64) -> Option<Ref>
+        ensures { option_map reference result ≡ list_answered (contents self.now) (At index) }
+    {
+        match self {
+            Cell::List(list) => list::list_at(list, index),
+            _ => None,
+        }
+    }
+
+    /// The value of a key, told where this is a hash and the value an immediate one.
+    #[inline(always)]
+    pub fn immediate_value(&self, key: &Value) -> Immediate
+        ensures { result ≡ told_answer (contents self.now) (KGet (plain key.now)) }
+    {
+        match self {
+            Cell::Pairs(pairs) => pairs::immediate(pairs, key),
+            _ => Immediate::Other,
+        }
+    }
+
+    /// Gives an element an immediate value, where this is a list that has the element and it fits where it stands. Else nothing is done.
+    #[inline(always)]
+    pub fn put_immediate(&mut self, index: i64, value: Immediate) -> bool
+        ensures { CellPuts result self.old index (value_told value) self.new }
+    {
+        match self {
+            Cell::Empty => false,
+            Cell::Object(_) => false,
+            Cell::List(list) => list::put_immediate(list, index, value),
+            Cell::Pairs(_) => false,
         }
     }
 

@@ -100,6 +100,7 @@ impl<S: ShapeStore> LocalHeap<S> {
         match make {
             Make::Object(class) => self.make_object(class),
             Make::Elements(values) => self.make_list(values),
+            Make::Filled(count, value) => self.make_filled(count, value),
             Make::Pairs(given) => self.make_pairs(given),
         }
     }

@@ -1,6 +1,6 @@
 // One list.
 
-ghost use Rattle.std.specs.Prelude.{◌≡◌, ◌≤◌, length, true, IfOk, OnErr};
+ghost use Rattle.std.specs.Prelude.{◌≡◌, ◌≤◌, length, replicate, true, Some, IfSome, IfOk, OnErr};
 ghost use Rattle.std.specs.Option.{option_map};
 ghost use Rattle.rb_model.specs.Values.{or_nil as nil_or, plain};
 ghost use Rattle.rb_model.specs.Flags.{value_of};
@@ -8,12 +8,12 @@ ghost use Rattle.rb_model.specs.Acts.{Clear, Copy, DeleteAt, Len, Pop, Push, Put
 ghost use Rattle.rb_model.specs.Acts as answer;
 ghost use Rattle.rb_model.specs.Doing.{doing, seen};
 ghost use Rattle.rb_model.specs.Things.{gives, max_elements};
-ghost use Rattle.rb_model.specs.Immediates.{told, told_reply};
+ghost use Rattle.rb_model.specs.Immediates.{if_list as list_if, list_replied, reference, told, told_reply, value_told};
 ghost use Rattle.local_heap.specs.Memory.{may_want};
-ghost use Rattle.local_heap.specs.Contents.{Does, Refuses, Tells, listed};
+ghost use Rattle.local_heap.specs.Contents.{Does, DoesPut, Refuses, Tells, listed};
 
 use array_strategy::{LocalArray, Peeked, PutFault};
-use rb_model::{Act, Fault, Immediate, Reply, Thing, Value};
+use rb_model::{Act, Fault, Immediate, Ref, Reply, Sort, Thing, Value};
 use std::alloc::{AllocError, Global};
 use typed_location::Flag;
 
@@ -26,6 +26,17 @@ pub fn made(alloc: Global, values: Vec<Value>) -> Result<List, AllocError>
     ensures few { IfOk result (λ list. length list.items ≤ max_elements) }
 {
     match LocalArray::from_vec(alloc, values) {
+        Ok(list) => Ok(list),
+        Err(_) => Err(AllocError),
+    }
+}
+
+/// The list of so many times a value. That there are more than a list may have is told as want of memory.
+pub fn filled(alloc: Global, count: usize, value: Value) -> Result<List, AllocError>
+    ensures items { IfOk result (λ list. list.items ≡ replicate count value) }
+    ensures few { IfOk result (λ list. length list.items ≤ max_elements) }
+{
+    match LocalArray::filled(alloc, count, value) {
         Ok(list) => Ok(list),
         Err(_) => Err(AllocError),
     }
@@ -73,9 +84,45 @@ pub fn immediate(list: &List, index: i64) -> Immediate
     }
 }
 
+/// Gives an element an immediate value, where the list has the element and it fits where it stands. Else nothing is done.
+#[inline(always)]
+pub fn put_immediate(list: &mut List, index: i64, value: Immediate) -> bool
+    ensures { DoesPut result (listed list.old) index (value_told value) (listed list.new) }
+{
+    match value {
+        Immediate::Int(n) => list.put_int(index, n),
+        other => put_flag(list, index, other),
+    }
+}
+
+/// Gives an element nil or a truth value, where the list has the element and it fits where it stands. Else nothing is done.
+#[inline(always)]
+fn put_flag(list: &mut List, index: i64, value: Immediate) -> bool
+    ensures { DoesPut result (listed list.old) index (value_told value) (listed list.new) }
+{
+    match flag_told(value) {
+        Some(flag) => list.put_flag(index, flag),
+        None => false,
+    }
+}
+
+/// Nil or a truth value that is told, if it is one.
+#[inline(always)]
+fn flag_told(value: Immediate) -> Option<Flag>
+    ensures { IfSome result (λ flag. value_told value ≡ Some (plain (value_of flag))) }
+{
+    match value {
+        Immediate::Nil => Some(Flag::Nil),
+        Immediate::False => Some(Flag::False),
+        Immediate::True => Some(Flag::True),
+        Immediate::Int(_) => None,
+        Immediate::Other => None,
+    }
+}
+
 /// A value, told where it is an immediate one.
 #[inline(always)]
-fn immediate_of(value: &Value) -> Immediate
+pub fn immediate_of(value: &Value) -> Immediate
     ensures { result ≡ told (plain value.now) }
 {
     match value {
@@ -98,6 +145,49 @@ fn immediate_of_flag(flag: Flag) -> Immediate
         Flag::Nil => Immediate::Nil,
         Flag::False => Immediate::False,
         Flag::True => Immediate::True,
+    }
+}
+
+/// The list that the element at an index is, if it is one.
+#[inline(always)]
+pub fn list_at(list: &List, index: i64) -> Option<Ref>
+    ensures { option_map reference result ≡ list_replied (gives (listed list.now) (At index)) }
+{
+    match list.peek(index) {
+        Peeked::Nothing => None,
+        Peeked::Int(_) => None,
+        Peeked::Flag(_) => None,
+        Peeked::Item(value) => list_in(value),
+    }
+}
+
+/// The list that a value is a reference to, if it is one.
+#[inline(always)]
+fn list_in(value: &Value) -> Option<Ref>
+    ensures { option_map reference result ≡ list_replied (answer.Value (plain value.now)) }
+{
+    match value {
+        Value::Nil => None,
+        Value::False => None,
+        Value::True => None,
+        Value::Int(_) => None,
+        Value::Sym(_) => None,
+        Value::Str(_) => None,
+        Value::Ref(thing) => if_list(*thing),
+    }
+}
+
+/// A reference, if it is one to a list.
+#[inline(always)]
+fn if_list(thing: Ref) -> Option<Ref>
+    ensures { option_map reference result ≡ list_if thing.sort (reference thing) }
+{
+    match thing.sort {
+        Sort::List => Some(thing),
+        Sort::Object(_) => None,
+        Sort::Pairs => None,
+        Sort::Mutex => None,
+        Sort::Thread => None,
     }
 }
 

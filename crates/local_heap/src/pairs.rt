@@ -4,11 +4,13 @@ ghost use Rattle.std.specs.Prelude.{◌≡◌, ◌≤◌, length, map, true, IfO
 ghost use Rattle.rb_model.specs.Values.{plain, truth as truth_of};
 ghost use Rattle.rb_model.specs.Acts.{Clear, Copy, KDelete, KGet, KHas, KPut, Len};
 ghost use Rattle.rb_model.specs.Doing.{doing, pair, seen};
-ghost use Rattle.rb_model.specs.Things.{Pairs, gathered, max_elements, may_put, with_pair};
+ghost use Rattle.rb_model.specs.Things.{Pairs, gathered, gives, max_elements, may_put, with_pair};
+ghost use Rattle.rb_model.specs.Immediates.{told_reply};
 ghost use Rattle.local_heap.specs.Contents.{Does, RefusesPair};
 
+use crate::list::immediate_of;
 use ordered_pairs::{OrderedPairs, PutFault};
-use rb_model::{Act, Fault, Reply, Thing, Value};
+use rb_model::{Act, Fault, Immediate, Reply, Thing, Value};
 use std::alloc::{AllocError, Global};
 
 /// The pairs of a hash as they are given, from the left. That there are more than a hash may have is told as want of memory.
@@ -56,6 +58,17 @@ fn get(pairs: &OrderedPairs, key: &Value) -> Result<Reply, AllocError>
     ensures { Does (Pairs pairs.now) (KGet (plain key.now)) result (Pairs pairs.now) }
 {
     Ok(Reply::Value(pairs.get(key)?))
+}
+
+/// The value of a key, told where it is an immediate one. Nothing is copied or shared.
+#[inline(always)]
+pub fn immediate(pairs: &OrderedPairs, key: &Value) -> Immediate
+    ensures { result ≡ told_reply (gives (Pairs pairs.now) (KGet (plain key.now))) }
+{
+    match pairs.peek(key) {
+        Some(value) => immediate_of(value),
+        None => Immediate::Nil,
+    }
 }
 
 fn has(pairs: &OrderedPairs, key: &Value) -> Result<Reply, AllocError>

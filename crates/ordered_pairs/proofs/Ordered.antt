@@ -1,7 +1,8 @@
 -- What a list of entries, the newest first, says of the pairs in order.
 use Rattle.std.proofs.Common.{◌≡◌, ℕ, ◌-◌, ◌<◌, ◌≤◌, Bool, true, false, cond, List, [], ◌∷◌, ◌++◌, length, map, Option, Some, None, refl, sym, ap, ◌∙◌, arith}
-use Rattle.std.specs.Prelude.{◌||◌, is_some, if◌then◌else◌}
-use Rattle.std.specs.Option.{option_map}
+use Rattle.std.specs.Borrow.{Bor}
+use Rattle.std.specs.Prelude.{◌||◌, is_some, if◌then◌else◌, IfSome}
+use Rattle.std.specs.Option.{option_copied, option_map}
 use Rattle.std.specs.List.{AllByRecursion, IsDistinct}
 use Rattle.std.specs.Map.{keys_of, lookup, lookup_entry, remove_entry, set_value}
 use Rattle.lru.specs.LruCache.{LruCache, put_entries}
@@ -76,6 +77,14 @@ module _ (key : Val) where
   nothing_out (x ∷ xs) z = (elim (same x.0 key) as (λ t. same x.0 key ≡ t → without_key key (x ∷ xs) ≡ x ∷ xs) [
     | true ↦ λ q. absurd (let y = rw q at z in cc)
     | false ↦ λ q. rw q (ap (λ l. x ∷ l) (nothing_out xs (rw q at z)))
+  ]) refl
+
+  -- a key that is not there has nil
+  pub absent_value : (xs : List (Val × Val)) → has_key key xs ≡ false → value_at key xs ≡ Nil
+  absent_value [] z = refl
+  absent_value (x ∷ xs) z = (elim (same x.0 key) as (λ t. same x.0 key ≡ t → value_at key (x ∷ xs) ≡ Nil) [
+    | true ↦ λ q. absurd (let y = rw q at z in cc)
+    | false ↦ λ q. rw q (absent_value xs (rw q at z))
   ]) refl
 
   pub comes_last : (v : Val) (xs : List (Val × Val)) → has_key key xs ≡ false → with_pair key v xs ≡ xs ++ (key, v) ∷ []
@@ -176,6 +185,25 @@ module _ (k : Held) (es : List (Held × Held)) (ps : List (Val × Val)) (distinc
 
   pub key_is : (o : Option Held) → lookup (one k) es ≡ o → has_key (plain k) ps ≡ is_some o
   key_is o e = ap (has_key (plain k)) (sym view) ∙ is_there k es ∙ ap is_some e
+
+  -- what is found where it stands
+  module _ (result : Option (Bor Held)) (is : option_copied result ≡ lookup (one k) es) where
+    pub peeked_there : IfSome result (λ value. has_key (plain k) ps ≡ true)
+    peeked_there = by result is
+      where
+        by : (r : Option (Bor Held)) → option_copied r ≡ lookup (one k) es → IfSome r (λ value. has_key (plain k) ps ≡ true)
+        by None e = tt
+        by (Some v) e = key_is (Some v.now) (sym e)
+
+    pub peeked_value : IfSome result (λ value. plain value.now ≡ value_at (plain k) ps)
+    peeked_value = by result is
+      where
+        by : (r : Option (Bor Held)) → option_copied r ≡ lookup (one k) es → IfSome r (λ value. plain value.now ≡ value_at (plain k) ps)
+        by None e = tt
+        by (Some v) e = found v.now (sym e)
+
+    pub peeked_none : result ≡ None → has_key (plain k) ps ≡ false
+    peeked_none none = key_is None (sym is ∙ ap option_copied none)
 
   pub put_over : (v : Held) → is_some (lookup (one k) es) ≡ true → in_order (set_value (one k) es v) ≡ with_pair (plain k) (plain v) ps
   put_over v s = replaced k v es distinct s ∙ ap (with_pair (plain k) (plain v)) view

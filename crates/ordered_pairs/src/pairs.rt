@@ -1,6 +1,6 @@
 // Pairs in the order of their keys.
 
-ghost use Rattle.std.specs.Prelude.{◌≡◌, ◌<◌, ◌^◌, ◌↔◌, [], length, map, true, false, IfOk, IsOk, OnOk, OnErr, Err};
+ghost use Rattle.std.specs.Prelude.{◌≡◌, ◌<◌, ◌^◌, ◌↔◌, [], length, map, true, false, None, IfSome, IfOk, IsOk, OnOk, OnErr, Err};
 ghost use Rattle.std.specs.List.{IsDistinct};
 ghost use Rattle.std.specs.Map.{keys_of};
 ghost use Rattle.rb_model.specs.Values.{is_text, plain, same};
@@ -61,6 +61,7 @@ impl Model for OrderedPairs {
 }
 
 /// No key stands twice. The length of a cache tells that, and so callers ask for it.
+#[inline(always)]
 fn are_distinct(entries: &LruCache<Value, Value>)
     ensures { IsDistinct (λ a b. same (plain a) (plain b)) (keys_of entries.now.entries) }
 {
@@ -99,14 +100,24 @@ impl OrderedPairs {
         self.entries.contains(key)
     }
 
+    /// The value of a key where it stands, where the key is there.
+    #[inline(always)]
+    pub fn peek(&self, key: &Value) -> Option<&Value>
+        ensures there { IfSome result (λ value. has_key (plain key.now) self.now ≡ true) }
+        ensures value { IfSome result (λ value. plain value.now ≡ value_at (plain key.now) self.now) }
+        ensures none { result ≡ None → has_key (plain key.now) self.now ≡ false }
+    {
+        are_distinct(&self.entries);
+        self.entries.peek(key)
+    }
+
     /// The value of a key, nil where it is not there. No bytes are copied. Where as many own a text as can be counted, that is want of
     /// memory.
     pub fn get(&self, key: &Value) -> Result<Value, AllocError>
         ensures value { IfOk result (λ value. plain value ≡ value_at (plain key.now) self.now) }
         ensures refused { OnErr result (is_text (value_at (plain key.now) self.now) ≡ true) }
     {
-        are_distinct(&self.entries);
-        match self.entries.peek(key) {
+        match self.peek(key) {
             Some(value) => value.share(),
             None => Ok(Value::Nil),
         }

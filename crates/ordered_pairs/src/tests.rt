@@ -117,7 +117,9 @@ fn keys_of_each_kind_are_told_apart(rt: HostRuntime) -> Result<(), Fail> {
     assert_eq!(rt; pairs.len(), keys.len());
     for (at, key) in keys.iter().enumerate() {
         assert_eq!(rt; integer(&pairs.get(key)?), Some(at as i64));
+        assert_eq!(rt; pairs.peek(key).and_then(integer), Some(at as i64));
     }
+    assert!(rt; pairs.peek(&Value::Int(2)).is_none());
     Ok(())
 }
 

@@ -1,5 +1,5 @@
 -- Acts, replies, makes and things of the code, as the definitions know them.
-use Rattle.std.specs.Prelude.{[], map}
+use Rattle.std.specs.Prelude.{[], map, replicate}
 use Rattle.rb_model.specs.declared.act.Act.{Act as Asked}
 use Rattle.rb_model.specs.declared.act.Act.TheVariants as asked
 use Rattle.rb_model.specs.declared.act.Reply.{Reply as Answered}
@@ -52,12 +52,14 @@ said (answered.Failed fault) = reply.Failed fault
 abbrev pub made : Make → Thing
 made (make.Object class) = Object class []
 made (make.Elements values) = Elements (map plain values.items)
+made (make.Filled count value) = Elements (replicate count (plain value))
 made (make.Pairs pairs) = Pairs (gathered (map pair pairs.items))
 
 -- and what a reference to it says that it is
 abbrev pub sort_of : Make → Sort
 sort_of (make.Object class) = sort.Object class
 sort_of (make.Elements values) = sort.List
+sort_of (make.Filled count value) = sort.List
 sort_of (make.Pairs pairs) = sort.Pairs
 
 -- what a field of the code is

@@ -58,6 +58,8 @@ pub enum Make {
     Object(u32),
     /// A list of these elements.
     Elements(Vec<Value>),
+    /// A list of so many times a value.
+    Filled(usize, Value),
     /// A hash of these pairs. A key that stands twice keeps its first place and has its last value.
     Pairs(Vec<(Value, Value)>),
 }

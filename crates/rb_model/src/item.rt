@@ -34,6 +34,7 @@ impl Item for Value {
         }
     }
 
+    #[inline(always)]
     fn of_int(n: i64) -> Value {
         Value::Int(n)
     }
@@ -47,6 +48,7 @@ impl Item for Value {
         }
     }
 
+    #[inline(always)]
     fn of_flag(value: Flag) -> Value {
         match value {
             Flag::Nil => Value::Nil,

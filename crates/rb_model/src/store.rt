@@ -2,14 +2,17 @@
 
 ghost use Rattle.std.specs.Prelude.{◌≡◌, ◌≤◌, true, false, ℕ, is_some, IsSome, IfSome, IfOk, OnOk, OnErr};
 ghost use Rattle.rb_model.specs.Values.{plain};
-ghost use Rattle.rb_model.specs.Acts.{At};
+ghost use Rattle.rb_model.specs.Acts.{At, KGet, Put};
 ghost use Rattle.rb_model.specs.Acts as answer;
 ghost use Rattle.rb_model.specs.Doing.{doing, said, made, sort_of};
+ghost use Rattle.rb_model.specs.Immediates.{told_answer, list_answered, reference, value_told};
+ghost use Rattle.std.specs.Option.{option_map};
 ghost use Rattle.rb_model.specs.Private.{Private, Gives, Becomes, held, entered, next_id};
 ghost use Rattle.rb_model.specs.Log.{Log as Calls, Answers, is_sure, has_end, asked};
 
 use crate::act::{Act, Make, Reply};
 use crate::call::{Answer, Call};
+use crate::immediate::Immediate;
 use crate::value::{Id, Ref, Value};
 use std::alloc::AllocError;
 
@@ -63,6 +66,31 @@ pub trait ThreadStore {
         ensures held { IfSome result (λ value. is_some (held (private self.now) id) ≡ true) }
         ensures value { IfSome result (λ value. Gives (private self.now) id (At index) (answer.Value (plain value))) }
         ensures private { IfSome result (λ value. Becomes (private self.now) id (At index) (private self.now)) };
+
+    /// The element at an index of a list that is private here, where it is an immediate value.
+    fn immediate_element(&self, id: Id, index: i64) -> Immediate
+        ensures told { result ≡ told_answer (held (private self.now) id) (At index) }
+        ensures private { Becomes (private self.now) id (At index) (private self.now) };
+
+    /// The list that the element at an index is, of a list that is private here.
+    fn list_element(&self, id: Id, index: i64) -> Option<Ref>
+        ensures list { option_map reference result ≡ list_answered (held (private self.now) id) (At index) }
+        ensures private { Becomes (private self.now) id (At index) (private self.now) };
+
+    /// The value of a key of a hash that is private here, where it is an immediate value.
+    fn immediate_value(&self, id: Id, key: &Value) -> Immediate
+        ensures told { result ≡ told_answer (held (private self.now) id) (KGet (plain key.now)) }
+        ensures private { Becomes (private self.now) id (KGet (plain key.now)) (private self.now) };
+
+    /// Gives an element of a list that is private here an immediate value, where the list has the element and it fits where it stands. Else
+    /// nothing is done.
+    fn put_immediate(&mut self, id: Id, index: i64, value: Immediate) -> bool
+        ensures there { result ≡ true → is_some (held (private self.old) id) ≡ true }
+        ensures gives { result ≡ true → IfSome (value_told value) (λ v. Gives (private self.old) id (Put index v) answer.Done) }
+        ensures private { result ≡ true → IfSome (value_told value) (λ v. Becomes (private self.old) id (Put index v) (private self.new)) }
+        ensures told { result ≡ true → is_some (value_told value) ≡ true }
+        ensures kept { result ≡ false → private self.new ≡ private self.old }
+        ensures log { log self.new ≡ log self.old };
 
     /// Does what is asked of a thing that is private here.
     fn apply(&mut self, id: Id, act: Act) -> Result<Reply, AllocError>

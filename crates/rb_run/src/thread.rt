@@ -2,14 +2,16 @@
 
 ghost use Rattle.std.specs.Prelude.{◌≡◌, is_some, IsSome, IfSome, IfOk, OnOk, OnErr, true, false};
 ghost use Rattle.rb_model.specs.Values.{plain};
-ghost use Rattle.rb_model.specs.Acts.{At};
+ghost use Rattle.rb_model.specs.Acts.{At, KGet, Put};
 ghost use Rattle.rb_model.specs.Acts as answer;
 ghost use Rattle.rb_model.specs.Doing.{doing, said, made, sort_of};
+ghost use Rattle.rb_model.specs.Immediates.{list_answered, reference, told_answer, value_told};
+ghost use Rattle.std.specs.Option.{option_map};
 ghost use Rattle.rb_model.specs.Private.{Gives, Becomes, held, entered, next_id};
 ghost use Rattle.rb_model.specs.Log.{Answers, is_sure, has_end, asked};
 
 use local_heap::LocalHeap;
-use rb_model::{Act, Answer, Call, Id, Make, OneStore, Ref, Reply, ThreadStore, Value};
+use rb_model::{Act, Answer, Call, Id, Immediate, Make, OneStore, Ref, Reply, ThreadStore, Value};
 use shape_tree::ShapeStore;
 use std::alloc::AllocError;
 
@@ -62,6 +64,42 @@ impl<O: OneStore, S: ShapeStore> ThreadStore for MainThread<O, S> {
             Ok(found) => found,
             Err(_) => None,
         }
+    }
+
+    #[inline(always)]
+    fn immediate_element(&self, id: Id, index: i64) -> Immediate
+        ensures told { result ≡ told_answer (held self.now.things id) (At index) }
+        ensures private { Becomes self.now.things id (At index) self.now.things }
+    {
+        self.things.immediate_element(id, index)
+    }
+
+    #[inline(always)]
+    fn list_element(&self, id: Id, index: i64) -> Option<Ref>
+        ensures list { option_map reference result ≡ list_answered (held self.now.things id) (At index) }
+        ensures private { Becomes self.now.things id (At index) self.now.things }
+    {
+        self.things.list_element(id, index)
+    }
+
+    #[inline(always)]
+    fn immediate_value(&self, id: Id, key: &Value) -> Immediate
+        ensures told { result ≡ told_answer (held self.now.things id) (KGet (plain key.now)) }
+        ensures private { Becomes self.now.things id (KGet (plain key.now)) self.now.things }
+    {
+        self.things.immediate_value(id, key)
+    }
+
+    #[inline(always)]
+    fn put_immediate(&mut self, id: Id, index: i64, value: Immediate) -> bool
+        ensures there { result ≡ true → is_some (held self.old.things id) ≡ true }
+        ensures gives { result ≡ true → IfSome (value_told value) (λ v. Gives self.old.things id (Put index v) answer.Done) }
+        ensures private { result ≡ true → IfSome (value_told value) (λ v. Becomes self.old.things id (Put index v) self.new.things) }
+        ensures told { result ≡ true → is_some (value_told value) ≡ true }
+        ensures kept { result ≡ false → self.new.things ≡ self.old.things }
+        ensures log { O.log self.new.calls ≡ O.log self.old.calls }
+    {
+        self.things.put_immediate(id, index, value)
     }
 
     #[inline(always)]

@@ -69,6 +69,7 @@ pub fn to_any_word(value: Any) -> u64
 }
 
 /// The value whose general word this is, if there is one.
+#[inline(always)]
 pub fn from_any_word(word: u64) -> Option<Any>
     ensures found { IfSome result (λ v. Fits v × (word_of v ≡ word)) }
     ensures none { IfNone result ((v : Any) → Fits v → word_of v ≢ word) }
@@ -94,6 +95,7 @@ fn tagged(tag: u64, payload: u64) -> u64
 }
 
 // The value with this payload under the tag of nil and the truth values.
+#[inline(always)]
 fn fixed(payload: u64) -> Option<Any>
     ensures found { IfSome result (λ v. word_of v ≡ tagged_word 0 payload) }
     ensures none { IfNone result (2 < payload) }

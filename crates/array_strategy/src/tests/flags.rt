@@ -1,6 +1,6 @@
 // Arrays of flags by example.
 
-use super::Value::{False, Int, Nil, Scarce, True};
+use super::Value::{False, Int, Nil, Scarce, Text, True};
 use super::{Value, array_of, items_of, seen_at};
 use crate::{LocalArray, Peeked, PutFault, Strategy};
 use std::test::Fail;
@@ -153,5 +153,16 @@ fn flags_are_held_themselves_for_good_once_another_item_came(rt: HostRuntime) ->
     filled.clear();
     filled.push(Int(1))?;
     assert_eq!(rt; filled.strategy(), Strategy::Ints);
+    Ok(())
+}
+
+#[test]
+fn a_flag_so_many_times_is_held_in_a_byte_each(rt: HostRuntime) -> Result<(), Fail> {
+    for count in [1, 2, 5] {
+        for (item, is_flag) in [(Nil, true), (True, true), (Int(1), false), (Text, false)] {
+            let array = LocalArray::filled(rt.alloc(), count, item)?;
+            assert_eq!(rt; begins_with_flag(&array), is_flag, "{count}");
+        }
+    }
     Ok(())
 }

@@ -54,6 +54,18 @@ impl<S: ShapeStore> LocalHeap<S> {
         self.enter(Cell::List(list), Sort::List)
     }
 
+    /// Makes a list of so many times a value.
+    #[tactic(auto, using(crate::proofs::Listing::plain_repeated))]
+    pub(super) fn make_filled(&mut self, count: usize, value: Value) -> Result<Ref, AllocError>
+        ensures id { IfOk result (λ thing. thing.id ≡ next_id self.old) }
+        ensures sort { IfOk result (λ thing. thing.sort ≡ Sort.List) }
+        ensures private { OnOk result (self.new ≡ entered self.old (made (Make.Filled count value))) }
+        ensures err { OnErr result (self.new ≡ self.old) }
+    {
+        let list = list::filled(self.alloc, count, value)?;
+        self.enter(Cell::List(list), Sort::List)
+    }
+
     /// Makes a hash of these pairs.
     pub(super) fn make_pairs(&mut self, given: Vec<(Value, Value)>) -> Result<Ref, AllocError>
         ensures id { IfOk result (λ thing. thing.id ≡ next_id self.old) }

@@ -1,16 +1,17 @@
-// Reads of lists and hashes that look up nothing but the thing.
+// Reads of lists and hashes, and a write, that look up nothing but the thing.
 
-ghost use Rattle.std.specs.Prelude.{◌≡◌, is_some, pos, IfSome, IfOk, OnErr};
+ghost use Rattle.std.specs.Prelude.{◌≡◌, is_some, pos, true, false, IfSome, IfOk, OnErr};
 ghost use Rattle.rb_model.specs.Values.{Int, plain};
-ghost use Rattle.rb_model.specs.Acts.{At, Len};
+ghost use Rattle.rb_model.specs.Acts.{At, KGet, Len, Put};
 ghost use Rattle.rb_model.specs.Acts as answer;
-ghost use Rattle.rb_model.specs.Immediates.{told_answer};
+ghost use Rattle.rb_model.specs.Immediates.{list_answered, reference, told_answer, value_told};
+ghost use Rattle.std.specs.Option.{option_map};
 ghost use Rattle.rb_model.specs.Private.{Becomes, Gives, held};
 ghost use Rattle.local_heap.specs.Memory.{MayWant};
 ghost use Rattle.local_heap.specs.Contents.{has_length, is_list};
 
 use super::LocalHeap;
-use rb_model::{Id, Immediate, Value};
+use rb_model::{Id, Immediate, Ref, Value};
 use shape_core::ShapeStore;
 use std::alloc::AllocError;
 
@@ -39,6 +40,50 @@ impl<S: ShapeStore> LocalHeap<S> {
             Some(cell) => cell.immediate(index),
             None => Immediate::Other,
         }
+    }
+
+    /// The list that the element at an index is, of a list that is private here.
+    #[inline(always)]
+    pub fn list_element(&self, id: Id, index: i64) -> Option<Ref>
+        ensures list { option_map reference result ≡ list_answered (held self.now id) (At index) }
+        ensures private { Becomes self.now id (At index) self.now }
+    {
+        match self.cells.cell(id) {
+            Some(cell) => cell.list_element(index),
+            None => None,
+        }
+    }
+
+    /// The value of a key of a hash that is private here, told where it is an immediate value. Nothing is copied or shared.
+    #[inline(always)]
+    pub fn immediate_value(&self, id: Id, key: &Value) -> Immediate
+        ensures told { result ≡ told_answer (held self.now id) (KGet (plain key.now)) }
+        ensures private { Becomes self.now id (KGet (plain key.now)) self.now }
+    {
+        match self.cells.cell(id) {
+            Some(cell) => cell.immediate_value(key),
+            None => Immediate::Other,
+        }
+    }
+
+    /// Gives an element of a list that is private here an immediate value, where the list has the element and it fits where it stands. Else
+    /// nothing is done. Nothing is allocated or copied.
+    #[inline(always)]
+    pub fn put_immediate(&mut self, id: Id, index: i64, value: Immediate) -> bool
+        ensures there { result ≡ true → is_some (held self.old id) ≡ true }
+        ensures gives { result ≡ true → IfSome (value_told value) (λ v. Gives self.old id (Put index v) answer.Done) }
+        ensures private { result ≡ true → IfSome (value_told value) (λ v. Becomes self.old id (Put index v) self.new) }
+        ensures told { result ≡ true → is_some (value_told value) ≡ true }
+        ensures kept { result ≡ false → self.new ≡ self.old }
+    {
+        if id.thread != self.cells.thread {
+            return false;
+        }
+        let at = id.serial as usize;
+        if at >= self.cells.items.len() {
+            return false;
+        }
+        self.cells.items[at].put_immediate(index, value)
     }
 
     /// How many elements a list has, or how many pairs a hash, that is private here; `None` where the id is of no such thing.

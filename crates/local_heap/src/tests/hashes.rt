@@ -8,7 +8,7 @@ use Deed::{
     Unshift,
 };
 use Row::{False, Int, Nil, Sym, Text, True};
-use rb_model::{Fault, Make, Ref, Sort, Thing};
+use rb_model::{Fault, Id, Immediate, Make, Ref, Sort, Thing, Value};
 use std::alloc::{AllocError, Global};
 use std::test::Fail;
 
@@ -92,6 +92,46 @@ const NOT_OF_HASHES: [(Deed, Answer); 9] = [
 #[test]
 fn a_hash_has_no_method_of_a_list(rt: HostRuntime) -> Result<(), Fail> {
     assert_eq!(rt; first_wrong_of_hash(rt.alloc(), &NOT_OF_HASHES)?, None);
+    Ok(())
+}
+
+/// Pairs with a value of each kind, and how the values of keys are told.
+const KINDS: [(Row, Row); 5] = [
+    (Text("a"), Int(2)),
+    (Sym(4), Text("s")),
+    (Int(5), Nil),
+    (Nil, True),
+    (True, False),
+];
+
+const TOLD: [(Row, Immediate); 7] = [
+    (Text("a"), Immediate::Int(2)),
+    (Sym(4), Immediate::Other),
+    (Int(5), Immediate::Nil),
+    (Nil, Immediate::True),
+    (True, Immediate::False),
+    (Int(6), Immediate::Nil),
+    (Text("b"), Immediate::Nil),
+];
+
+#[test]
+fn an_immediate_value_is_told_and_no_other(rt: HostRuntime) -> Result<(), Fail> {
+    let alloc = rt.alloc();
+    let mut heap = new_heap(alloc)?;
+    let hash = new_hash(&mut heap, alloc, &KINDS)?;
+    for (key, told) in TOLD {
+        let key = value(alloc, key)?;
+        assert_eq!(rt; heap.immediate_value(hash.id, &key), told);
+    }
+    let list = heap.make(Make::Elements(Vec::new(alloc)))?;
+    let object = heap.make(Make::Object(7))?;
+    let of_another = Id {
+        thread: 4,
+        serial: hash.id.serial,
+    };
+    for id in [list.id, object.id, of_another] {
+        assert_eq!(rt; heap.immediate_value(id, &Value::Nil), Immediate::Other);
+    }
     Ok(())
 }
 

@@ -2,13 +2,13 @@
 
 use super::deeds::{Answer, Deed, act, answers, first_wrong, shown};
 use super::{Heap, Row, is, new_heap, value};
-use crate::list::{apply, made};
+use crate::list::{apply, filled};
 use Answer::{All, Done, Fails, Gives};
 use Deed::{
     At, Clear, Copy, DeleteAt, Get, KDelete, KGet, KHas, KPut, Len, Pop, Push, Put, Set, Shift,
     Unshift,
 };
-use Row::{False, Int, Nil, Text, True};
+use Row::{False, Int, Nil, Sym, Text, True};
 use rb_model::{Fault, Id, Immediate, Make, Ref, Sort, Thing, Value};
 use std::alloc::{AllocError, Global};
 use std::test::Fail;
@@ -20,6 +20,15 @@ fn new_list(heap: &mut Heap, alloc: Global, last: i64) -> Result<Ref, AllocError
         values.push(Value::Int(n))?;
     }
     heap.make(Make::Elements(values))
+}
+
+/// The values of rows.
+fn values_of(alloc: Global, rows: &[Row]) -> Result<Vec<Value>, AllocError> {
+    let mut values = Vec::new(alloc);
+    for row in rows {
+        values.push(value(alloc, *row)?)?;
+    }
+    Ok(values)
 }
 
 /// The number of the first row that a list of 1, 2 and 3 does not answer.
@@ -262,6 +271,185 @@ fn an_element_among_truth_values_is_told(rt: HostRuntime) -> Result<(), Fail> {
     Ok(())
 }
 
+/// Writes to lists: the elements, the index, the value, whether it is done, and the elements behind it.
+const WRITES: [(&[Row], i64, Immediate, bool, &str); 20] = [
+    (
+        &[Int(1), Int(2), Int(3)],
+        0,
+        Immediate::Int(i64::MIN),
+        true,
+        "-9223372036854775808 2 3",
+    ),
+    (
+        &[Int(1), Int(2), Int(3)],
+        -1,
+        Immediate::Int(9),
+        true,
+        "1 2 9",
+    ),
+    (
+        &[Int(1), Int(2), Int(3)],
+        -3,
+        Immediate::Int(9),
+        true,
+        "9 2 3",
+    ),
+    (
+        &[Int(1), Int(2), Int(3)],
+        3,
+        Immediate::Int(9),
+        false,
+        "1 2 3",
+    ),
+    (
+        &[Int(1), Int(2), Int(3)],
+        -4,
+        Immediate::Int(9),
+        false,
+        "1 2 3",
+    ),
+    (
+        &[Int(1), Int(2), Int(3)],
+        i64::MIN,
+        Immediate::Int(9),
+        false,
+        "1 2 3",
+    ),
+    (
+        &[Int(1), Int(2), Int(3)],
+        i64::MAX,
+        Immediate::Int(9),
+        false,
+        "1 2 3",
+    ),
+    (&[Int(1), Int(2), Int(3)], 1, Immediate::Nil, false, "1 2 3"),
+    (
+        &[Int(1), Int(2), Int(3)],
+        1,
+        Immediate::Other,
+        false,
+        "1 2 3",
+    ),
+    (
+        &[True, Nil, False],
+        0,
+        Immediate::Nil,
+        true,
+        "nil nil false",
+    ),
+    (
+        &[True, Nil, False],
+        1,
+        Immediate::False,
+        true,
+        "true false false",
+    ),
+    (
+        &[True, Nil, False],
+        -1,
+        Immediate::True,
+        true,
+        "true nil true",
+    ),
+    (
+        &[True, Nil, False],
+        3,
+        Immediate::True,
+        false,
+        "true nil false",
+    ),
+    (
+        &[True, Nil, False],
+        0,
+        Immediate::Int(1),
+        false,
+        "true nil false",
+    ),
+    (
+        &[True, Nil, False],
+        0,
+        Immediate::Other,
+        false,
+        "true nil false",
+    ),
+    (
+        &[Text("a"), Int(2), Nil],
+        0,
+        Immediate::Int(7),
+        true,
+        "7 2 nil",
+    ),
+    (
+        &[Text("a"), Int(2), Nil],
+        -3,
+        Immediate::True,
+        true,
+        "true 2 nil",
+    ),
+    (
+        &[Text("a"), Int(2), Nil],
+        3,
+        Immediate::Nil,
+        false,
+        "a 2 nil",
+    ),
+    (
+        &[Text("a"), Int(2), Nil],
+        1,
+        Immediate::Other,
+        false,
+        "a 2 nil",
+    ),
+    (&[], 0, Immediate::Nil, false, ""),
+];
+
+#[test]
+fn an_immediate_value_is_written_where_it_fits(rt: HostRuntime) -> Result<(), Fail> {
+    let alloc = rt.alloc();
+    for (rows, index, value, done, left) in WRITES {
+        let mut heap = new_heap(alloc)?;
+        let list = heap.make(Make::Elements(values_of(alloc, rows)?))?;
+        assert_eq!(rt; heap.put_immediate(list.id, index, value), done, "{index}");
+        assert_eq!(rt;
+            first_wrong(&mut heap, alloc, list.id, &[(Copy, All(left))])?,
+            None,
+            "{index}"
+        );
+    }
+    Ok(())
+}
+
+#[test]
+fn an_immediate_value_is_written_to_lists_of_this_thread_alone(
+    rt: HostRuntime,
+) -> Result<(), Fail> {
+    let alloc = rt.alloc();
+    let mut heap = new_heap(alloc)?;
+    let list = new_list(&mut heap, alloc, 2)?;
+    let object = heap.make(Make::Object(7))?;
+    let hash = heap.make(Make::Pairs(Vec::new(alloc)))?;
+    let none = Id {
+        thread: 3,
+        serial: 0,
+    };
+    let unheld = Id {
+        thread: 3,
+        serial: 9,
+    };
+    let of_another = Id {
+        thread: 4,
+        serial: list.id.serial,
+    };
+    for id in [object.id, hash.id, none, unheld, of_another] {
+        assert!(rt; !heap.put_immediate(id, 0, Immediate::Int(5)));
+    }
+    assert_eq!(rt;
+        first_wrong(&mut heap, alloc, list.id, &[(Copy, All("1 2"))])?,
+        None
+    );
+    Ok(())
+}
+
 #[test]
 fn a_list_is_told_with_its_elements(rt: HostRuntime) -> Result<(), Fail> {
     let alloc = rt.alloc();
@@ -274,6 +462,43 @@ fn a_list_is_told_with_its_elements(rt: HostRuntime) -> Result<(), Fail> {
         Thing::Elements(found) => assert_eq!(rt; shown(alloc, &found)?.as_str(), "1 2 3 4"),
         _ => assert!(rt; false),
     }
+    Ok(())
+}
+
+/// How often a value is put into a new list, and the elements that it then has.
+const FILLED: [(usize, Row, &str); 8] = [
+    (0, Int(7), ""),
+    (1, Int(7), "7"),
+    (3, Int(7), "7 7 7"),
+    (4, Nil, "nil nil nil nil"),
+    (2, True, "true true"),
+    (1, Text("a"), "a"),
+    (3, Text("a"), "a a a"),
+    (2, Sym(2), ":2 :2"),
+];
+
+#[test]
+fn a_list_is_filled_with_one_value(rt: HostRuntime) -> Result<(), Fail> {
+    let alloc = rt.alloc();
+    let mut heap = new_heap(alloc)?;
+    for (count, row, text) in FILLED {
+        let list = heap.make(Make::Filled(count, value(alloc, row)?))?;
+        assert!(rt; list.sort == Sort::List);
+        // Each element is one of its own: a put changes no other.
+        let table = [
+            (Copy, All(text)),
+            (Len, Gives(Int(count as i64))),
+            (Push(row), Done),
+            (Put(0, False), Done),
+            (At(-1), Gives(if count == 0 { False } else { row })),
+        ];
+        assert_eq!(rt;
+            first_wrong(&mut heap, alloc, list.id, &table)?,
+            None,
+            "{text}"
+        );
+    }
+    assert!(rt; heap.make(Make::Filled(16_777_217, Value::Nil)).is_err());
     Ok(())
 }
 
@@ -291,9 +516,7 @@ const FULL: [(Deed, Answer); 8] = [
 #[test]
 fn a_list_has_so_many_elements_and_no_more(rt: HostRuntime) -> Result<(), Fail> {
     let alloc = rt.alloc();
-    let mut list = made(alloc, Vec::new(alloc))?;
-    // The first of the integers are filled in, which is quicker than to push each.
-    assert!(rt; list.put(16_777_215, Value::Int(7), Value::Int(0)).is_ok());
+    let mut list = filled(alloc, 16_777_216, Value::Int(0))?;
     for (deed, answer) in FULL {
         let reply = apply(&mut list, act(alloc, deed)?)?;
         assert!(rt; answers(alloc, &reply, answer)?);
