@@ -81,7 +81,7 @@ impl CodeScript {
     }
 
     /// The method that a name finds in a class. Few classes have a method of one name, so they are looked through.
-    #[inline]
+    #[inline(always)]
     pub fn method_of(&self, name: NameId, class: u32) -> Option<&CodeMethod>
         ensures { option_copied result ≡ spec.method_by self.now name class }
     {

@@ -38,6 +38,7 @@ use Rattle.rb_interp.proofs.Outcomes.{passes}
 sorts_are : (m : Make) → follows.sort_of (made m) ≡ doing.sort_of m
 sorts_are (make.Object class) = refl
 sorts_are (make.Elements values) = refl
+sorts_are (make.Filled count value) = refl
 sorts_are (make.Pairs pairs) = refl
 
 next_is : (thing : Ref) (m : Make) (h : Private) → thing.id ≡ next_id h → thing.sort ≡ doing.sort_of m → To (next_thing h (made m)) ≡ To (thing_of thing)

@@ -2,8 +2,9 @@
 use Rattle.std.proofs.Common.{◌≡◌, ℕ, zero, suc, ◌+◌, ◌-◌, ◌<◌, ◌≤◌, Bool, true, false, List, [], ◌∷◌, ◌++◌, length, map, drop, take, get_or, Option, Some, None, refl, sym, ap, ◌∙◌, add-one, arith}
 use Rattle.std.proofs.Math.Seq.{drop-cons}
 use Rattle.std.proofs.lemmas.Bool.Decides.{nat_tests}
-use Rattle.std.specs.Prelude.{◌&&◌, slice_get, slice_set, nat_le, ◌==◌}
+use Rattle.std.specs.Prelude.{◌&&◌, slice_index_or, slice_get, slice_set, nat_le, ◌==◌}
 use Rattle.std.specs.Option.{option_map}
+use Rattle.std.specs.List.{IsLastAndRest}
 use Rattle.rb_machine.specs.Call.{last_value}
 use Rattle.rb_machine.specs.Scopes.{Script}
 use Rattle.rb_model.specs.declared.value.Value.{Value as Held}
@@ -163,3 +164,34 @@ last_is S (w ∷ []) v e = let f : w ≡ v = cc in ap plain (sym f)
 last_is S (w ∷ x ∷ vs) v e =
     let f : length (w ∷ x ∷ vs) - 1 ≡ suc (length (x ∷ vs) - 1) = omega arith in
     last_is S (x ∷ vs) v (rw f at e)
+
+pub no_items : {A : Type 0} (xs : List A) → length xs ≡ 0 → xs ≡ []
+no_items [] h = refl
+no_items (x ∷ xs) h = absurd (cc)
+
+-- an item of a list with one more behind it
+in_more : {A : Type 0} (before : List A) (last x : A) (i : ℕ) → i < length before → x ≡ get_or before i x → x ≡ get_or (before ++ last ∷ []) i x
+in_more [] last x i h e = absurd (omega (arith, h))
+in_more (y ∷ ys) last x zero h e = e
+in_more (y ∷ ys) last x (suc i) h e = in_more ys last x i (omega (arith, h)) e
+
+last_of_more : {A : Type 0} (before : List A) (last : A) → last ≡ get_or (before ++ last ∷ []) (length before) last
+last_of_more [] last = refl
+last_of_more (y ∷ ys) last = last_of_more ys last
+
+-- the same where a list is split so
+pub in_front : {A : Type 0} (before : List A) (last x : A) (i : ℕ) {xs : List A} → IsLastAndRest xs last before → i < length before → x ≡ get_or before i x → (i < length xs) × (x ≡ get_or xs i x)
+in_front before last x i split h e = (omega (arith, split.1, h), rw split.0 (in_more before last x i h e))
+
+pub at_end : {A : Type 0} (before : List A) (last : A) {xs : List A} → IsLastAndRest xs last before → (length before < length xs) × (last ≡ get_or xs (length before) last)
+at_end before last split = (omega (arith, split.1), rw split.0 (last_of_more before last))
+
+pub none_behind : {A : Type 0} (before : List A) (last : A) {xs : List A} → IsLastAndRest xs last before → length xs ≤ length before + 1
+none_behind before last split = omega (arith, split.1)
+
+-- a list of two is its first and its second
+pub two_items : {A : Type 0} (xs ys : List A) (a b : A) → ys ≡ xs → 2 ≤ length ys → length ys < 3 → a ≡ slice_index_or ys 0 a → b ≡ slice_index_or ys 1 b → xs ≡ a ∷ b ∷ []
+two_items xs [] a b e p q f g = absurd (omega (arith, p))
+two_items xs (x ∷ []) a b e p q f g = absurd (omega (arith, p))
+two_items xs (x ∷ y ∷ []) a b e p q f g = sym e ∙ (ap (λ z. z ∷ y ∷ []) (sym f) ∙ ap (λ z. a ∷ z ∷ []) (sym g))
+two_items xs (x ∷ y ∷ z ∷ zs) a b e p q f g = absurd (omega (arith, q))

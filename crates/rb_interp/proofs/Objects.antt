@@ -44,13 +44,17 @@ there_is (Some x) h = (x, refl)
 
 module _ (S : Script) (N : ℕ) (start : State) where
   -- a private thing answers, and becomes what the act makes of it
-  pub asked : (l : Log) (h h' : Private) (r : Reference) (act : Act) (a : Answered) (at : Span) (k : List Cont) (sc : Scope) (d n : ℕ) → is_some (held h r.id) ≡ true → Gives h r.id act (said a) → Becomes h r.id act h'
-      → At S 0 N start l h (ask r act at k sc d n) → At S 0 N start l h' (answered (said a) at k sc d n)
-  asked l h h' r act a at k sc d n there gave become come =
+  pub asked_reply : (l : Log) (h h' : Private) (r : Reference) (act : Act) (y : Reply) (at : Span) (k : List Cont) (sc : Scope) (d n : ℕ) → is_some (held h r.id) ≡ true → Gives h r.id act y → Becomes h r.id act h'
+      → At S 0 N start l h (ask r act at k sc d n) → At S 0 N start l h' (answered y at k sc d n)
+  asked_reply l h h' r act y at k sc d n there gave become come =
       let x = there_is (held h r.id) there in
       let b = acts l h (ask r act at k sc d n) r act x.0 come refl x.1 in
-      subst (λ y. At S 0 N start l h' (answered y at k sc d n)) (sym (gave x.0 x.1))
-      (subst (λ y. At S 0 N start l y (answered (gives x.0 act) at k sc d n)) (sym (become x.0 x.1)) b)
+      subst (λ z. At S 0 N start l h' (answered z at k sc d n)) (sym (gave x.0 x.1))
+      (subst (λ z. At S 0 N start l z (answered (gives x.0 act) at k sc d n)) (sym (become x.0 x.1)) b)
+
+  pub asked : (l : Log) (h h' : Private) (r : Reference) (act : Act) (a : Answered) (at : Span) (k : List Cont) (sc : Scope) (d n : ℕ) → is_some (held h r.id) ≡ true → Gives h r.id act (said a) → Becomes h r.id act h'
+      → At S 0 N start l h (ask r act at k sc d n) → At S 0 N start l h' (answered (said a) at k sc d n)
+  asked l h h' r act a at k sc d n there gave become come = asked_reply l h h' r act (said a) at k sc d n there gave become come
 
 module _ (S : Script) (N : ℕ) (start : State) (h : Private) where
   -- a step that gives its value to an instance variable asks the object of `self`

@@ -9,7 +9,7 @@ use Rattle.rb_model.specs.Ends as ending
 use Rattle.rb_model.specs.Log.{Log}
 use Rattle.rb_model.specs.Private.{Private}
 use Rattle.rb_machine.specs.Scopes.{Script, Scope, fresh, with_locals}
-use Rattle.rb_machine.specs.Control.{State, On, Cont, Then, Test, Again, Turn, Frame, Give, Following, Looping, Turning, Break, Next, Return, Turns, Counting, Step}
+use Rattle.rb_machine.specs.Control.{State, On, Cont, Then, Test, Again, Turn, Frame, Give, Following, Looping, Turning, Break, Next, Return, Turns, Counting, Step, Rest}
 use Rattle.rb_machine.specs.Call.{ended}
 use Rattle.rb_machine.specs.Give.{back}
 use Rattle.rb_machine.specs.Turns.{turned, start_turn}
@@ -49,6 +49,15 @@ gone came.False v l h = absurd (cc)
 gone came.True v l h = absurd (cc)
 gone (came.Int n) v l h = absurd (cc)
 gone came.Other v l h = absurd (cc)
+
+-- what does not go on was left
+pub stopped_left : (c : Registers) (v : Held) (l : Leave) → goes_on (outcome c v l) ≡ false → is_left c ≡ true
+stopped_left came.Left v l h = refl
+stopped_left came.Nil v l h = absurd (cc)
+stopped_left came.False v l h = absurd (cc)
+stopped_left came.True v l h = absurd (cc)
+stopped_left (came.Int n) v l h = absurd (cc)
+stopped_left came.Other v l h = absurd (cc)
 
 module _ {S : Script} {N : ℕ} {start : State} {h : Private} where
   -- where a value came, the machine gives it
@@ -91,6 +100,17 @@ module _ (S : Script) (N : ℕ) (start : State) (h : Private) where
   passes c v x l step k sc d n e a =
       comes l k sc d n _ _ (gone c v x e) (passes_by (left_by x v) l step k sc d n (not_given x v) (comes l (Then step ∷ k) sc d n _ _ (sym (gone c v x e)) a))
 
+  -- behind the last statement of a body
+  pub statements_end : (l : Log) (o : Outcome) (k : List Cont) (sc : Scope) (d n : ℕ) → Came S N start l h o (Then (Rest []) ∷ k) sc d n → Came S N start l h o k sc d n
+  statements_end l (Gave v) k sc d n a = on _ (on _ a refl) refl
+  statements_end l (Left e) k sc d n a = on _ a refl
+  statements_end l (Over (ending.Value v)) k sc d n a = a
+  statements_end l (Over (ending.Raised f at)) k sc d n a = a
+  statements_end l (Over ending.Steps) k sc d n a = a
+  statements_end l (Over (ending.Full p q)) k sc d n a = a
+  statements_end l (Over ending.Sink) k sc d n a = a
+  statements_end l (Over ending.Memory) k sc d n a = a
+
   -- behind the body of a loop, and behind its condition where it is left
   pub again : (o : Outcome) (l : Log) (c : Node) (b : List Node) (k : List Cont) (sc : Scope) (d n : ℕ) → goes_on o ≡ true → Came S N start l h o (Again c b ∷ k) sc d n → At S 0 N start l h (On (Looping c b) k sc d n)
   again (Gave v) l c b k sc d n e a = on _ a refl
@@ -98,6 +118,17 @@ module _ (S : Script) (N : ℕ) (start : State) (h : Private) where
   again (Left Break) l c b k sc d n e a = absurd (cc)
   again (Left (Return v)) l c b k sc d n e a = absurd (cc)
   again (Over x) l c b k sc d n e a = absurd (cc)
+
+  -- the same of a body whose value no one reads
+  pub again_unread : (r : Registers) (v : Held) (lv : Leave) (l : Log) (c : Node) (b : List Node) (k : List Cont) (sc : Scope) (d n : ℕ) → goes_on (outcome r v lv) ≡ true
+      → (is_left r ≡ true → Came S N start l h (outcome r v lv) (Again c b ∷ k) sc d n) → (is_left r ≡ false → (w : Val) × Came S N start l h (Gave w) (Again c b ∷ k) sc d n)
+      → At S 0 N start l h (On (Looping c b) k sc d n)
+  again_unread came.Left v lv l c b k sc d n e p q = again (outcome came.Left v lv) l c b k sc d n e (p refl)
+  again_unread came.Nil v lv l c b k sc d n e p q = let some = q refl in again (Gave some.0) l c b k sc d n refl some.1
+  again_unread came.False v lv l c b k sc d n e p q = let some = q refl in again (Gave some.0) l c b k sc d n refl some.1
+  again_unread came.True v lv l c b k sc d n e p q = let some = q refl in again (Gave some.0) l c b k sc d n refl some.1
+  again_unread (came.Int m) v lv l c b k sc d n e p q = let some = q refl in again (Gave some.0) l c b k sc d n refl some.1
+  again_unread came.Other v lv l c b k sc d n e p q = let some = q refl in again (Gave some.0) l c b k sc d n refl some.1
 
   pub again_out : (o : Outcome) (l : Log) (c : Node) (b : List Node) (k : List Cont) (sc : Scope) (d n : ℕ) → goes_on o ≡ false → Came S N start l h o (Again c b ∷ k) sc d n → Came S N start l h (loop_exit o) k sc d n
   again_out (Gave v) l c b k sc d n e a = absurd (cc)

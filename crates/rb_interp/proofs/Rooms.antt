@@ -1,7 +1,7 @@
 -- Scopes and the slots that hold them.
 use Rattle.std.proofs.Common.{◌≡◌, ℕ, zero, suc, ◌+◌, ◌<◌, ◌≤◌, Bool, true, false, List, [], ◌∷◌, ◌++◌, length, map, drop, take, get_or, Some, refl, sym, ap, ◌∙◌, subst, arith}
 use Rattle.std.proofs.lemmas.Bool.Decides.{nat_tests}
-use Rattle.std.specs.Prelude.{ℤ, slice_get, slice_set, nat_lt}
+use Rattle.std.specs.Prelude.{ℤ, ◌&&◌, slice_get, slice_set, nat_lt}
 use Rattle.rb_tree.specs.declared.span.NameId.{NameId}
 use Rattle.rb_model.specs.Values.{Value as Val, Nil, Int, plain}
 use Rattle.rb_model.specs.declared.value.Value.{Value as Held}
@@ -13,7 +13,7 @@ use Rattle.rb_code.specs.Resolved.{Fits, every, fits}
 use Rattle.rb_code.proofs.Slots.{bound_agrees, bound_append, bound_fresh, bound_length, bound_take, read_slot, write_slot, given as given_at}
 use Rattle.rb_interp.specs.Carries.{Lies}
 use Rattle.rb_interp.specs.Slots.{first_of_block}
-use Rattle.rb_interp.proofs.Lists.{fst, snd, next_item, len_map, get_map, set_map, take_map, get_set, get_drop, front}
+use Rattle.rb_interp.proofs.Lists.{fst, snd, two, next_item, len_map, get_map, set_map, take_map, get_set, get_drop, front}
 
 module _ (S : Script) where
   -- what is right for all is right for the rest, and for each
@@ -25,6 +25,10 @@ module _ (S : Script) where
   pub every_item : (cs : List Code) (i : ℕ) (x : Code) (names : List NameId) (size : ℕ) → i < length cs → x ≡ get_or cs i x → every (map (fits S) cs) names size ≡ true → fits S x names size ≡ true
   every_item cs i x names size l e h =
       fst _ _ (subst (λ (ds : List Code). every (map (fits S) ds) names size ≡ true) (next_item cs i x l e) (every_drop cs i names size h))
+
+-- two arguments
+pub args_fit : (S : Script) (a b : Code) (names : List NameId) (size : ℕ) → every (map (fits S) (a ∷ b ∷ [])) names size ≡ true → (fits S a names size && fits S b names size) ≡ true
+args_fit S a b names size h = two (fits S a names size) (fits S b names size) (fst _ _ h) (fst _ _ (snd (fits S a names size) _ h))
 
 -- code within code that lies so
 pub sub : {a : Fits} {names : List NameId} {size base end : ℕ} (b : Fits) → Lies a names size base end → b names size ≡ true → Lies b names size base end

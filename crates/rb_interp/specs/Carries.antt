@@ -62,6 +62,10 @@ Keeps script program code base room room' =
 abbrev pub both : (Script → Fits) → (Script → Fits) → Script → Fits
 both a b S names size = a S names size && b S names size
 
+-- What comes of a statement whose value no one reads: either it is left, or it gives some value.
+abbrev pub Unread : Registers → Outcome → (Outcome → Type 0) → Type 0
+Unread r o comes = (is_left r ≡ true → comes o) × (is_left r ≡ false → (v : Val) × comes (Gave v))
+
 -- whether a loop goes on behind its condition or its body
 abbrev pub goes_on : Outcome → Bool
 goes_on (Gave v) = true

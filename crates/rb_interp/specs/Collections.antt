@@ -13,7 +13,7 @@ use Rattle.rb_model.specs.Private.{Private}
 use Rattle.rb_machine.specs.Scopes.{Script, Scope}
 use Rattle.rb_machine.specs.Control.{State, Cont, On, Making, Reading, Drafting, Use, ForText, Draft, Coming, Between, OfValue, OfPair, Give, Then, Instead, Inspecting}
 use Rattle.rb_machine.specs.Methods.{Answer, deed}
-use Rattle.rb_model.specs.Acts.{Put}
+use Rattle.rb_model.specs.Acts.{KPut, Put}
 use Rattle.rb_machine.specs.Call.{ask, answered, new_array, new_hash, fill, pair_up, pairs_of, last_value, give_shown, write, value_of_p}
 use Rattle.rb_machine.specs.Move.{used}
 use Rattle.rb_machine.specs.Follows.{At}
@@ -146,6 +146,10 @@ InspectsOne N program v old new at depth left left' log own own' r o =
     → At S 0 N start log own (write S (Inspecting all) old (v ∷ vs) at k sc depth left)
     → (is_left r ≡ true → Came S N start log own' o k sc depth left')
     × (is_left r ≡ false → At S 0 N start log own' (write S (Inspecting all) new vs at k sc depth left'))
+
+-- a key of a hash gets a value, which is given on
+abbrev pub keeping : Reference → Val → Val → Span → Script → List Cont → Scope → ℕ → ℕ → State
+keeping hash key v at S k sc d left = ask hash (KPut key v) at (Then (Instead v) ∷ k) sc d left
 
 -- an element of an array gets a value, which is given on
 abbrev pub putting : Reference → ℤ → Val → Span → Script → List Cont → Scope → ℕ → ℕ → State

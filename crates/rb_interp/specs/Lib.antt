@@ -10,5 +10,6 @@ pub mod Slots
 pub mod Texts
 pub mod Lines
 pub mod Answers
+pub mod Elements
 pub mod Ending
 pub mod Questions

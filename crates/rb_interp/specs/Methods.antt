@@ -9,7 +9,7 @@ use Rattle.rb_model.specs.declared.value.Ref.{Ref}
 use Rattle.rb_model.specs.declared.value.Value.{Value as Held}
 use Rattle.rb_model.specs.Log.{Log}
 use Rattle.rb_model.specs.Private.{Private}
-use Rattle.rb_machine.specs.Scopes.{Script, text_of}
+use Rattle.rb_machine.specs.Scopes.{Script, Text, text_of}
 use Rattle.rb_machine.specs.Control.{State, Cont, Then, Instead, OfAttribute}
 use Rattle.rb_machine.specs.Call.{invoke, enter, texted, methods_of, last_value, write_place}
 use Rattle.rb_machine.specs.Follows.{At}
@@ -33,6 +33,10 @@ pub record IsTarget (script : CodeScript) (v : Val) (name : NameId) (object : Re
   pub me : v ≡ me_of (Some object)
   pub finds : (S : Script) → StandsFor script S → method_for S v name ≡ Some (erase_method m)
   pub right : (S : Script) → StandsFor script S → method_fits S m ≡ true
+
+-- no name finds a method for a value in any script
+abbrev pub HasNoMethods : Val → Type 0
+HasNoMethods v = (S : Script) (name : Text) → texted S name (methods_of S v) ≡ None
 
 -- a name finds no method for a value
 abbrev pub HasNone : CodeScript → Val → NameId → Type 0

@@ -1,6 +1,6 @@
 // Values that are gathered for new arrays and hashes.
 
-ghost use Rattle.std.specs.Prelude.{◌≡◌, ℕ, true, false, List, map, replicate, None, IfSome, IfOk, OnOk};
+ghost use Rattle.std.specs.Prelude.{◌≡◌, ℕ, true, false, List, map, None, IfSome, IfOk, OnOk};
 ghost use Rattle.rb_model.specs.Values.{Value as Val, To, plain};
 ghost use Rattle.rb_model.specs.Doing.{pair};
 ghost use Rattle.rb_machine.specs.Turns.{holding, walked};
@@ -48,17 +48,6 @@ pub(crate) fn copies(alloc: Global, values: &[Value]) -> Result<Vec<Value>, Allo
     Ok(copies)
 }
 
-/// So many times a value.
-pub(crate) fn filled(alloc: Global, count: usize, value: &Value) -> Result<Vec<Value>, AllocError>
-    ensures { IfOk result (λ values. map plain values.items ≡ replicate count (plain value.now)) }
-{
-    let mut values = Vec::with_capacity(alloc, count)?;
-    'values: for _ in 0..count {
-        values.push(value.share()?)?;
-    }
-    Ok(values)
-}
-
 /// Keys and values by turns, as pairs.
 pub(crate) fn pairs_in(alloc: Global, values: &[Value]) -> Result<Vec<(Value, Value)>, AllocError>
     ensures { IfOk result (λ pairs. map pair pairs.items ≡ paired_up (map plain values.now)) }
@@ -103,6 +92,7 @@ pub(crate) fn parts_of(
 }
 
 /// What a walk keeps of an element until its iteration is over: the element where it may be one of those that are selected.
+#[inline(always)]
 pub(crate) fn held(pass: Pass, element: &Value) -> Result<Value, AllocError>
     ensures { IfOk result (λ held. (made : List Val) (last : Val) → holding (plain element.now) (walking pass made last) ≡ walking pass made (plain held)) }
 {
@@ -113,6 +103,7 @@ pub(crate) fn held(pass: Pass, element: &Value) -> Result<Value, AllocError>
 }
 
 /// Puts to what a walk made so far what an iteration makes that gave this value: the value, or the element where that is true.
+#[inline(always)]
 pub(crate) fn gather(
     pass: Pass,
     made: &mut Vec<Value>,

@@ -1,7 +1,7 @@
 // Leaves, and operations on integers, which call nothing of the walk.
 
 ghost use Rattle.rb_tree.specs.declared.node.Program.{Program};
-ghost use Rattle.std.specs.Prelude.{◌≡◌, ℕ, List, [], ◌∷◌, length, map, slice_get, Some, None, IfSome, false};
+ghost use Rattle.std.specs.Prelude.{◌≡◌, ◌≤◌, ℕ, List, [], ◌∷◌, length, map, slice_get, Some, None, IfSome, false};
 ghost use Rattle.rb_tree.specs.declared.node.Node.{out-Node};
 ghost use Rattle.rb_tree.specs.Place.{place};
 ghost use Rattle.rb_model.specs.Values.{Int, Str, plain, truthy};
@@ -14,12 +14,12 @@ ghost use Rattle.rb_builtin.specs.declared.integer.IntegerAnswer.TheVariants as 
 ghost use Rattle.rb_builtin.specs.Deeds.{answer_by_number};
 ghost use Rattle.rb_builtin.specs.Integers as integers;
 ghost use Rattle.rb_code.specs.Erase.{erase};
-ghost use Rattle.rb_interp.specs.Answers.{IsHeld, IsHeldAlone, IsMade, IsSmall, IsQuick, IsTwice, IsUpdated, IsUpdatedOver, IsWritten, is_thing, method_of};
+ghost use Rattle.rb_interp.specs.Answers.{IsComputed, IsHeld, IsHeldAlone, IsMade, IsSmall, IsQuick, IsTwice, IsUpdated, IsUpdatedOver, IsWritten, is_thing, method_of, steps_of};
 
 use crate::slots::put;
 use rb_builtin::{Builtin, IntegerAnswer, integer_operation, is_operation};
 use rb_code::{Code, CodePiece};
-use rb_model::{SharedText, Value};
+use rb_model::{Ref, SharedText, Sort, Value};
 use rb_render::MAX_BYTES;
 use rb_tree::{AssignOp, Span};
 
@@ -121,6 +121,24 @@ pub(crate) fn local_at<'r>(code: &Code, room: &'r [Value]) -> Option<&'r Value>
     match code {
         Code::Local(slot, _, _) => slot_at(room, *slot),
         _ => None,
+    }
+}
+
+/// Whether a local has an object.
+#[inline(always)]
+pub(crate) fn is_object_at(code: &Code, room: &[Value]) -> bool {
+    match local_at(code, room) {
+        Some(Value::Ref(thing)) => is_object(*thing),
+        _ => false,
+    }
+}
+
+/// Whether a thing is an object.
+#[inline(always)]
+fn is_object(thing: Ref) -> bool {
+    match thing.sort {
+        Sort::Object(_) => true,
+        _ => false,
     }
 }
 
@@ -333,6 +351,8 @@ pub(crate) fn quick_twice(
     ensures { IfSome result (λ answer. IsTwice method left.now right.now room.now (integers.answer_of answer)) }
 {
     match left {
+        // An element is no operation on integers.
+        Code::Operate(Some(Builtin::Index), _, _, _, _) => None,
         Code::Operate(_, _, _, _, _) => match twice_apart(method, left, right, room) {
             IntegerAnswer::NoOperation => None,
             answer => Some(answer),
@@ -419,6 +439,36 @@ pub(crate) fn is_operate(code: &Code) -> bool {
     match code {
         Code::Operate(_, _, _, _, _) => true,
         _ => false,
+    }
+}
+
+/// Whether a node is a call with one argument whose receiver is one.
+#[inline(always)]
+pub(crate) fn is_deep(code: &Code) -> bool {
+    match code {
+        Code::Operate(_, _, receiver, _, _) => is_operate(receiver.get()),
+        _ => false,
+    }
+}
+
+/// How many steps an operand takes that is an operation over two leaves, and how many one that is a leaf.
+#[inline(always)]
+pub(crate) fn steps_of(is_over: bool) -> u64
+    ensures exact { result ≡ steps_of is_over }
+    ensures few { result ≤ 3 }
+{
+    if is_over { 3 } else { 1 }
+}
+
+/// The integer of an operand, taken for an operation over two leaves or for a leaf.
+#[inline(always)]
+pub(crate) fn computed(code: &Code, is_over: bool, room: &[Value]) -> Option<i64>
+    ensures { IfSome result (λ n. IsComputed (steps_of is_over) code.now room.now n) }
+{
+    if is_over {
+        made(code, room)
+    } else {
+        small(code, room)
     }
 }
 

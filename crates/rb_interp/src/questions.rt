@@ -1,9 +1,10 @@
 // What arrays and hashes are asked by the methods that scripts call most, found without a walk through the table of methods.
 
 ghost use Rattle.std.specs.Prelude.{◌≡◌, true, IfSome, Some, None, [], ◌∷◌, map};
-ghost use Rattle.rb_model.specs.Values.{Int, plain};
+ghost use Rattle.rb_model.specs.Values.{Value as Val, Int, To, plain};
 ghost use Rattle.rb_builtin.specs.Deeds.{thing_of, walk_answer, hash_answer, thing_answer};
-ghost use Rattle.rb_interp.specs.Questions.{IsAskedBy, IsElement, IsPut, answer_by};
+ghost use Rattle.rb_model.specs.Acts.{KGet};
+ghost use Rattle.rb_interp.specs.Questions.{IsAskedBy, IsAsking, IsElement, IsKeyPut, IsPut, answer_by};
 
 use crate::gathering::is_collection;
 use rb_builtin::{Behind, Builtin};
@@ -115,6 +116,59 @@ pub(crate) fn is_element(thing: Ref, method: Option<Builtin>) -> bool
     match (thing.sort, method) {
         (Sort::List, Some(Builtin::Index)) => true,
         _ => false,
+    }
+}
+
+/// The index of the element that a method with this argument asks an array for.
+#[inline(always)]
+pub(crate) fn index_for(thing: Ref, method: Option<Builtin>, arg: &Value) -> Option<i64>
+    ensures index { IfSome result (λ index. plain arg.now ≡ Int index) }
+    ensures asked { IfSome result (λ index. IsElement thing method) }
+{
+    let Value::Int(index) = arg else {
+        return None;
+    };
+    if is_element(thing, method) {
+        Some(*index)
+    } else {
+        None
+    }
+}
+
+/// Whether a method asks a hash for the value of a key.
+#[inline(always)]
+pub(crate) fn is_value(thing: Ref, method: Option<Builtin>, key: &Value) -> bool
+    ensures { result ≡ true → IsAsking thing method (plain key.now) (KGet (plain key.now)) }
+{
+    match (thing.sort, method) {
+        (Sort::Pairs, Some(Builtin::Index)) => !is_collection(key),
+        _ => false,
+    }
+}
+
+/// Whether a method gives a key of a hash a value.
+#[inline(always)]
+pub(crate) fn is_key_put(thing: Ref, method: Option<Builtin>, key: &Value) -> bool
+    ensures { result ≡ true → IsKeyPut thing method (plain key.now) }
+{
+    match (thing.sort, method) {
+        (Sort::Pairs, Some(Builtin::SetIndex)) => !is_collection(key),
+        _ => false,
+    }
+}
+
+/// The index of the element of an array that an assignment by a method gives a value.
+#[inline(always)]
+pub(crate) fn place_for(thing: Ref, method: Option<Builtin>, index: &Value) -> Option<i64>
+    ensures index { IfSome result (λ place. plain index.now ≡ Int place) }
+    ensures asked { IfSome result (λ place. (value : Val) → IsPut (To (thing_of thing)) method thing place value) }
+{
+    let Value::Int(place) = index else {
+        return None;
+    };
+    match (thing.sort, method) {
+        (Sort::List, Some(Builtin::SetIndex)) => Some(*place),
+        _ => None,
     }
 }
 

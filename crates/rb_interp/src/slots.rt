@@ -12,6 +12,7 @@ use rb_model::Value;
 use std::alloc::AllocError;
 
 /// Sets slots to nil.
+#[inline(always)]
 pub(crate) fn clear(room: &mut [Value], from: usize, to: usize)
     requires { to ≤ length room.old }
     ensures room { length room.new ≡ length room.old }
@@ -51,6 +52,7 @@ pub(crate) fn start_block(room: &mut [Value], from: usize, count: usize, takes: 
 }
 
 /// The slots of a block at the start of an iteration: the first have these two values, where the block takes so many, the others nil.
+#[inline(always)]
 pub(crate) fn open_block(
     room: &mut [Value],
     from: usize,

@@ -2,7 +2,7 @@
 
 ghost use Rattle.std.specs.Prelude.{◌≡◌, IfSome, Some, None};
 ghost use Rattle.rb_model.specs.Values.{plain};
-ghost use Rattle.rb_interp.specs.Methods.{IsTarget, HasNone, IsWriter, HasNoWriter};
+ghost use Rattle.rb_interp.specs.Methods.{IsTarget, HasNone, HasNoMethods, IsWriter, HasNoWriter};
 ghost use Rattle.rb_interp.specs.Readers.{Reads, IsReader};
 ghost use Rattle.rb_interp.specs.Answers.{IsHeld};
 ghost use Rattle.rb_interp.specs.Carries.{me_of};
@@ -62,6 +62,7 @@ pub(crate) fn local_target<'p>(
 pub(crate) fn local_collection(code: &Code, room: &[Value]) -> Option<Ref>
     ensures held { IfSome result (λ thing. IsHeld code.now room.now (me_of (Some thing))) }
     ensures alone { IfSome result (λ thing. (script : CodeScript) (name : NameId) → HasNone script (me_of (Some thing)) name) }
+    ensures unnamed { IfSome result (λ thing. HasNoMethods (me_of (Some thing))) }
 {
     let Value::Ref(thing) = local_at(code, room)? else {
         return None;

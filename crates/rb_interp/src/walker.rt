@@ -1,6 +1,6 @@
 // The walk.
 
-ghost use Rattle.std.specs.Prelude.{◌≡◌, ◌≤◌, ◌<◌, ◌+◌, ℕ, true, false, List, [], ◌∷◌, ◌++◌, length, Some, None, IfSome};
+ghost use Rattle.std.specs.Prelude.{◌≡◌, ◌≤◌, ◌<◌, ◌+◌, ℕ, true, false, List, [], ◌∷◌, ◌++◌, length, Some, None};
 ghost use Rattle.rb_tree.specs.declared.node.Node.{out-Node};
 ghost use Rattle.rb_model.specs.Values.{Nil, Int};
 ghost use Rattle.rb_model.specs.Ends.{Full, Sink, over};
@@ -17,9 +17,9 @@ ghost use Rattle.rb_code.specs.Erase.{erase};
 ghost use Rattle.rb_code.specs.Resolved.{fits};
 ghost use Rattle.rb_interp.specs.Outcome.{outcome, Over, Came as Comes};
 ghost use Rattle.rb_interp.specs.Carries.{Carries, Keeps, scope_of, goes_on, me_of};
-ghost use Rattle.rb_interp.specs.Readers.{SendsTo};
 
 mod assign;
+mod begin;
 mod calls;
 mod collections;
 mod drafts;
@@ -32,18 +32,14 @@ mod texts;
 mod values;
 mod walks;
 
-use crate::came::{Came, Cut, Leave};
+use crate::came::{Came, Cut, Leave, immediate, is_told};
 use crate::ending::{close, end_of};
-use crate::leaf::{
-    held_alone, held_at, is_operate, local_at, place_of, quick, quick_twice, quick_update, small,
-    update_over,
-};
+use crate::leaf::{is_operate, place_of, quick, quick_twice, small, steps_of};
 use crate::slots::clear;
-use crate::target::{local_collection, local_target, reader_of};
 use rb_builtin::Builtin;
 use rb_code::{Code, CodeScript};
-use rb_model::{Act, End, Fault, Ref, ThreadStore, Value};
-use rb_tree::{NameId, Program, Span};
+use rb_model::{End, Fault, Ref, ThreadStore, Value};
+use rb_tree::Program;
 use std::alloc::Global;
 
 /// How many nodes may be under evaluation at once.
@@ -172,7 +168,7 @@ impl<'p, O: ThreadStore + Drop> Walker<'p, O> {
             Code::Operate(method, _, left, right, at) => {
                 let left = left.get();
                 let right = right.get();
-                if self.left > 4 && depth < MAX_DEPTH - 2 {
+                if self.left > 6 && depth < MAX_DEPTH - 2 {
                     if let Some(answer) = quick(*method, left, right, room) {
                         self.left -= 3;
                         return self.answer(answer, *at);
@@ -180,6 +176,15 @@ impl<'p, O: ThreadStore + Drop> Walker<'p, O> {
                     if let Some(answer) = quick_twice(*method, left, right, room) {
                         self.left -= 5;
                         return self.answer(answer, *at);
+                    }
+                    if let Some(Builtin::Index) = method {
+                        let is_row = is_operate(left);
+                        let is_over = is_operate(right);
+                        let element = self.element_at(*method, left, is_row, right, is_over, room);
+                        if is_told(element) {
+                            self.left -= 1 + steps_of(is_row) + steps_of(is_over);
+                            return immediate(element);
+                        }
                     }
                     self.left -= 1;
                     return self.begin_slow_operate(code, depth + 1, room);
@@ -196,11 +201,38 @@ impl<'p, O: ThreadStore + Drop> Walker<'p, O> {
             Code::Send(_, _, _, _, _) => self.evaluate_operand(code, depth, room),
             Code::Field(_, _) => self.evaluate_operand(code, depth, room),
             Code::Local(_, _, _) => self.evaluate_operand(code, depth, room),
+            Code::False(_) => self.evaluate_operand(code, depth, room),
+            Code::True(_) => self.evaluate_operand(code, depth, room),
+            Code::And(_, _, _) => self.evaluate_logic(code, depth, room),
+            Code::Or(_, _, _) => self.evaluate_logic(code, depth, room),
+            Code::Not(_, _) => self.evaluate_logic(code, depth, room),
             _ => self.walk(code, depth, room),
         }
     }
 
-    /// Evaluates a local, an instance variable or a call with a receiver.
+    /// Evaluates a node that combines truth values.
+    #[cycle(walk)]
+    #[inline(always)]
+    fn evaluate_logic(&mut self, code: &'p Code, depth: u32, room: &mut [Value]) -> Came
+        requires unended { has_end (O.log self.old.store).entries ≡ false }
+        requires steps { self.old.left ≤ self.old.context.steps }
+        ensures counted { goes_on (outcome result self.new.value self.new.leave) ≡ true → self.new.left < self.old.left }
+        ensures base { self.new.base ≡ self.old.base }
+        ensures context { self.new.context ≡ self.old.context }
+        ensures room { length room.new ≡ length room.old }
+        ensures less { self.new.left ≤ self.old.left }
+        ensures unended { has_end (O.log self.new.store).entries ≡ false }
+        ensures kept { Keeps self.old.context.script.now self.old.context.program.now (λ S. fits S code.now) self.old.base room.old room.new }
+        ensures came { Carries self.old.context.script.now self.old.context.program.now self.old.context.steps (me_of self.old.context.me) (λ S. fits S code.now) (λ S k sc d n. On (Eval (erase code.now)) k sc d n) self.old.base depth self.old.left self.new.left room.old room.new (O.log self.old.store) (O.log self.new.store) (O.private self.old.store) (O.private self.new.store) (outcome result self.new.value self.new.leave) }
+    {
+        if self.left > 0 && depth < MAX_DEPTH {
+            self.left -= 1;
+            return self.begin_logic(code, depth + 1, room);
+        }
+        self.walk(code, depth, room)
+    }
+
+    /// Evaluates a local, an instance variable, a truth value or a call with a receiver.
     #[cycle(walk)]
     #[inline(always)]
     fn evaluate_operand(&mut self, code: &'p Code, depth: u32, room: &mut [Value]) -> Came
@@ -248,501 +280,15 @@ impl<'p, O: ThreadStore + Drop> Walker<'p, O> {
             Code::Send(_, _, _, _, _) => self.begin_send(code, depth, room),
             Code::Function(_, _, _, _) => self.begin_function(code, depth, room),
             Code::If(_, _, _, _) => self.begin_choice(code, depth, room),
-            Code::Field(name, at) => self.field(*name, *at),
+            Code::Field(name, at) => self.field_apart(*name, *at),
             Code::SetField(_, _, _) => self.begin_set_field(code, depth, room),
             Code::UpdateField(_, _, _, _) => self.begin_update_field(code, depth, room),
             Code::New(_, _, _, _, _) => self.begin_new(code, depth, room),
             Code::Store(_, _, _, _, _) => self.begin_store(code, depth, room),
+            Code::And(_, _, _) => self.begin_logic(code, depth, room),
+            Code::Or(_, _, _) => self.begin_logic(code, depth, room),
+            Code::Not(_, _) => self.begin_logic(code, depth, room),
             _ => self.begin_other(code, depth, room),
-        }
-    }
-
-    /// An assignment to a local whose step is counted.
-    #[cycle(walk)]
-    #[inline(never)]
-    fn begin_set(&mut self, code: &'p Code, depth: u32, room: &mut [Value]) -> Came
-        requires unended { has_end (O.log self.old.store).entries ≡ false }
-        requires steps { self.old.left ≤ self.old.context.steps }
-        ensures base { self.new.base ≡ self.old.base }
-        ensures context { self.new.context ≡ self.old.context }
-        ensures room { length room.new ≡ length room.old }
-        ensures less { self.new.left ≤ self.old.left }
-        ensures unended { has_end (O.log self.new.store).entries ≡ false }
-        ensures kept { Keeps self.old.context.script.now self.old.context.program.now (λ S. fits S code.now) self.old.base room.old room.new }
-        ensures came { Carries self.old.context.script.now self.old.context.program.now self.old.context.steps (me_of self.old.context.me) (λ S. fits S code.now) (λ S k sc d n. begin S (out-Node (erase code.now)) k sc d n) self.old.base depth self.old.left self.new.left room.old room.new (O.log self.old.store) (O.log self.new.store) (O.private self.old.store) (O.private self.new.store) (outcome result self.new.value self.new.leave) }
-    {
-        match code {
-            Code::SetLocal(slot, _, value, _) => self.set_local(*slot, value.get(), depth, room),
-            _ => self.over(Cut::Memory),
-        }
-    }
-
-    /// An assignment with an operator to a local. Over an integer and a leaf that is one it calls nothing of the walk.
-    #[cycle(walk)]
-    #[inline(never)]
-    fn begin_update(&mut self, code: &'p Code, depth: u32, room: &mut [Value]) -> Came
-        requires unended { has_end (O.log self.old.store).entries ≡ false }
-        requires steps { self.old.left ≤ self.old.context.steps }
-        ensures base { self.new.base ≡ self.old.base }
-        ensures context { self.new.context ≡ self.old.context }
-        ensures room { length room.new ≡ length room.old }
-        ensures less { self.new.left ≤ self.old.left }
-        ensures unended { has_end (O.log self.new.store).entries ≡ false }
-        ensures kept { Keeps self.old.context.script.now self.old.context.program.now (λ S. fits S code.now) self.old.base room.old room.new }
-        ensures came { Carries self.old.context.script.now self.old.context.program.now self.old.context.steps (me_of self.old.context.me) (λ S. fits S code.now) (λ S k sc d n. begin S (out-Node (erase code.now)) k sc d n) self.old.base depth self.old.left self.new.left room.old room.new (O.log self.old.store) (O.log self.new.store) (O.private self.old.store) (O.private self.new.store) (outcome result self.new.value self.new.leave) }
-    {
-        match code {
-            Code::UpdateLocal(slot, _, op, value, _) => {
-                let value = value.get();
-                if is_operate(value) {
-                    return self.begin_update_over(code, depth, room);
-                }
-                if self.left > 0 && depth < MAX_DEPTH {
-                    if let Some(n) = quick_update(*slot, *op, value, room) {
-                        self.left -= 1;
-                        return Came::Int(n);
-                    }
-                }
-                self.begin_slow_update(code, depth, room)
-            }
-            _ => self.over(Cut::Memory),
-        }
-    }
-
-    /// An assignment with an operator and an operation to a local. Over integers it calls nothing of the walk.
-    #[cycle(walk)]
-    #[inline(never)]
-    fn begin_update_over(&mut self, code: &'p Code, depth: u32, room: &mut [Value]) -> Came
-        requires unended { has_end (O.log self.old.store).entries ≡ false }
-        requires steps { self.old.left ≤ self.old.context.steps }
-        ensures base { self.new.base ≡ self.old.base }
-        ensures context { self.new.context ≡ self.old.context }
-        ensures room { length room.new ≡ length room.old }
-        ensures less { self.new.left ≤ self.old.left }
-        ensures unended { has_end (O.log self.new.store).entries ≡ false }
-        ensures kept { Keeps self.old.context.script.now self.old.context.program.now (λ S. fits S code.now) self.old.base room.old room.new }
-        ensures came { Carries self.old.context.script.now self.old.context.program.now self.old.context.steps (me_of self.old.context.me) (λ S. fits S code.now) (λ S k sc d n. begin S (out-Node (erase code.now)) k sc d n) self.old.base depth self.old.left self.new.left room.old room.new (O.log self.old.store) (O.log self.new.store) (O.private self.old.store) (O.private self.new.store) (outcome result self.new.value self.new.leave) }
-    {
-        match code {
-            Code::UpdateLocal(slot, _, op, value, _) => {
-                if self.left > 2 && depth < MAX_DEPTH - 1 {
-                    if let Some(n) = update_over(*slot, *op, value.get(), room) {
-                        self.left -= 3;
-                        return Came::Int(n);
-                    }
-                }
-                self.begin_slow_update(code, depth, room)
-            }
-            _ => self.over(Cut::Memory),
-        }
-    }
-
-    /// Any assignment with an operator to a local.
-    #[cycle(walk)]
-    #[inline(never)]
-    fn begin_slow_update(&mut self, code: &'p Code, depth: u32, room: &mut [Value]) -> Came
-        requires unended { has_end (O.log self.old.store).entries ≡ false }
-        requires steps { self.old.left ≤ self.old.context.steps }
-        ensures base { self.new.base ≡ self.old.base }
-        ensures context { self.new.context ≡ self.old.context }
-        ensures room { length room.new ≡ length room.old }
-        ensures less { self.new.left ≤ self.old.left }
-        ensures unended { has_end (O.log self.new.store).entries ≡ false }
-        ensures kept { Keeps self.old.context.script.now self.old.context.program.now (λ S. fits S code.now) self.old.base room.old room.new }
-        ensures came { Carries self.old.context.script.now self.old.context.program.now self.old.context.steps (me_of self.old.context.me) (λ S. fits S code.now) (λ S k sc d n. begin S (out-Node (erase code.now)) k sc d n) self.old.base depth self.old.left self.new.left room.old room.new (O.log self.old.store) (O.log self.new.store) (O.private self.old.store) (O.private self.new.store) (outcome result self.new.value self.new.leave) }
-    {
-        match code {
-            Code::UpdateLocal(slot, _, op, value, at) => {
-                self.update_local(*slot, *op, value.get(), *at, depth, room)
-            }
-            _ => self.over(Cut::Memory),
-        }
-    }
-
-    /// A call with one argument. Over two leaves that are integers it calls nothing of the walk.
-    #[cycle(walk)]
-    #[inline(never)]
-    fn begin_operate(&mut self, code: &'p Code, depth: u32, room: &mut [Value]) -> Came
-        requires unended { has_end (O.log self.old.store).entries ≡ false }
-        requires steps { self.old.left ≤ self.old.context.steps }
-        ensures base { self.new.base ≡ self.old.base }
-        ensures context { self.new.context ≡ self.old.context }
-        ensures room { length room.new ≡ length room.old }
-        ensures less { self.new.left ≤ self.old.left }
-        ensures unended { has_end (O.log self.new.store).entries ≡ false }
-        ensures kept { Keeps self.old.context.script.now self.old.context.program.now (λ S. fits S code.now) self.old.base room.old room.new }
-        ensures came { Carries self.old.context.script.now self.old.context.program.now self.old.context.steps (me_of self.old.context.me) (λ S. fits S code.now) (λ S k sc d n. begin S (out-Node (erase code.now)) k sc d n) self.old.base depth self.old.left self.new.left room.old room.new (O.log self.old.store) (O.log self.new.store) (O.private self.old.store) (O.private self.new.store) (outcome result self.new.value self.new.leave) }
-    {
-        match code {
-            Code::Operate(method, _, left, right, at) => {
-                if self.left > 1 && depth < MAX_DEPTH {
-                    if let Some(answer) = quick(*method, left.get(), right.get(), room) {
-                        self.left -= 2;
-                        return self.answer(answer, *at);
-                    }
-                }
-                self.begin_slow_operate(code, depth, room)
-            }
-            _ => self.over(Cut::Memory),
-        }
-    }
-
-    /// Any call with one argument. Over two locals it takes no values out of their slots.
-    #[cycle(walk)]
-    #[inline(never)]
-    fn begin_slow_operate(&mut self, code: &'p Code, depth: u32, room: &mut [Value]) -> Came
-        requires unended { has_end (O.log self.old.store).entries ≡ false }
-        requires steps { self.old.left ≤ self.old.context.steps }
-        ensures base { self.new.base ≡ self.old.base }
-        ensures context { self.new.context ≡ self.old.context }
-        ensures room { length room.new ≡ length room.old }
-        ensures less { self.new.left ≤ self.old.left }
-        ensures unended { has_end (O.log self.new.store).entries ≡ false }
-        ensures kept { Keeps self.old.context.script.now self.old.context.program.now (λ S. fits S code.now) self.old.base room.old room.new }
-        ensures came { Carries self.old.context.script.now self.old.context.program.now self.old.context.steps (me_of self.old.context.me) (λ S. fits S code.now) (λ S k sc d n. begin S (out-Node (erase code.now)) k sc d n) self.old.base depth self.old.left self.new.left room.old room.new (O.log self.old.store) (O.log self.new.store) (O.private self.old.store) (O.private self.new.store) (outcome result self.new.value self.new.leave) }
-    {
-        match code {
-            Code::Operate(method, name, left, right, at) => {
-                let left = left.get();
-                let right = right.get();
-                if self.left > 1 && depth < MAX_DEPTH {
-                    if let Some(receiver) = held_at(left, room) {
-                        if let Some(arg) = held_alone(right, room) {
-                            self.left -= 2;
-                            return self.call_held(receiver, *method, arg, *at);
-                        }
-                    }
-                    if let Some(target) = local_target(self.context.script, left, *name, room) {
-                        self.left -= 1;
-                        return self.operate_target(target, *name, right, *at, depth, room);
-                    }
-                    if let Some(thing) = local_collection(left, room) {
-                        self.left -= 1;
-                        return self.operate_collection(
-                            thing, *method, *name, right, *at, depth, room,
-                        );
-                    }
-                }
-                self.operate(*method, *name, left, right, *at, depth, room)
-            }
-            _ => self.over(Cut::Memory),
-        }
-    }
-
-    /// What comes of a method that is sent without arguments, where that is done at once: the receiver is a local that holds no thing, or an
-    /// object whose method only reads an instance variable. Else nothing is done.
-    #[inline(always)]
-    fn sent(
-        &mut self,
-        method: Option<Builtin>,
-        name: NameId,
-        receiver: &Code,
-        args: &[Code],
-        at: Span,
-        depth: u32,
-        room: &[Value],
-    ) -> Option<Came>
-        requires unended { has_end (O.log self.old.store).entries ≡ false }
-        ensures none { result ≡ None → self.new ≡ self.old }
-        ensures empty { IfSome result (λ _. args.now ≡ []) }
-        ensures base { self.new.base ≡ self.old.base }
-        ensures context { self.new.context ≡ self.old.context }
-        ensures less { self.new.left ≤ self.old.left }
-        ensures log { O.log self.new.store ≡ O.log self.old.store }
-        ensures came { IfSome result (λ came. SendsTo self.old.context.script.now self.old.context.program.now self.old.context.steps (me_of self.old.context.me) receiver.now method name at depth self.old.left self.new.left room.now (O.log self.old.store) (O.log self.new.store) (O.private self.old.store) (O.private self.new.store) (outcome came self.new.value self.new.leave)) }
-    {
-        if !args.is_empty() {
-            return None;
-        }
-        if self.left < 2 || depth >= MAX_DEPTH {
-            return None;
-        }
-        if let Some(held) = held_at(receiver, room) {
-            self.left -= 1;
-            return Some(self.call_held(held, method, &[], at));
-        }
-        let reader = reader_of(self.context.script, local_at(receiver, room)?, name)?;
-        self.left -= 2;
-        let came = self.ask(reader.object, Act::GetField(reader.field), reader.at);
-        Some(self.out_of_call(came))
-    }
-
-    /// A call with a receiver, without a block. To a local without arguments it takes no value out of its slot.
-    #[cycle(walk)]
-    #[inline(never)]
-    fn begin_send(&mut self, code: &'p Code, depth: u32, room: &mut [Value]) -> Came
-        requires unended { has_end (O.log self.old.store).entries ≡ false }
-        requires steps { self.old.left ≤ self.old.context.steps }
-        ensures base { self.new.base ≡ self.old.base }
-        ensures context { self.new.context ≡ self.old.context }
-        ensures room { length room.new ≡ length room.old }
-        ensures less { self.new.left ≤ self.old.left }
-        ensures unended { has_end (O.log self.new.store).entries ≡ false }
-        ensures kept { Keeps self.old.context.script.now self.old.context.program.now (λ S. fits S code.now) self.old.base room.old room.new }
-        ensures came { Carries self.old.context.script.now self.old.context.program.now self.old.context.steps (me_of self.old.context.me) (λ S. fits S code.now) (λ S k sc d n. begin S (out-Node (erase code.now)) k sc d n) self.old.base depth self.old.left self.new.left room.old room.new (O.log self.old.store) (O.log self.new.store) (O.private self.old.store) (O.private self.new.store) (outcome result self.new.value self.new.leave) }
-    {
-        match code {
-            Code::Send(method, name, receiver, args, at) => {
-                let receiver = receiver.get();
-                let args = args.as_slice();
-                match self.sent(*method, *name, receiver, args, *at, depth, room) {
-                    Some(came) => came,
-                    None => self.send(*method, *name, receiver, args, *at, depth, room),
-                }
-            }
-            _ => self.over(Cut::Memory),
-        }
-    }
-
-    /// A call by a name alone of a method of the script that has a number: one of the class of `self` goes before it.
-    #[cycle(walk)]
-    #[inline(never)]
-    fn begin_function(&mut self, code: &'p Code, depth: u32, room: &mut [Value]) -> Came
-        requires unended { has_end (O.log self.old.store).entries ≡ false }
-        requires steps { self.old.left ≤ self.old.context.steps }
-        ensures base { self.new.base ≡ self.old.base }
-        ensures context { self.new.context ≡ self.old.context }
-        ensures room { length room.new ≡ length room.old }
-        ensures less { self.new.left ≤ self.old.left }
-        ensures unended { has_end (O.log self.new.store).entries ≡ false }
-        ensures kept { Keeps self.old.context.script.now self.old.context.program.now (λ S. fits S code.now) self.old.base room.old room.new }
-        ensures came { Carries self.old.context.script.now self.old.context.program.now self.old.context.steps (me_of self.old.context.me) (λ S. fits S code.now) (λ S k sc d n. begin S (out-Node (erase code.now)) k sc d n) self.old.base depth self.old.left self.new.left room.old room.new (O.log self.old.store) (O.log self.new.store) (O.private self.old.store) (O.private self.new.store) (outcome result self.new.value self.new.leave) }
-    {
-        match code {
-            Code::Function(number, name, args, at) => {
-                let args = args.as_slice();
-                match self.own_target(*name) {
-                    Some(target) => self.own(target, *name, args, *at, depth, room),
-                    None => self.function(*number, *name, args, *at, depth, room),
-                }
-            }
-            _ => self.over(Cut::Memory),
-        }
-    }
-
-    /// A local, an instance variable or a call with a receiver, whose step is counted.
-    #[cycle(walk)]
-    #[inline(always)]
-    fn begin_operand(&mut self, code: &'p Code, depth: u32, room: &mut [Value]) -> Came
-        requires unended { has_end (O.log self.old.store).entries ≡ false }
-        requires steps { self.old.left ≤ self.old.context.steps }
-        ensures base { self.new.base ≡ self.old.base }
-        ensures context { self.new.context ≡ self.old.context }
-        ensures room { length room.new ≡ length room.old }
-        ensures less { self.new.left ≤ self.old.left }
-        ensures unended { has_end (O.log self.new.store).entries ≡ false }
-        ensures kept { Keeps self.old.context.script.now self.old.context.program.now (λ S. fits S code.now) self.old.base room.old room.new }
-        ensures came { Carries self.old.context.script.now self.old.context.program.now self.old.context.steps (me_of self.old.context.me) (λ S. fits S code.now) (λ S k sc d n. begin S (out-Node (erase code.now)) k sc d n) self.old.base depth self.old.left self.new.left room.old room.new (O.log self.old.store) (O.log self.new.store) (O.private self.old.store) (O.private self.new.store) (outcome result self.new.value self.new.leave) }
-    {
-        match code {
-            Code::Field(name, at) => self.field(*name, *at),
-            Code::Local(slot, _, _) => self.read(*slot, room),
-            _ => self.begin_send(code, depth, room),
-        }
-    }
-
-    /// A choice between two bodies.
-    #[cycle(walk)]
-    #[inline(never)]
-    fn begin_choice(&mut self, code: &'p Code, depth: u32, room: &mut [Value]) -> Came
-        requires unended { has_end (O.log self.old.store).entries ≡ false }
-        requires steps { self.old.left ≤ self.old.context.steps }
-        ensures base { self.new.base ≡ self.old.base }
-        ensures context { self.new.context ≡ self.old.context }
-        ensures room { length room.new ≡ length room.old }
-        ensures less { self.new.left ≤ self.old.left }
-        ensures unended { has_end (O.log self.new.store).entries ≡ false }
-        ensures kept { Keeps self.old.context.script.now self.old.context.program.now (λ S. fits S code.now) self.old.base room.old room.new }
-        ensures came { Carries self.old.context.script.now self.old.context.program.now self.old.context.steps (me_of self.old.context.me) (λ S. fits S code.now) (λ S k sc d n. begin S (out-Node (erase code.now)) k sc d n) self.old.base depth self.old.left self.new.left room.old room.new (O.log self.old.store) (O.log self.new.store) (O.private self.old.store) (O.private self.new.store) (outcome result self.new.value self.new.leave) }
-    {
-        match code {
-            Code::If(condition, first, second, _) => self.choose(
-                condition.get(),
-                first.as_slice(),
-                second.as_slice(),
-                depth,
-                room,
-            ),
-            _ => self.over(Cut::Memory),
-        }
-    }
-
-    /// An assignment to an instance variable.
-    #[cycle(walk)]
-    #[inline(never)]
-    fn begin_set_field(&mut self, code: &'p Code, depth: u32, room: &mut [Value]) -> Came
-        requires unended { has_end (O.log self.old.store).entries ≡ false }
-        requires steps { self.old.left ≤ self.old.context.steps }
-        ensures base { self.new.base ≡ self.old.base }
-        ensures context { self.new.context ≡ self.old.context }
-        ensures room { length room.new ≡ length room.old }
-        ensures less { self.new.left ≤ self.old.left }
-        ensures unended { has_end (O.log self.new.store).entries ≡ false }
-        ensures kept { Keeps self.old.context.script.now self.old.context.program.now (λ S. fits S code.now) self.old.base room.old room.new }
-        ensures came { Carries self.old.context.script.now self.old.context.program.now self.old.context.steps (me_of self.old.context.me) (λ S. fits S code.now) (λ S k sc d n. begin S (out-Node (erase code.now)) k sc d n) self.old.base depth self.old.left self.new.left room.old room.new (O.log self.old.store) (O.log self.new.store) (O.private self.old.store) (O.private self.new.store) (outcome result self.new.value self.new.leave) }
-    {
-        match code {
-            Code::SetField(name, value, at) => {
-                self.set_field(*name, value.get(), *at, depth, room)
-            }
-            _ => self.over(Cut::Memory),
-        }
-    }
-
-    /// An assignment with an operator to an instance variable.
-    #[cycle(walk)]
-    #[inline(never)]
-    fn begin_update_field(&mut self, code: &'p Code, depth: u32, room: &mut [Value]) -> Came
-        requires unended { has_end (O.log self.old.store).entries ≡ false }
-        requires steps { self.old.left ≤ self.old.context.steps }
-        ensures base { self.new.base ≡ self.old.base }
-        ensures context { self.new.context ≡ self.old.context }
-        ensures room { length room.new ≡ length room.old }
-        ensures less { self.new.left ≤ self.old.left }
-        ensures unended { has_end (O.log self.new.store).entries ≡ false }
-        ensures kept { Keeps self.old.context.script.now self.old.context.program.now (λ S. fits S code.now) self.old.base room.old room.new }
-        ensures came { Carries self.old.context.script.now self.old.context.program.now self.old.context.steps (me_of self.old.context.me) (λ S. fits S code.now) (λ S k sc d n. begin S (out-Node (erase code.now)) k sc d n) self.old.base depth self.old.left self.new.left room.old room.new (O.log self.old.store) (O.log self.new.store) (O.private self.old.store) (O.private self.new.store) (outcome result self.new.value self.new.leave) }
-    {
-        match code {
-            Code::UpdateField(name, op, value, at) => {
-                self.update_field(*name, *op, value.get(), *at, depth, room)
-            }
-            _ => self.over(Cut::Memory),
-        }
-    }
-
-    /// An assignment by the call of a method.
-    #[cycle(walk)]
-    #[inline(never)]
-    fn begin_store(&mut self, code: &'p Code, depth: u32, room: &mut [Value]) -> Came
-        requires unended { has_end (O.log self.old.store).entries ≡ false }
-        requires steps { self.old.left ≤ self.old.context.steps }
-        ensures base { self.new.base ≡ self.old.base }
-        ensures context { self.new.context ≡ self.old.context }
-        ensures room { length room.new ≡ length room.old }
-        ensures less { self.new.left ≤ self.old.left }
-        ensures unended { has_end (O.log self.new.store).entries ≡ false }
-        ensures kept { Keeps self.old.context.script.now self.old.context.program.now (λ S. fits S code.now) self.old.base room.old room.new }
-        ensures came { Carries self.old.context.script.now self.old.context.program.now self.old.context.steps (me_of self.old.context.me) (λ S. fits S code.now) (λ S k sc d n. begin S (out-Node (erase code.now)) k sc d n) self.old.base depth self.old.left self.new.left room.old room.new (O.log self.old.store) (O.log self.new.store) (O.private self.old.store) (O.private self.new.store) (outcome result self.new.value self.new.leave) }
-    {
-        match code {
-            Code::Store(method, receiver, name, args, at) => self.store_by(
-                *method,
-                receiver.get(),
-                *name,
-                args.as_slice(),
-                *at,
-                depth,
-                room,
-            ),
-            _ => self.over(Cut::Memory),
-        }
-    }
-
-    /// A new object.
-    #[cycle(walk)]
-    #[inline(never)]
-    fn begin_new(&mut self, code: &'p Code, depth: u32, room: &mut [Value]) -> Came
-        requires unended { has_end (O.log self.old.store).entries ≡ false }
-        requires steps { self.old.left ≤ self.old.context.steps }
-        ensures base { self.new.base ≡ self.old.base }
-        ensures context { self.new.context ≡ self.old.context }
-        ensures room { length room.new ≡ length room.old }
-        ensures less { self.new.left ≤ self.old.left }
-        ensures unended { has_end (O.log self.new.store).entries ≡ false }
-        ensures kept { Keeps self.old.context.script.now self.old.context.program.now (λ S. fits S code.now) self.old.base room.old room.new }
-        ensures came { Carries self.old.context.script.now self.old.context.program.now self.old.context.steps (me_of self.old.context.me) (λ S. fits S code.now) (λ S k sc d n. begin S (out-Node (erase code.now)) k sc d n) self.old.base depth self.old.left self.new.left room.old room.new (O.log self.old.store) (O.log self.new.store) (O.private self.old.store) (O.private self.new.store) (outcome result self.new.value self.new.leave) }
-    {
-        match code {
-            Code::New(class, first, name, args, at) => self.create(
-                *class,
-                *first,
-                *name,
-                args.as_slice(),
-                *at,
-                depth,
-                room,
-            ),
-            _ => self.over(Cut::Memory),
-        }
-    }
-
-    /// A node of the other kinds whose step is counted.
-    #[cycle(walk)]
-    #[inline(never)]
-    fn begin_other(&mut self, code: &'p Code, depth: u32, room: &mut [Value]) -> Came
-        requires unended { has_end (O.log self.old.store).entries ≡ false }
-        requires steps { self.old.left ≤ self.old.context.steps }
-        ensures base { self.new.base ≡ self.old.base }
-        ensures context { self.new.context ≡ self.old.context }
-        ensures room { length room.new ≡ length room.old }
-        ensures less { self.new.left ≤ self.old.left }
-        ensures unended { has_end (O.log self.new.store).entries ≡ false }
-        ensures kept { Keeps self.old.context.script.now self.old.context.program.now (λ S. fits S code.now) self.old.base room.old room.new }
-        ensures came { Carries self.old.context.script.now self.old.context.program.now self.old.context.steps (me_of self.old.context.me) (λ S. fits S code.now) (λ S k sc d n. begin S (out-Node (erase code.now)) k sc d n) self.old.base depth self.old.left self.new.left room.old room.new (O.log self.old.store) (O.log self.new.store) (O.private self.old.store) (O.private self.new.store) (outcome result self.new.value self.new.leave) }
-    {
-        match code {
-            Code::Sym(name, _) => self.give(Value::Sym(*name)),
-            Code::Str(pieces, at) => self.literal(pieces.as_slice(), *at, depth, room),
-            Code::Array(items, _) => self.array(items.as_slice(), depth, room),
-            Code::Hash(items, at) => self.hash(items.as_slice(), *at, depth, room),
-            Code::UpdateElement(receiver, index, op, value, at) => self.update_element(
-                receiver.get(),
-                index.get(),
-                *op,
-                value.get(),
-                *at,
-                depth,
-                room,
-            ),
-            Code::UpdateAttribute(number, writer, name, receiver, op, value, at) =>
-                self.update_attribute(
-                    *number,
-                    *writer,
-                    *name,
-                    receiver.get(),
-                    *op,
-                    value.get(),
-                    *at,
-                    depth,
-                    room,
-                ),
-            Code::Walk(method, name, receiver, args, block, at) => self.send_block(
-                *method,
-                *name,
-                receiver.get(),
-                args.as_slice(),
-                block.get(),
-                *at,
-                depth,
-                room,
-            ),
-            Code::Print(form, name, args, at) => {
-                self.begin_print(*form, *name, args.as_slice(), *at, depth, room)
-            }
-            Code::Own(name, args, at) => self.begin_own(*name, args.as_slice(), *at, depth, room),
-            Code::SelfRef(_) => self.give_self(),
-            Code::NewBuiltin(class, name, args, at) => {
-                self.create_builtin(*class, *name, args.as_slice(), *at, depth, room)
-            }
-            // No accepted script starts a thread yet.
-            Code::Start(_, _, _, at) => self.raise(Fault::NoMethod, *at),
-            Code::And(first, second, _) => self.both(first.get(), second.get(), depth, room),
-            Code::Or(first, second, _) => self.either(first.get(), second.get(), depth, room),
-            Code::Not(value, _) => self.negate(value.get(), depth, room),
-            Code::While(condition, body, _) => {
-                self.repeat(condition.get(), body.as_slice(), depth, room)
-            }
-            Code::Return(value, _) => self.leave_method(value, depth, room),
-            Code::Break(_) => {
-                self.leave = Leave::Break;
-                Came::Left
-            }
-            Code::Next(_) => {
-                self.leave = Leave::Next;
-                Came::Left
-            }
-            _ => self.over(Cut::Memory),
         }
     }
 

@@ -4,20 +4,19 @@ ghost use Rattle.std.specs.Prelude.{◌≡◌, ◌≤◌, ◌<◌, ◌+◌, ◌+
 ghost use Rattle.rb_model.specs.Values.{Nil, Int, plain};
 ghost use Rattle.rb_model.specs.Log.{has_end};
 ghost use Rattle.rb_machine.specs.Scopes.{text_of};
-ghost use Rattle.rb_machine.specs.Control.{On, Then, Eval, Give, Turning, Passing, Joining, ReceiverOf, ReceiverToStore, Argument, OnReceiver, ByName, Counting};
+ghost use Rattle.rb_machine.specs.Control.{On, Then, Eval, Give, Turning, Passing, Joining, ReceiverOf, ReceiverToStore, Storing, Argument, OnReceiver, ByName, Counting};
 ghost use Rattle.rb_machine.specs.Texts.{shown};
 ghost use Rattle.rb_code.specs.Erase.{erase, erase_block, erase_piece};
 ghost use Rattle.rb_code.specs.Resolved.{fits, block_fits, piece_fits, every};
 ghost use Rattle.rb_interp.specs.Outcome.{is_left, value_of, outcome};
 ghost use Rattle.rb_interp.specs.Carries.{Carries, Keeps, Passes, both, numbered, called, printing, me_of};
 ghost use Rattle.rb_interp.specs.Methods.{IsTarget, HasNone, EntersWith, StoresWith};
-ghost use Rattle.rb_interp.specs.Answers.{Passed};
 
-use super::Walker;
+use super::{MAX_DEPTH, Walker};
 use crate::asked::style_by;
 use crate::bytes::{add_bytes, add_value};
 use crate::came::{Came, Cut, is_left};
-use crate::leaf::written;
+use crate::leaf::{local_at, small, written};
 use crate::rounds::Iterations;
 use crate::slots::{last_of, passed, put, start_block};
 use crate::target::{Target, target_of};
@@ -26,11 +25,11 @@ use rb_code::{Code, CodeBlock, CodePiece};
 use rb_model::{Fault, Ref, SharedText, ThreadStore, Value};
 use rb_render::{Form, MAX_BYTES};
 use rb_tree::{NameId, Span};
-use std::mem;
 
 impl<'p, O: ThreadStore + Drop> Walker<'p, O> {
     /// A call with one argument: the receiver first.
     #[cycle(walk)]
+    #[inline(always)]
     pub(super) fn operate(
         &mut self,
         method: Option<Builtin>,
@@ -131,7 +130,7 @@ impl<'p, O: ThreadStore + Drop> Walker<'p, O> {
 
     /// The argument of a call of a method of the class of an object, which was found.
     #[cycle(walk)]
-    #[inline(never)]
+    #[inline(always)]
     pub(super) fn operate_target(
         &mut self,
         target: Target<'p>,
@@ -159,7 +158,7 @@ impl<'p, O: ThreadStore + Drop> Walker<'p, O> {
         if self.base >= room.len() {
             return self.over(Cut::Memory);
         }
-        self.pass(came, room);
+        self.move_to(self.base, came, room);
         self.enter(target.method, Some(target.object), 1, at, depth, room)
     }
 
@@ -231,8 +230,46 @@ impl<'p, O: ThreadStore + Drop> Walker<'p, O> {
         self.invoke(&receiver, method, name, args.len(), at, depth, room)
     }
 
+    /// An assignment by the call of a method of an array or a hash, with two arguments.
+    #[cycle(walk)]
+    #[inline(always)]
+    pub(super) fn store_element(
+        &mut self,
+        thing: Ref,
+        method: Option<Builtin>,
+        name: NameId,
+        index: &'p Code,
+        value: &'p Code,
+        at: Span,
+        depth: u32,
+        room: &mut [Value],
+    ) -> Came
+        requires unended { has_end (O.log self.old.store).entries ≡ false }
+        requires steps { self.old.left ≤ self.old.context.steps }
+        requires alone { HasNone self.old.context.script.now (me_of (Some thing)) name }
+        ensures base { self.new.base ≡ self.old.base }
+        ensures context { self.new.context ≡ self.old.context }
+        ensures room { length room.new ≡ length room.old }
+        ensures less { self.new.left ≤ self.old.left }
+        ensures unended { has_end (O.log self.new.store).entries ≡ false }
+        ensures kept { Keeps self.old.context.script.now self.old.context.program.now (numbered method name (both (λ S. fits S index.now) (λ S. fits S value.now))) self.old.base room.old room.new }
+        ensures came { Carries self.old.context.script.now self.old.context.program.now self.old.context.steps (me_of self.old.context.me) (numbered method name (both (λ S. fits S index.now) (λ S. fits S value.now))) (λ S k sc d n. On (Eval (erase index.now)) (Then (Argument (Storing (me_of (Some thing)) (text_of S name)) [] (erase value.now ∷ []) at) ∷ k) sc d n) self.old.base depth self.old.left self.new.left room.old room.new (O.log self.old.store) (O.log self.new.store) (O.private self.old.store) (O.private self.new.store) (outcome result self.new.value self.new.leave) }
+    {
+        let first = self.evaluate(index, depth, room);
+        if is_left(first) {
+            return first;
+        }
+        let index = self.take(first);
+        let came = self.evaluate(value, depth, room);
+        if is_left(came) {
+            return came;
+        }
+        self.stored(thing, method, index, came, at, depth)
+    }
+
     /// An assignment by the call of a method.
     #[cycle(walk)]
+    #[inline(never)]
     pub(super) fn store_by(
         &mut self,
         method: Option<Builtin>,
@@ -507,38 +544,6 @@ impl<'p, O: ThreadStore + Drop> Walker<'p, O> {
         Came::Nil
     }
 
-    /// Puts the value that came behind the frame.
-    #[inline(always)]
-    pub(super) fn pass(&mut self, came: Came, room: &mut [Value])
-        requires within { self.old.base < length room.old }
-        ensures passed { Passed self.old.base (value_of came self.old.value) room.old room.new }
-        ensures base { self.new.base ≡ self.old.base }
-        ensures left { self.new.left ≡ self.old.left }
-        ensures context { self.new.context ≡ self.old.context }
-        ensures store { self.new.store ≡ self.old.store }
-    {
-        match came {
-            Came::Int(n) => put(room, self.base, n),
-            _ => self.pass_any(came, room),
-        }
-    }
-
-    /// Puts any value that came behind the frame.
-    #[inline(never)]
-    pub(super) fn pass_any(&mut self, came: Came, room: &mut [Value])
-        requires within { self.old.base < length room.old }
-        ensures passed { Passed self.old.base (value_of came self.old.value) room.old room.new }
-        ensures base { self.new.base ≡ self.old.base }
-        ensures left { self.new.left ≡ self.old.left }
-        ensures context { self.new.context ≡ self.old.context }
-        ensures store { self.new.store ≡ self.old.store }
-    {
-        match came {
-            Came::Other => mem::swap(&mut room[self.base], &mut self.value),
-            _ => room[self.base] = self.take(came),
-        }
-    }
-
     /// The arguments, each behind the frame and in it from then on.
     #[cycle(walk)]
     #[inline(always)]
@@ -556,14 +561,30 @@ impl<'p, O: ThreadStore + Drop> Walker<'p, O> {
         ensures came { Passes self.old.context.script.now self.old.context.program.now self.old.context.steps (me_of self.old.context.me) args.now self.old.base depth self.old.left self.new.left room.old room.new (O.log self.old.store) (O.log self.new.store) (O.private self.old.store) (O.private self.new.store) result (outcome result self.new.value self.new.leave) }
     {
         'each: for arg in args {
-            let came = self.evaluate(arg, depth, room);
+            if self.base < room.len() && self.left > 0 && depth < MAX_DEPTH {
+                if let Some(n) = small(arg, room) {
+                    put(room, self.base, n);
+                    self.left -= 1;
+                    self.base += 1;
+                    continue 'each;
+                }
+                if let Some(value) = local_at(arg, room) {
+                    if let Ok(copy) = value.share() {
+                        room[self.base] = copy;
+                        self.left -= 1;
+                        self.base += 1;
+                        continue 'each;
+                    }
+                }
+            }
+            let came = self.evaluate_call(arg, depth, room);
             if is_left(came) {
                 return came;
             }
             if self.base >= room.len() {
                 return self.over(Cut::Memory);
             }
-            self.pass(came, room);
+            self.move_to(self.base, came, room);
             self.base += 1;
         }
         Came::Nil

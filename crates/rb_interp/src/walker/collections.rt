@@ -14,12 +14,12 @@ ghost use Rattle.rb_builtin.specs.Deeds.{answer_of, step_of, thing_of, use_of};
 ghost use Rattle.rb_interp.specs.Outcome.{Gave, Over, is_left, outcome, value_of};
 ghost use Rattle.rb_interp.specs.Methods.{HasNone};
 ghost use Rattle.rb_interp.specs.Carries.{me_of};
-ghost use Rattle.rb_interp.specs.Collections.{CallsBuiltin, Comes, Reads, answering, building, filling, making, pairing, putting, storing, writing_element};
+ghost use Rattle.rb_interp.specs.Collections.{CallsBuiltin, Comes, Reads, answering, building, filling, keeping, making, pairing, putting, storing, writing_element};
 
 use super::Walker;
-use crate::came::{Came, Cut, is_left};
-use crate::gathering::{copies, filled, has_bad_key, is_collection, pairs_in, parts_of};
-use crate::questions::{is_element, put_of, question_of};
+use crate::came::{Came, Cut, immediate, immediate_of, is_left, is_told};
+use crate::gathering::{collection_of, copies, has_bad_key, pairs_in, parts_of};
+use crate::questions::{index_for, is_element, is_key_put, place_for, put_of, question_of};
 use crate::slots::last_of;
 use rb_builtin::{Behind, Builtin, Deed, Purpose, deed_of};
 use rb_code::BuiltinClass;
@@ -96,8 +96,8 @@ impl<'p, O: ThreadStore + Drop> Walker<'p, O> {
         if *count > MAX_ELEMENTS {
             return self.raise(Fault::ArrayTooLong, at);
         }
-        match filled(self.context.alloc, *count as usize, value) {
-            Ok(values) => self.make(Make::Elements(values)),
+        match value.share() {
+            Ok(copy) => self.make(Make::Filled(*count as usize, copy)),
             Err(_) => self.over(Cut::Memory),
         }
     }
@@ -169,7 +169,7 @@ impl<'p, O: ThreadStore + Drop> Walker<'p, O> {
         ensures log { O.log self.new.store ≡ O.log self.old.store }
         ensures came { (depth : ℕ) → Comes self.old.context.steps (answering (table.Asks (thing_of thing) (doing act) (step_of behind thing)) at) self.old.context.program.now depth self.old.left self.old.left (O.log self.old.store) (O.log self.new.store) (O.private self.old.store) (O.private self.new.store) (outcome result self.new.value self.new.leave) }
     {
-        let came = self.ask(thing, act, at);
+        let came = self.ask_apart(thing, act, at);
         if is_left(came) {
             return came;
         }
@@ -284,11 +284,10 @@ impl<'p, O: ThreadStore + Drop> Walker<'p, O> {
         ensures log { O.log self.new.store ≡ O.log self.old.store }
         ensures came { CallsBuiltin self.old.context.steps self.old.context.program.now method (plain receiver.now) (plain arg ∷ []) at depth self.old.left self.new.left (O.log self.old.store) (O.private self.old.store) (O.private self.new.store) (outcome result self.new.value self.new.leave) }
     {
-        if is_collection(receiver) {
-            let args = [arg];
-            return self.call_any(receiver, method, args.as_slice(), at, depth);
+        match collection_of(receiver) {
+            Some(thing) => self.asked_value(thing, method, arg, at, depth),
+            None => self.operated(method, receiver, arg, at),
         }
-        self.operated(method, receiver, arg, at)
     }
 
     /// What came, where it is an array or a hash. No name finds a method of a class for it.
@@ -329,11 +328,11 @@ impl<'p, O: ThreadStore + Drop> Walker<'p, O> {
         if is_element(thing, method) {
             return self.element(thing, index, at);
         }
-        self.call_with(&Value::Ref(thing), method, Value::Int(index), at, depth)
+        self.asked_any(thing, method, Came::Int(index), at, depth)
     }
 
     /// The call of a built-in method of an array or a hash, with what came for its one argument.
-    #[inline(never)]
+    #[inline(always)]
     pub(super) fn asked_with(
         &mut self,
         thing: Ref,
@@ -352,11 +351,57 @@ impl<'p, O: ThreadStore + Drop> Walker<'p, O> {
     {
         match came {
             Came::Int(index) => self.asked_integer(thing, method, index, at, depth),
-            _ => {
-                let arg = self.take(came);
-                self.call_with(&Value::Ref(thing), method, arg, at, depth)
-            }
+            _ => self.asked_any(thing, method, came, at, depth),
         }
+    }
+
+    /// The same with any value that came.
+    #[inline(never)]
+    fn asked_any(
+        &mut self,
+        thing: Ref,
+        method: Option<Builtin>,
+        came: Came,
+        at: Span,
+        depth: u32,
+    ) -> Came
+        requires unended { has_end (O.log self.old.store).entries ≡ false }
+        requires came { is_left came ≡ false }
+        ensures base { self.new.base ≡ self.old.base }
+        ensures less { self.new.left ≤ self.old.left }
+        ensures context { self.new.context ≡ self.old.context }
+        ensures log { O.log self.new.store ≡ O.log self.old.store }
+        ensures came { CallsBuiltin self.old.context.steps self.old.context.program.now method (To (thing_of thing)) (value_of came self.old.value ∷ []) at depth self.old.left self.new.left (O.log self.old.store) (O.private self.old.store) (O.private self.new.store) (outcome result self.new.value self.new.leave) }
+    {
+        let arg = self.take(came);
+        self.asked_value(thing, method, arg, at, depth)
+    }
+
+    /// The same with a value. The element at an index and the value of a key are found beside the table of methods.
+    fn asked_value(
+        &mut self,
+        thing: Ref,
+        method: Option<Builtin>,
+        arg: Value,
+        at: Span,
+        depth: u32,
+    ) -> Came
+        requires unended { has_end (O.log self.old.store).entries ≡ false }
+        ensures base { self.new.base ≡ self.old.base }
+        ensures less { self.new.left ≤ self.old.left }
+        ensures context { self.new.context ≡ self.old.context }
+        ensures log { O.log self.new.store ≡ O.log self.old.store }
+        ensures came { CallsBuiltin self.old.context.steps self.old.context.program.now method (To (thing_of thing)) (plain arg ∷ []) at depth self.old.left self.new.left (O.log self.old.store) (O.private self.old.store) (O.private self.new.store) (outcome result self.new.value self.new.leave) }
+    {
+        if let Some(index) = index_for(thing, method, &arg) {
+            return self.element(thing, index, at);
+        }
+        let told = self.key_told(thing, method, &arg);
+        if is_told(told) {
+            return immediate(told);
+        }
+        let args = [arg];
+        self.call_any(&Value::Ref(thing), method, args.as_slice(), at, depth)
     }
 
     /// Gives an element of an array a value, and gives the value on.
@@ -380,6 +425,120 @@ impl<'p, O: ThreadStore + Drop> Walker<'p, O> {
             return came;
         }
         self.hand(last)
+    }
+
+    /// Gives an element of an array the value that came, and gives the value on.
+    #[inline(always)]
+    fn put_came(&mut self, array: Ref, index: i64, came: Came, at: Span) -> Came
+        requires unended { has_end (O.log self.old.store).entries ≡ false }
+        requires came { is_left came ≡ false }
+        ensures base { self.new.base ≡ self.old.base }
+        ensures left { self.new.left ≡ self.old.left }
+        ensures context { self.new.context ≡ self.old.context }
+        ensures log { O.log self.new.store ≡ O.log self.old.store }
+        ensures came { (depth : ℕ) → Comes self.old.context.steps (putting (thing_of array) index (value_of came self.old.value) at) self.old.context.program.now depth self.old.left self.old.left (O.log self.old.store) (O.log self.new.store) (O.private self.old.store) (O.private self.new.store) (outcome result self.new.value self.new.leave) }
+    {
+        if self
+            .store
+            .put_immediate(array.id, index, immediate_of(came))
+        {
+            return came;
+        }
+        let value = self.take(came);
+        self.put_own(array, index, value, at)
+    }
+
+    /// Gives an element of an array a value that nobody else has, and gives the value on.
+    #[inline(never)]
+    fn put_own(&mut self, array: Ref, index: i64, value: Value, at: Span) -> Came
+        requires unended { has_end (O.log self.old.store).entries ≡ false }
+        ensures base { self.new.base ≡ self.old.base }
+        ensures left { self.new.left ≡ self.old.left }
+        ensures context { self.new.context ≡ self.old.context }
+        ensures log { O.log self.new.store ≡ O.log self.old.store }
+        ensures came { (depth : ℕ) → Comes self.old.context.steps (putting (thing_of array) index (plain value) at) self.old.context.program.now depth self.old.left self.old.left (O.log self.old.store) (O.log self.new.store) (O.private self.old.store) (O.private self.new.store) (outcome result self.new.value self.new.leave) }
+    {
+        let Ok(copy) = value.share() else {
+            return self.over(Cut::Memory);
+        };
+        let came = self.ask(array, Act::Put(index, copy), at);
+        if is_left(came) {
+            return came;
+        }
+        self.hand(value)
+    }
+
+    /// Gives a key of a hash the value that came, and gives the value on.
+    #[inline(never)]
+    fn put_pair(&mut self, hash: Ref, key: Value, came: Came, at: Span) -> Came
+        requires unended { has_end (O.log self.old.store).entries ≡ false }
+        requires came { is_left came ≡ false }
+        ensures base { self.new.base ≡ self.old.base }
+        ensures left { self.new.left ≡ self.old.left }
+        ensures context { self.new.context ≡ self.old.context }
+        ensures log { O.log self.new.store ≡ O.log self.old.store }
+        ensures came { (depth : ℕ) → Comes self.old.context.steps (keeping (thing_of hash) (plain key) (value_of came self.old.value) at) self.old.context.program.now depth self.old.left self.old.left (O.log self.old.store) (O.log self.new.store) (O.private self.old.store) (O.private self.new.store) (outcome result self.new.value self.new.leave) }
+    {
+        let value = self.take(came);
+        let Ok(copy) = value.share() else {
+            return self.over(Cut::Memory);
+        };
+        let done = self.ask(hash, Act::KPut(key, copy), at);
+        if is_left(done) {
+            return done;
+        }
+        self.hand(value)
+    }
+
+    /// An assignment by the call of a method of an array or a hash, with an index or a key and the value that came.
+    #[inline(always)]
+    pub(super) fn stored(
+        &mut self,
+        thing: Ref,
+        method: Option<Builtin>,
+        index: Value,
+        came: Came,
+        at: Span,
+        depth: u32,
+    ) -> Came
+        requires unended { has_end (O.log self.old.store).entries ≡ false }
+        requires came { is_left came ≡ false }
+        ensures base { self.new.base ≡ self.old.base }
+        ensures less { self.new.left ≤ self.old.left }
+        ensures context { self.new.context ≡ self.old.context }
+        ensures log { O.log self.new.store ≡ O.log self.old.store }
+        ensures came { (name : List ℕ) → builtin_of name ≡ method → Comes self.old.context.steps (storing (deed self.old.context.program.now (To (thing_of thing)) name (plain index ∷ value_of came self.old.value ∷ []) None) (plain index ∷ value_of came self.old.value ∷ []) at) self.old.context.program.now depth self.old.left self.new.left (O.log self.old.store) (O.log self.new.store) (O.private self.old.store) (O.private self.new.store) (outcome result self.new.value self.new.leave) }
+    {
+        if let Some(place) = place_for(thing, method, &index) {
+            return self.put_came(thing, place, came, at);
+        }
+        if is_key_put(thing, method, &index) {
+            return self.put_pair(thing, index, came, at);
+        }
+        let value = self.take(came);
+        self.stored_any(thing, method, index, value, at, depth)
+    }
+
+    /// The same of any thing.
+    #[inline(never)]
+    fn stored_any(
+        &mut self,
+        thing: Ref,
+        method: Option<Builtin>,
+        index: Value,
+        value: Value,
+        at: Span,
+        depth: u32,
+    ) -> Came
+        requires unended { has_end (O.log self.old.store).entries ≡ false }
+        ensures base { self.new.base ≡ self.old.base }
+        ensures less { self.new.left ≤ self.old.left }
+        ensures context { self.new.context ≡ self.old.context }
+        ensures log { O.log self.new.store ≡ O.log self.old.store }
+        ensures came { (name : List ℕ) → builtin_of name ≡ method → Comes self.old.context.steps (storing (deed self.old.context.program.now (To (thing_of thing)) name (plain index ∷ plain value ∷ []) None) (plain index ∷ plain value ∷ []) at) self.old.context.program.now depth self.old.left self.new.left (O.log self.old.store) (O.log self.new.store) (O.private self.old.store) (O.private self.new.store) (outcome result self.new.value self.new.leave) }
+    {
+        let args = [index, value];
+        self.store_builtin(&Value::Ref(thing), method, args.as_slice(), at, depth)
     }
 
     /// An assignment by the call of a built-in method, whose value is the last argument.
@@ -428,6 +587,9 @@ impl<'p, O: ThreadStore + Drop> Walker<'p, O> {
         ensures log { O.log self.new.store ≡ O.log self.old.store }
         ensures came { Comes self.old.context.steps (writing_element (value_of came self.old.value) (plain receiver.now) (plain index) at) self.old.context.program.now depth self.old.left self.new.left (O.log self.old.store) (O.log self.new.store) (O.private self.old.store) (O.private self.new.store) (outcome result self.new.value self.new.leave) }
     {
+        if let Some(thing) = collection_of(receiver) {
+            return self.stored(thing, Some(Builtin::SetIndex), index, came, at, depth);
+        }
         let value = self.take(came);
         let Ok(copy) = value.share() else {
             return self.over(Cut::Memory);

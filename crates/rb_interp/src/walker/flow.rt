@@ -1,18 +1,19 @@
 // Branches, loops and bodies, and how they are left.
 
-ghost use Rattle.std.specs.Prelude.{◌≡◌, ◌≤◌, ◌<◌, true, false, ◌∷◌, length, map, Some};
+ghost use Rattle.std.specs.Prelude.{◌≡◌, ◌≤◌, ◌<◌, ℕ, true, false, ◌∷◌, length, map, Some};
 ghost use Rattle.std.specs.Option.{option_map};
+ghost use Rattle.rb_tree.specs.declared.span.NameId.{NameId};
 ghost use Rattle.rb_model.specs.Values.{Nil};
 ghost use Rattle.rb_model.specs.Log.{has_end};
-ghost use Rattle.rb_machine.specs.Control.{On, Then, Eval, Following, Looping, RightOfAnd, RightOfOr, Negate, Choose, ReturnOf};
+ghost use Rattle.rb_machine.specs.Control.{On, Then, Eval, Following, Looping, AssignTo, RightOfAnd, RightOfOr, Negate, Choose, ReturnOf};
 ghost use Rattle.rb_machine.specs.Begin.{begin_return};
 ghost use Rattle.rb_code.specs.Erase.{erase};
 ghost use Rattle.rb_code.specs.Resolved.{fits, every, if_some};
 ghost use Rattle.rb_interp.specs.Outcome.{is_left, outcome, Over};
-ghost use Rattle.rb_interp.specs.Carries.{Carries, Keeps, both, goes_on, loop_exit, call_exit, me_of};
+ghost use Rattle.rb_interp.specs.Carries.{Carries, Keeps, Unread, at_slot, both, goes_on, loop_exit, call_exit, me_of};
 
-use super::Walker;
-use crate::came::{Came, Leave, is_left};
+use super::{MAX_DEPTH, Walker};
+use crate::came::{Came, Cut, Leave, is_left};
 use rb_code::Code;
 use rb_model::{ThreadStore, Value};
 use rb_tree::Boxed;
@@ -21,6 +22,7 @@ use std::mem;
 impl<'p, O: ThreadStore + Drop> Walker<'p, O> {
     /// `first && second`
     #[cycle(walk)]
+    #[inline(always)]
     pub(super) fn both(
         &mut self,
         first: &'p Code,
@@ -50,6 +52,7 @@ impl<'p, O: ThreadStore + Drop> Walker<'p, O> {
 
     /// `first || second`
     #[cycle(walk)]
+    #[inline(always)]
     pub(super) fn either(
         &mut self,
         first: &'p Code,
@@ -79,6 +82,7 @@ impl<'p, O: ThreadStore + Drop> Walker<'p, O> {
 
     /// `!value`
     #[cycle(walk)]
+    #[inline(always)]
     pub(super) fn negate(&mut self, value: &'p Code, depth: u32, room: &mut [Value]) -> Came
         requires unended { has_end (O.log self.old.store).entries ≡ false }
         requires steps { self.old.left ≤ self.old.context.steps }
@@ -103,6 +107,7 @@ impl<'p, O: ThreadStore + Drop> Walker<'p, O> {
 
     /// A choice between two bodies.
     #[cycle(walk)]
+    #[inline(always)]
     pub(super) fn choose(
         &mut self,
         condition: &'p Code,
@@ -145,14 +150,90 @@ impl<'p, O: ThreadStore + Drop> Walker<'p, O> {
         ensures kept { Keeps self.old.context.script.now self.old.context.program.now (λ S. every (map (fits S) nodes.now)) self.old.base room.old room.new }
         ensures came { Carries self.old.context.script.now self.old.context.program.now self.old.context.steps (me_of self.old.context.me) (λ S. every (map (fits S) nodes.now)) (λ S k sc d n. On (Following Nil (map erase nodes.now)) k sc d n) self.old.base depth self.old.left self.new.left room.old room.new (O.log self.old.store) (O.log self.new.store) (O.private self.old.store) (O.private self.new.store) (outcome result self.new.value self.new.leave) }
     {
-        let mut came = Came::Nil;
-        'nodes: for node in nodes {
-            came = self.walk_here(node, depth, room);
+        let Some((last, before)) = nodes.split_last() else {
+            return Came::Nil;
+        };
+        'nodes: for node in before {
+            let came = self.statement(node, depth, room);
             if is_left(came) {
                 return came;
             }
         }
-        came
+        self.walk_here(last, depth, room)
+    }
+
+    /// The statements of a body whose value no one reads, one after another.
+    #[cycle(walk)]
+    #[inline(always)]
+    pub(super) fn passage(&mut self, nodes: &'p [Code], depth: u32, room: &mut [Value]) -> Came
+        requires unended { has_end (O.log self.old.store).entries ≡ false }
+        requires steps { self.old.left ≤ self.old.context.steps }
+        ensures base { self.new.base ≡ self.old.base }
+        ensures context { self.new.context ≡ self.old.context }
+        ensures room { length room.new ≡ length room.old }
+        ensures less { self.new.left ≤ self.old.left }
+        ensures unended { has_end (O.log self.new.store).entries ≡ false }
+        ensures kept { Keeps self.old.context.script.now self.old.context.program.now (λ S. every (map (fits S) nodes.now)) self.old.base room.old room.new }
+        ensures came { Unread result (outcome result self.new.value self.new.leave) (Carries self.old.context.script.now self.old.context.program.now self.old.context.steps (me_of self.old.context.me) (λ S. every (map (fits S) nodes.now)) (λ S k sc d n. On (Following Nil (map erase nodes.now)) k sc d n) self.old.base depth self.old.left self.new.left room.old room.new (O.log self.old.store) (O.log self.new.store) (O.private self.old.store) (O.private self.new.store)) }
+    {
+        'nodes: for node in nodes {
+            let came = self.statement(node, depth, room);
+            if is_left(came) {
+                return came;
+            }
+        }
+        Came::Nil
+    }
+
+    /// A statement whose value no one reads, as others follow it or a loop does. An assignment to a local keeps what came for the local alone.
+    #[cycle(walk)]
+    #[inline(always)]
+    fn statement(&mut self, code: &'p Code, depth: u32, room: &mut [Value]) -> Came
+        requires unended { has_end (O.log self.old.store).entries ≡ false }
+        requires steps { self.old.left ≤ self.old.context.steps }
+        ensures base { self.new.base ≡ self.old.base }
+        ensures context { self.new.context ≡ self.old.context }
+        ensures room { length room.new ≡ length room.old }
+        ensures less { self.new.left ≤ self.old.left }
+        ensures unended { has_end (O.log self.new.store).entries ≡ false }
+        ensures kept { Keeps self.old.context.script.now self.old.context.program.now (λ S. fits S code.now) self.old.base room.old room.new }
+        ensures came { Unread result (outcome result self.new.value self.new.leave) (Carries self.old.context.script.now self.old.context.program.now self.old.context.steps (me_of self.old.context.me) (λ S. fits S code.now) (λ S k sc d n. On (Eval (erase code.now)) k sc d n) self.old.base depth self.old.left self.new.left room.old room.new (O.log self.old.store) (O.log self.new.store) (O.private self.old.store) (O.private self.new.store)) }
+    {
+        match code {
+            Code::SetLocal(slot, _, value, _) => {
+                if self.left > 0 && depth < MAX_DEPTH {
+                    self.left -= 1;
+                    return self.keep_local(*slot, value.get(), depth + 1, room);
+                }
+                self.walk_here(code, depth, room)
+            }
+            _ => self.walk_here(code, depth, room),
+        }
+    }
+
+    /// An assignment to a local, which is not given on.
+    #[cycle(walk)]
+    #[inline(never)]
+    fn keep_local(&mut self, slot: u32, value: &'p Code, depth: u32, room: &mut [Value]) -> Came
+        requires unended { has_end (O.log self.old.store).entries ≡ false }
+        requires steps { self.old.left ≤ self.old.context.steps }
+        ensures base { self.new.base ≡ self.old.base }
+        ensures context { self.new.context ≡ self.old.context }
+        ensures room { length room.new ≡ length room.old }
+        ensures less { self.new.left ≤ self.old.left }
+        ensures unended { has_end (O.log self.new.store).entries ≡ false }
+        ensures kept { (name : NameId) → Keeps self.old.context.script.now self.old.context.program.now (at_slot slot name (λ S. fits S value.now)) self.old.base room.old room.new }
+        ensures came { (name : NameId) → Unread result (outcome result self.new.value self.new.leave) (Carries self.old.context.script.now self.old.context.program.now self.old.context.steps (me_of self.old.context.me) (at_slot slot name (λ S. fits S value.now)) (λ S k sc d n. On (Eval (erase value.now)) (Then (AssignTo name) ∷ k) sc d n) self.old.base depth self.old.left self.new.left room.old room.new (O.log self.old.store) (O.log self.new.store) (O.private self.old.store) (O.private self.new.store)) }
+    {
+        let came = self.evaluate_call(value, depth, room);
+        if is_left(came) {
+            return came;
+        }
+        if slot as usize >= room.len() {
+            return self.over(Cut::Memory);
+        }
+        self.move_to(slot as usize, came, room);
+        Came::Nil
     }
 
     /// A loop. It stands apart, so that what it needs in each turn has registers.
@@ -186,7 +267,7 @@ impl<'p, O: ThreadStore + Drop> Walker<'p, O> {
             if !self.is_true_now(came) {
                 return Came::Nil;
             }
-            let came = self.body(body, depth, room);
+            let came = self.passage(body, depth, room);
             if !self.goes_on(came) {
                 return self.out_of_loop(came);
             }

@@ -75,6 +75,7 @@ impl<'p, O: ThreadStore + Drop> Walker<'p, O> {
 
     /// Enters a method that was found with one argument.
     #[cycle(walk)]
+    #[inline(always)]
     pub(super) fn enter_with(
         &mut self,
         target: Target<'p>,

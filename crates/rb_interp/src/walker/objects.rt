@@ -14,7 +14,7 @@ ghost use Rattle.rb_interp.specs.Carries.{Carries, Keeps, made_by, me_of};
 ghost use Rattle.rb_interp.specs.Objects.{Asks, Fields, Creates, WritesField};
 
 use super::Walker;
-use crate::came::{Came, Cut, is_left};
+use crate::came::{Came, Cut, immediate, is_left, is_told};
 use rb_code::Code;
 use rb_model::{Act, Fault, Make, Ref, Reply, Sort, ThreadStore, Value};
 use rb_tree::{AssignOp, NameId, Span};
@@ -57,6 +57,19 @@ impl<'p, O: ThreadStore + Drop> Walker<'p, O> {
         }
     }
 
+    /// The same apart, where what is asked is known only then.
+    #[inline(never)]
+    pub(super) fn ask_apart(&mut self, thing: Ref, act: Act, at: Span) -> Came
+        requires unended { has_end (O.log self.old.store).entries ≡ false }
+        ensures base { self.new.base ≡ self.old.base }
+        ensures left { self.new.left ≡ self.old.left }
+        ensures context { self.new.context ≡ self.old.context }
+        ensures log { O.log self.new.store ≡ O.log self.old.store }
+        ensures came { Asks self.old.context.steps (me_of (Some thing)) (doing act) at self.old.left (O.log self.old.store) (O.private self.old.store) (O.private self.new.store) (outcome result self.new.value self.new.leave) }
+    {
+        self.ask(thing, act, at)
+    }
+
     /// Asks an array for the element at an index.
     #[inline(always)]
     pub(super) fn element(&mut self, array: Ref, index: i64, at: Span) -> Came
@@ -67,14 +80,31 @@ impl<'p, O: ThreadStore + Drop> Walker<'p, O> {
         ensures log { O.log self.new.store ≡ O.log self.old.store }
         ensures came { Asks self.old.context.steps (me_of (Some array)) (At index) at self.old.left (O.log self.old.store) (O.private self.old.store) (O.private self.new.store) (outcome result self.new.value self.new.leave) }
     {
+        let element = self.store.immediate_element(array.id, index);
+        if is_told(element) {
+            return immediate(element);
+        }
+        self.element_apart(array, index, at)
+    }
+
+    /// The same of any element.
+    #[inline(never)]
+    fn element_apart(&mut self, array: Ref, index: i64, at: Span) -> Came
+        requires unended { has_end (O.log self.old.store).entries ≡ false }
+        ensures base { self.new.base ≡ self.old.base }
+        ensures left { self.new.left ≡ self.old.left }
+        ensures context { self.new.context ≡ self.old.context }
+        ensures log { O.log self.new.store ≡ O.log self.old.store }
+        ensures came { Asks self.old.context.steps (me_of (Some array)) (At index) at self.old.left (O.log self.old.store) (O.private self.old.store) (O.private self.new.store) (outcome result self.new.value self.new.leave) }
+    {
         match self.store.element(array.id, index) {
             Some(value) => self.hand(value),
-            None => self.ask(array, Act::At(index), at),
+            None => self.ask_apart(array, Act::At(index), at),
         }
     }
 
     /// An instance variable of `self`.
-    #[inline(never)]
+    #[inline(always)]
     pub(super) fn field(&mut self, name: NameId, at: Span) -> Came
         requires unended { has_end (O.log self.old.store).entries ≡ false }
         ensures base { self.new.base ≡ self.old.base }
@@ -89,8 +119,21 @@ impl<'p, O: ThreadStore + Drop> Walker<'p, O> {
         }
     }
 
-    /// Writes the value that came to an instance variable of `self`, and gives it on.
+    /// The same apart.
     #[inline(never)]
+    pub(super) fn field_apart(&mut self, name: NameId, at: Span) -> Came
+        requires unended { has_end (O.log self.old.store).entries ≡ false }
+        ensures base { self.new.base ≡ self.old.base }
+        ensures left { self.new.left ≡ self.old.left }
+        ensures context { self.new.context ≡ self.old.context }
+        ensures log { O.log self.new.store ≡ O.log self.old.store }
+        ensures came { Asks self.old.context.steps (me_of self.old.context.me) (GetField name) at self.old.left (O.log self.old.store) (O.private self.old.store) (O.private self.new.store) (outcome result self.new.value self.new.leave) }
+    {
+        self.field(name, at)
+    }
+
+    /// Writes the value that came to an instance variable of `self`, and gives it on.
+    #[inline(always)]
     pub(super) fn write_field(&mut self, name: NameId, came: Came, at: Span) -> Came
         requires unended { has_end (O.log self.old.store).entries ≡ false }
         requires came { is_left came ≡ false }
@@ -150,6 +193,7 @@ impl<'p, O: ThreadStore + Drop> Walker<'p, O> {
 
     /// An assignment to an instance variable.
     #[cycle(walk)]
+    #[inline(always)]
     pub(super) fn set_field(
         &mut self,
         name: NameId,
@@ -177,6 +221,7 @@ impl<'p, O: ThreadStore + Drop> Walker<'p, O> {
 
     /// An assignment with an operator to an instance variable.
     #[cycle(walk)]
+    #[inline(always)]
     pub(super) fn update_field(
         &mut self,
         name: NameId,

@@ -12,7 +12,7 @@ ghost use Rattle.rb_builtin.specs.Names.{builtin_of};
 ghost use Rattle.rb_builtin.specs.Integers as integers;
 ghost use Rattle.rb_interp.specs.Outcome.{end_by, is_left, value_of, outcome, Gave, Over};
 ghost use Rattle.rb_interp.specs.Carries.{Shows, me_of};
-ghost use Rattle.rb_interp.specs.Answers.{OrMemory, Writes, outcome_of};
+ghost use Rattle.rb_interp.specs.Answers.{OrMemory, Passed, Writes, outcome_of};
 ghost use Rattle.rb_interp.specs.Texts.{ShowsBytes, is_text};
 
 use super::Walker;
@@ -242,6 +242,38 @@ impl<'p, O: ThreadStore + Drop> Walker<'p, O> {
                 room[slot as usize] = self.take(came);
                 came
             }
+        }
+    }
+
+    /// Moves the value that came into a slot.
+    #[inline(always)]
+    pub(super) fn move_to(&mut self, slot: usize, came: Came, room: &mut [Value])
+        requires within { slot < length room.old }
+        ensures passed { Passed slot (value_of came self.old.value) room.old room.new }
+        ensures base { self.new.base ≡ self.old.base }
+        ensures left { self.new.left ≡ self.old.left }
+        ensures context { self.new.context ≡ self.old.context }
+        ensures store { self.new.store ≡ self.old.store }
+    {
+        match came {
+            Came::Int(n) => put(room, slot, n),
+            _ => self.move_any(slot, came, room),
+        }
+    }
+
+    /// Moves any value that came into a slot.
+    #[inline(never)]
+    fn move_any(&mut self, slot: usize, came: Came, room: &mut [Value])
+        requires within { slot < length room.old }
+        ensures passed { Passed slot (value_of came self.old.value) room.old room.new }
+        ensures base { self.new.base ≡ self.old.base }
+        ensures left { self.new.left ≡ self.old.left }
+        ensures context { self.new.context ≡ self.old.context }
+        ensures store { self.new.store ≡ self.old.store }
+    {
+        match came {
+            Came::Other => mem::swap(&mut room[slot], &mut self.value),
+            _ => room[slot] = self.take(came),
         }
     }
 

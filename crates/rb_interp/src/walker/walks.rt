@@ -25,6 +25,7 @@ use rb_model::{Act, Make, Ref, Reply, ThreadStore, Value};
 use rb_tree::Span;
 
 /// The second value that a walk gives its block: the index, or nil where it gives none.
+#[inline(always)]
 fn second_value(pass: Pass, index: u32) -> Value
     ensures { plain result ≡ second_value pass index }
 {
@@ -139,6 +140,7 @@ impl<'p, O: ThreadStore + Drop> Walker<'p, O> {
     }
 
     /// Whether the value that came is an integer above a place.
+    #[inline(always)]
     fn is_above(&self, came: Came, place: u32) -> bool
         ensures { is_left came ≡ false → result ≡ is_below place (value_of came self.now.value) }
     {
@@ -153,6 +155,7 @@ impl<'p, O: ThreadStore + Drop> Walker<'p, O> {
     }
 
     /// The element of an array at the next place of a walk; none behind the last. The length is asked before.
+    #[inline(always)]
     fn next_element(&mut self, array: Ref, next: u32, at: Span) -> Option<Came>
         requires unended { has_end (O.log self.old.store).entries ≡ false }
         ensures some { IfSome result (λ came. FindsElement self.old.context.steps array next at self.old.left (O.log self.old.store) (O.private self.old.store) (O.private self.new.store) came (outcome came self.new.value self.new.leave)) }

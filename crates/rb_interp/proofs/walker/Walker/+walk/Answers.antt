@@ -13,11 +13,13 @@ use Rattle.rb_code.specs.Erase.{erase, erase_piece, erase_block, erase_method}
 use Rattle.rb_code.specs.Resolved.{fits, every, if_some, block_fits}
 use Rattle.rb_code.proofs.Showing.{shows-array, shows-hash, shows-new_builtin, shows-nil, shows-false, shows-true, shows-self_ref, shows-field, shows-set_field, shows-update_field, shows-new, shows-start, shows-own, shows-int, shows-sym, shows-local, shows-and, shows-or, shows-not, shows-if, shows-break, shows-next, shows-set_local, shows-while, shows-return, shows-str, shows-update_local, shows-update_element, shows-update_attribute, shows-store, shows-operate, shows-send, shows-walk, shows-function, shows-print}
 use Rattle.rb_code.proofs.Fitting.{fits-array, fits-hash, fits-new_builtin, fits-local, fits-set_field, fits-update_field, fits-new, fits-own, fits-and, fits-or, fits-not, fits-if, fits-set_local, fits-while, fits-return, fits-str, fits-update_local, fits-update_element, fits-update_attribute, fits-store, fits-operate, fits-send, fits-walk, fits-function, fits-print}
-use Rattle.rb_interp.specs.Outcome.{is_left, value_of, outcome}
+use Rattle.rb_interp.specs.Outcome.{Gave, is_left, value_of, outcome}
 use Rattle.rb_interp.proofs.Moves.{gives, test_true, test_false, on, same, begins, follows, counts, too_many, too_deep, left}
-use Rattle.rb_interp.proofs.Lists.{never, two, fst, snd, next_item, len_set, len_map, len_args, get_set, fst_two, nothing, front, there}
-use Rattle.rb_interp.proofs.Rooms.{sub, moved, every_item, lies, frame_back, room_beyond}
-use Rattle.rb_interp.proofs.Outcomes.{gave, given, comes, passes, gone, again, again_out, tested_again, tested_out, called, turn_too_many, turns_end}
+use Rattle.rb_interp.proofs.Immediates.{reads_element, told_value}
+use Rattle.rb_interp.specs.Answers.{wrote}
+use Rattle.rb_interp.proofs.Lists.{at_end, in_front, two_items, no_items, none_behind, never, two, fst, snd, next_item, len_set, len_map, len_args, get_set, fst_two, nothing, front, there}
+use Rattle.rb_interp.proofs.Rooms.{args_fit, sub, moved, every_item, lies, frame_back, room_beyond}
+use Rattle.rb_interp.proofs.Outcomes.{stopped_left, again_unread, statements_end, gave, given, comes, passes, gone, again, again_out, tested_again, tested_out, called, turn_too_many, turns_end}
 use Rattle.rb_interp.proofs.Steps.{and_goes, and_stops, or_goes, or_stops, negated, chosen_first, chosen_second, assigned, kept_write}
 use Rattle.rb_machine.specs.Scopes.{text_of}
 use Rattle.rb_builtin.specs.Names.{builtin_of}
@@ -108,43 +110,43 @@ pub begin_other-returns-in-Next-clause-came : goal.begin_other-returns-in-Next-c
 begin_other-returns-in-Next-clause-came g m c = λ S start k names size st e l a.
     begins _ _ k _ _ _ (shows-next c.args.code.now c.in-Next.field-0 c.in-Next.is) a
 
-pub begin_other-returns-in-And-clause-kept : goal.begin_other-returns-in-And-clause-kept
-begin_other-returns-in-And-clause-kept g m c = λ S names size st e l i p q.
+pub begin_logic-returns-in-And-clause-kept : goal.begin_logic-returns-in-And-clause-kept
+begin_logic-returns-in-And-clause-kept g m c = λ S names size st e l i p q.
     let x = c.in-And in
     let s = sym (ap (λ d. fits S d names size) x.is ∙ fits-and S names size x.first x.second x.field-2) ∙ l.fits in
-    let under = sub _ l (rw (c.get-in-And.ensures, c.get-in-And-2.ensures) s) in
+    let under = sub _ l (rw (c.get.ensures, c.get-in-And.ensures) s) in
     c.both.ensures.kept S names size st e under i p q
 
-pub begin_other-returns-in-And-clause-came : goal.begin_other-returns-in-And-clause-came
-begin_other-returns-in-And-clause-came g m c = λ S start k names size st e l a.
+pub begin_logic-returns-in-And-clause-came : goal.begin_logic-returns-in-And-clause-came
+begin_logic-returns-in-And-clause-came g m c = λ S start k names size st e l a.
     let x = c.in-And in
     let s = sym (ap (λ d. fits S d names size) x.is ∙ fits-and S names size x.first x.second x.field-2) ∙ l.fits in
-    let under = sub _ l (rw (c.get-in-And.ensures, c.get-in-And-2.ensures) s) in
-    c.both.ensures.came S start k names size st e under (rw (c.get-in-And.ensures, c.get-in-And-2.ensures) (begins _ _ k _ _ _ (shows-and c.args.code.now x.first x.second x.field-2 x.is) a))
+    let under = sub _ l (rw (c.get.ensures, c.get-in-And.ensures) s) in
+    c.both.ensures.came S start k names size st e under (rw (c.get.ensures, c.get-in-And.ensures) (begins _ _ k _ _ _ (shows-and c.args.code.now x.first x.second x.field-2 x.is) a))
 
-pub begin_other-returns-in-Or-clause-kept : goal.begin_other-returns-in-Or-clause-kept
-begin_other-returns-in-Or-clause-kept g m c = λ S names size st e l i p q.
+pub begin_logic-returns-in-Or-clause-kept : goal.begin_logic-returns-in-Or-clause-kept
+begin_logic-returns-in-Or-clause-kept g m c = λ S names size st e l i p q.
     let x = c.in-Or in
     let s = sym (ap (λ d. fits S d names size) x.is ∙ fits-or S names size x.first x.second x.field-2) ∙ l.fits in
     let under = sub _ l (rw (c.get-in-Or.ensures, c.get-in-Or-2.ensures) s) in
     c.either.ensures.kept S names size st e under i p q
 
-pub begin_other-returns-in-Or-clause-came : goal.begin_other-returns-in-Or-clause-came
-begin_other-returns-in-Or-clause-came g m c = λ S start k names size st e l a.
+pub begin_logic-returns-in-Or-clause-came : goal.begin_logic-returns-in-Or-clause-came
+begin_logic-returns-in-Or-clause-came g m c = λ S start k names size st e l a.
     let x = c.in-Or in
     let s = sym (ap (λ d. fits S d names size) x.is ∙ fits-or S names size x.first x.second x.field-2) ∙ l.fits in
     let under = sub _ l (rw (c.get-in-Or.ensures, c.get-in-Or-2.ensures) s) in
     c.either.ensures.came S start k names size st e under (rw (c.get-in-Or.ensures, c.get-in-Or-2.ensures) (begins _ _ k _ _ _ (shows-or c.args.code.now x.first x.second x.field-2 x.is) a))
 
-pub begin_other-returns-in-Not-clause-kept : goal.begin_other-returns-in-Not-clause-kept
-begin_other-returns-in-Not-clause-kept g m c = λ S names size st e l i p q.
+pub begin_logic-returns-in-Not-clause-kept : goal.begin_logic-returns-in-Not-clause-kept
+begin_logic-returns-in-Not-clause-kept g m c = λ S names size st e l i p q.
     let x = c.in-Not in
     let s = sym (ap (λ d. fits S d names size) x.is ∙ fits-not S names size x.value x.field-1) ∙ l.fits in
     let under = sub _ l (rw c.get-in-Not.ensures s) in
     c.negate.ensures.kept S names size st e under i p q
 
-pub begin_other-returns-in-Not-clause-came : goal.begin_other-returns-in-Not-clause-came
-begin_other-returns-in-Not-clause-came g m c = λ S start k names size st e l a.
+pub begin_logic-returns-in-Not-clause-came : goal.begin_logic-returns-in-Not-clause-came
+begin_logic-returns-in-Not-clause-came g m c = λ S start k names size st e l a.
     let x = c.in-Not in
     let s = sym (ap (λ d. fits S d names size) x.is ∙ fits-not S names size x.value x.field-1) ∙ l.fits in
     let under = sub _ l (rw c.get-in-Not.ensures s) in
@@ -316,63 +318,276 @@ choose-returns-clause-kept g m c = λ S names size st e l i p q.
     let f = rw w.ensures.context at c.body-2.ensures.kept in
     f S names size st e under i p (omega (arith, q, w.ensures.base)) ∙ w.ensures.kept S names size st e (sub (fits S c.args.condition.now) l (fst _ _ l.fits)) i p q
 
+pub body-returns-in_default-clause-came : goal.body-returns-in_default-clause-came
+body-returns-in_default-clause-came g m c = λ S start k names size st e l a.
+    on _ (follows [] (sym (ap (map erase) (no_items _ (rw c.in_default.is at c.split_last.ensures.cases)))) a) refl
+
 pub body-returns-then-is_left-clause-kept : goal.body-returns-then-is_left-clause-kept
 body-returns-then-is_left-clause-kept g m c = λ S names size st e l i p q.
     let loop = c.nodes in
     let inv = loop.invariant in
-    let item = next_item _ _ c.node-item.result c.nodes-test.true c.node-item.is in
-    let right = every_item S _ _ c.node-item.result names size c.nodes-test.true c.node-item.is l.fits in
+    let whole = rw c.in-Some.is at c.split_last.ensures.cases in
+    let short = in_front c.in-Some.before.now c.in-Some.last.now c.node-item.result loop.node-index whole c.nodes-test.true c.node-item.is in
+    let right = every_item S _ _ c.node-item.result names size short.0 short.1 l.fits in
     let under = moved _ _ inv.base inv.room (sub (fits S c.node-item.result) l right) in
-    let f = rw inv.context at c.walk_here-came.ensures.kept in
+    let f = rw inv.context at c.statement-came.ensures.kept in
     f S names size st e under i p (omega (arith, q, inv.base)) ∙ inv.kept S names size st e l i p q
 
 pub body-returns-then-is_left-clause-came : goal.body-returns-then-is_left-clause-came
 body-returns-then-is_left-clause-came g m c = λ S start k names size st e l a.
     let loop = c.nodes in
     let inv = loop.invariant in
-    let item = next_item _ _ c.node-item.result c.nodes-test.true c.node-item.is in
-    let right = every_item S _ _ c.node-item.result names size c.nodes-test.true c.node-item.is l.fits in
+    let whole = rw c.in-Some.is at c.split_last.ensures.cases in
+    let short = in_front c.in-Some.before.now c.in-Some.last.now c.node-item.result loop.node-index whole c.nodes-test.true c.node-item.is in
+    let item = next_item _ _ c.node-item.result short.0 short.1 in
+    let right = every_item S _ _ c.node-item.result names size short.0 short.1 l.fits in
     let under = moved _ _ inv.base inv.room (sub (fits S c.node-item.result) l right) in
-    let h1 = on _ (follows _ (sym (ap (map erase) item)) (inv.came S start k names size st e l a)) refl in
-    let f = rw inv.context at c.walk_here-came.ensures.came in
-    let come = f S start (Then (Rest (map erase (drop (loop.node-index + 1) c.args.nodes.now))) ∷ k) names size st e under h1 in
-    passes S _ start _ c.walk_here-came.result c.walk_here-came.new.self.value c.walk_here-came.new.self.leave _ (Rest (map erase (drop (loop.node-index + 1) c.args.nodes.now))) k _ _ _ (sym c.is_left.ensures ∙ c.if-is_left.true) come
+    let h1 = on _ (follows _ (sym (ap (map erase) item)) (inv.came.1 S start k names size st e l a)) refl in
+    let gone = sym c.is_left.ensures ∙ c.if-is_left.true in
+    let f = rw inv.context at (c.statement-came.ensures.came.0 gone) in
+    let rest = Rest (map erase (drop (loop.node-index + 1) c.args.nodes.now)) in
+    let come = f S start (Then rest ∷ k) names size st e under h1 in
+    passes S _ start _ c.statement-came.result c.statement-came.new.self.value c.statement-came.new.self.leave _ rest k _ _ _ gone come
+
+pub body-returns-clause-kept : goal.body-returns-clause-kept
+body-returns-clause-kept g m c = λ S names size st e l i p q.
+    let loop = c.nodes in
+    let inv = loop.invariant in
+    let whole = rw c.in-Some.is at c.split_last.ensures.cases in
+    let short = at_end c.in-Some.before.now c.in-Some.last.now whole in
+    let right = every_item S _ _ c.in-Some.last.now names size short.0 short.1 l.fits in
+    let under = moved _ _ inv.base inv.room (sub (fits S c.in-Some.last.now) l right) in
+    let f = rw inv.context at c.walk_here.ensures.kept in
+    f S names size st e under i p (omega (arith, q, inv.base)) ∙ inv.kept S names size st e l i p q
 
 pub body-returns-clause-came : goal.body-returns-clause-came
 body-returns-clause-came g m c = λ S start k names size st e l a.
-    let inv = c.nodes.invariant in
-    comes S _ start _ _ k _ _ _ _ _ (gave _ _ _ inv.going) (on _ (follows [] (sym (ap (map erase) (drop_all _ _ c.nodes-test.false))) (inv.came S start k names size st e l a)) refl)
+    let loop = c.nodes in
+    let inv = loop.invariant in
+    let whole = rw c.in-Some.is at c.split_last.ensures.cases in
+    let short = at_end c.in-Some.before.now c.in-Some.last.now whole in
+    let there : loop.node-index ≡ length c.in-Some.before.now = omega (arith, c.nodes-test.false, loop.auto.node-index-end) in
+    let item = next_item _ _ c.in-Some.last.now short.0 short.1 in
+    let right = every_item S _ _ c.in-Some.last.now names size short.0 short.1 l.fits in
+    let under = moved _ _ inv.base inv.room (sub (fits S c.in-Some.last.now) l right) in
+    let from = rw there at (inv.came.1 S start k names size st e l a) in
+    let h1 = on _ (follows _ (sym (ap (map erase) item)) from) refl in
+    let f = rw inv.context at c.walk_here.ensures.came in
+    let none : map erase (drop (length c.in-Some.before.now + 1) c.args.nodes.now) ≡ [] = ap (map erase) (drop_all _ _ (none_behind c.in-Some.before.now c.in-Some.last.now whole)) in
+    let come = f S start (Then (Rest (map erase (drop (length c.in-Some.before.now + 1) c.args.nodes.now))) ∷ k) names size st e under h1 in
+    statements_end S _ start _ _ _ k _ _ _ (rw none at come)
+
+pub body-nodes-init : goal.body-nodes-init
+body-nodes-init g m c = record {
+  base = refl;
+  context = refl;
+  room = refl;
+  less = omega arith;
+  unended = c.requires.unended;
+  kept = λ S names size st e l i p q. refl;
+  came = (Nil, λ S start k names size st e l a. a);
+}
 
 pub body-nodes-preserved : goal.body-nodes-preserved
 body-nodes-preserved g m c =
-    let w = c.walk_here-came.ensures in
+    let w = c.statement-came.ensures in
     let old = c.nodes.invariant in
+    let whole = rw c.in-Some.is at c.split_last.ensures.cases in
+    let short = in_front c.in-Some.before.now c.in-Some.last.now c.node-item.result c.nodes.node-index whole c.nodes-test.true c.node-item.is in
+    let some = w.came.1 (sym c.is_left.ensures ∙ c.if-is_left.false) in
     record {
       base = w.base ∙ old.base;
       context = w.context ∙ old.context;
       room = w.room ∙ old.room;
       less = omega (arith, w.less, old.less);
       unended = w.unended;
-      going = sym c.is_left.ensures ∙ c.if-is_left.false;
       kept = λ S names size st e l i p q.
           let loop = c.nodes in
           let inv = loop.invariant in
-          let item = next_item _ _ c.node-item.result c.nodes-test.true c.node-item.is in
-          let right = every_item S _ _ c.node-item.result names size c.nodes-test.true c.node-item.is l.fits in
+          let right = every_item S _ _ c.node-item.result names size short.0 short.1 l.fits in
           let under = moved _ _ inv.base inv.room (sub (fits S c.node-item.result) l right) in
-          let f = rw inv.context at c.walk_here-came.ensures.kept in
+          let f = rw inv.context at c.statement-came.ensures.kept in
           f S names size st e under i p (omega (arith, q, inv.base)) ∙ inv.kept S names size st e l i p q;
-      came = λ S start k names size st e l a.
+      came = (
+        some.0,
+        λ S start k names size st e l a.
+            let loop = c.nodes in
+            let inv = loop.invariant in
+            let item = next_item _ _ c.node-item.result short.0 short.1 in
+            let right = every_item S _ _ c.node-item.result names size short.0 short.1 l.fits in
+            let under = moved _ _ inv.base inv.room (sub (fits S c.node-item.result) l right) in
+            let h1 = on _ (follows _ (sym (ap (map erase) item)) (inv.came.1 S start k names size st e l a)) refl in
+            let f = rw inv.context at some.1 in
+            on _ (f S start (Then (Rest (map erase (drop (loop.node-index + 1) c.args.nodes.now))) ∷ k) names size st e under h1) refl,
+      );
+    }
+
+pub passage-returns-then-is_left-clause-kept : goal.passage-returns-then-is_left-clause-kept
+passage-returns-then-is_left-clause-kept g m c = λ S names size st e l i p q.
+    let loop = c.nodes in
+    let inv = loop.invariant in
+    let right = every_item S _ _ c.node-item.result names size c.nodes-test.true c.node-item.is l.fits in
+    let under = moved _ _ inv.base inv.room (sub (fits S c.node-item.result) l right) in
+    let f = rw inv.context at c.statement-came.ensures.kept in
+    f S names size st e under i p (omega (arith, q, inv.base)) ∙ inv.kept S names size st e l i p q
+
+pub passage-returns-then-is_left-clause-came : goal.passage-returns-then-is_left-clause-came
+passage-returns-then-is_left-clause-came g m c =
+    let gone = sym c.is_left.ensures ∙ c.if-is_left.true in
+    only_left _ gone (λ S start k names size st e l a.
+    let loop = c.nodes in
+    let inv = loop.invariant in
+    let item = next_item _ _ c.node-item.result c.nodes-test.true c.node-item.is in
+    let right = every_item S _ _ c.node-item.result names size c.nodes-test.true c.node-item.is l.fits in
+    let under = moved _ _ inv.base inv.room (sub (fits S c.node-item.result) l right) in
+    let h1 = on _ (follows _ (sym (ap (map erase) item)) (inv.came.1 S start k names size st e l a)) refl in
+    let f = rw inv.context at (c.statement-came.ensures.came.0 gone) in
+    let rest = Rest (map erase (drop (loop.node-index + 1) c.args.nodes.now)) in
+    let come = f S start (Then rest ∷ k) names size st e under h1 in
+    passes S _ start _ c.statement-came.result c.statement-came.new.self.value c.statement-came.new.self.leave _ rest k _ _ _ gone come)
+
+pub passage-returns-clause-kept : goal.passage-returns-clause-kept
+passage-returns-clause-kept g m c = c.nodes.invariant.kept
+
+pub passage-returns-clause-came : goal.passage-returns-clause-came
+passage-returns-clause-came g m c =
+    let loop = c.nodes in
+    let inv = loop.invariant in
+    let over : length c.args.nodes.now ≤ loop.node-index = omega (arith, c.nodes-test.false) in
+    let none : map erase (drop loop.node-index c.args.nodes.now) ≡ [] = ap (map erase) (drop_all _ _ over) in
+    only_came _ refl (
+      inv.came.0,
+      λ S start k names size st e l a. on _ (follows [] (sym none) (inv.came.1 S start k names size st e l a)) refl,
+    )
+
+pub passage-nodes-init : goal.passage-nodes-init
+passage-nodes-init g m c = record {
+  base = refl;
+  context = refl;
+  room = refl;
+  less = omega arith;
+  unended = c.requires.unended;
+  kept = λ S names size st e l i p q. refl;
+  came = (Nil, λ S start k names size st e l a. a);
+}
+
+pub passage-nodes-preserved : goal.passage-nodes-preserved
+passage-nodes-preserved g m c =
+    let w = c.statement-came.ensures in
+    let old = c.nodes.invariant in
+    let some = w.came.1 (sym c.is_left.ensures ∙ c.if-is_left.false) in
+    record {
+      base = w.base ∙ old.base;
+      context = w.context ∙ old.context;
+      room = w.room ∙ old.room;
+      less = omega (arith, w.less, old.less);
+      unended = w.unended;
+      kept = λ S names size st e l i p q.
           let loop = c.nodes in
           let inv = loop.invariant in
-          let item = next_item _ _ c.node-item.result c.nodes-test.true c.node-item.is in
           let right = every_item S _ _ c.node-item.result names size c.nodes-test.true c.node-item.is l.fits in
           let under = moved _ _ inv.base inv.room (sub (fits S c.node-item.result) l right) in
-          let h1 = on _ (follows _ (sym (ap (map erase) item)) (inv.came S start k names size st e l a)) refl in
-          let f = rw inv.context at c.walk_here-came.ensures.came in
-          let come = f S start (Then (Rest (map erase (drop (loop.node-index + 1) c.args.nodes.now))) ∷ k) names size st e under h1 in
-          on _ (given c.walk_here-came.result c.walk_here-came.new.self.value c.walk_here-came.new.self.leave (sym c.is_left.ensures ∙ c.if-is_left.false) come) refl;
+          let f = rw inv.context at c.statement-came.ensures.kept in
+          f S names size st e under i p (omega (arith, q, inv.base)) ∙ inv.kept S names size st e l i p q;
+      came = (
+        some.0,
+        λ S start k names size st e l a.
+            let loop = c.nodes in
+            let inv = loop.invariant in
+            let item = next_item _ _ c.node-item.result c.nodes-test.true c.node-item.is in
+            let right = every_item S _ _ c.node-item.result names size c.nodes-test.true c.node-item.is l.fits in
+            let under = moved _ _ inv.base inv.room (sub (fits S c.node-item.result) l right) in
+            let h1 = on _ (follows _ (sym (ap (map erase) item)) (inv.came.1 S start k names size st e l a)) refl in
+            let f = rw inv.context at some.1 in
+            on _ (f S start (Then (Rest (map erase (drop (loop.node-index + 1) c.args.nodes.now))) ∷ k) names size st e under h1) refl,
+      );
     }
+
+pub statement-returns-then-depth-lt-MAX_DEPTH-clause-kept : goal.statement-returns-then-depth-lt-MAX_DEPTH-clause-kept
+statement-returns-then-depth-lt-MAX_DEPTH-clause-kept g m c = λ S names size st e l i p q.
+    let x = c.in-SetLocal in
+    let s = sym (ap (λ d. fits S d names size) x.is ∙ fits-set_local S names size x.slot x.field-1 x.value x.field-3) ∙ l.fits in
+    let under = sub _ l (rw c.get.ensures s) in
+    c.keep_local.ensures.kept x.field-1 S names size st e under i p q
+
+pub statement-returns-then-depth-lt-MAX_DEPTH-clause-came : goal.statement-returns-then-depth-lt-MAX_DEPTH-clause-came
+statement-returns-then-depth-lt-MAX_DEPTH-clause-came g m c =
+    let x = c.in-SetLocal in
+    let y = c.keep_local.ensures.came x.field-1 in (
+      λ gone S start k names size st e l a.
+          let s = sym (ap (λ d. fits S d names size) x.is ∙ fits-set_local S names size x.slot x.field-1 x.value x.field-3) ∙ l.fits in
+          let under = sub _ l (rw c.get.ensures s) in
+          let b = begins _ _ (Under c.args.depth ∷ k) _ _ _ (shows-set_local c.args.code.now x.slot x.field-1 x.value x.field-3 x.is) (counts c.if-self-gt0.true c.if-depth-lt-MAX_DEPTH.true a) in
+          left S _ start _ _ _ k _ _ _ _ (y.0 gone S start (Under c.args.depth ∷ k) names size st e under (rw c.get.ensures b)),
+      λ none.
+          let some = y.1 none in (
+            some.0,
+            λ S start k names size st e l a.
+                let s = sym (ap (λ d. fits S d names size) x.is ∙ fits-set_local S names size x.slot x.field-1 x.value x.field-3) ∙ l.fits in
+                let under = sub _ l (rw c.get.ensures s) in
+                let b = begins _ _ (Under c.args.depth ∷ k) _ _ _ (shows-set_local c.args.code.now x.slot x.field-1 x.value x.field-3 x.is) (counts c.if-self-gt0.true c.if-depth-lt-MAX_DEPTH.true a) in
+                on _ (some.1 S start (Under c.args.depth ∷ k) names size st e under (rw c.get.ensures b)) refl,
+          ),
+    )
+
+pub statement-returns-else-self-gt0-clause-kept : goal.statement-returns-else-self-gt0-clause-kept
+statement-returns-else-self-gt0-clause-kept g m c = c.walk_here.ensures.kept
+
+pub statement-returns-else-self-gt0-clause-came : goal.statement-returns-else-self-gt0-clause-came
+statement-returns-else-self-gt0-clause-came g m c =
+    let w = c.walk_here in
+    (λ gone. w.ensures.came, λ none. (value_of w.result w.new.self.value, λ S start k names size st e l a. given w.result w.new.self.value w.new.self.leave none (w.ensures.came S start k names size st e l a)))
+
+pub statement-returns-in_default-clause-kept : goal.statement-returns-in_default-clause-kept
+statement-returns-in_default-clause-kept g m c = c.walk_here-in_default.ensures.kept
+
+pub statement-returns-in_default-clause-came : goal.statement-returns-in_default-clause-came
+statement-returns-in_default-clause-came g m c =
+    let w = c.walk_here-in_default in
+    (λ gone. w.ensures.came, λ none. (value_of w.result w.new.self.value, λ S start k names size st e l a. given w.result w.new.self.value w.new.self.leave none (w.ensures.came S start k names size st e l a)))
+
+pub keep_local-returns-then-is_left-clause-kept : goal.keep_local-returns-then-is_left-clause-kept
+keep_local-returns-then-is_left-clause-kept g m c = λ name S names size st e l i p q. c.evaluate_call-came.ensures.kept S names size st e (sub (fits S c.args.value.now) l (snd _ _ l.fits)) i p q
+
+pub keep_local-returns-then-is_left-clause-came : goal.keep_local-returns-then-is_left-clause-came
+keep_local-returns-then-is_left-clause-came g m c = λ name.
+    let w = c.evaluate_call-came in
+    let gone = sym c.is_left.ensures ∙ c.if-is_left.true in
+    only_left _ gone (λ S start k names size st e l a.
+    let came = w.ensures.came S start (Then (AssignTo name) ∷ k) names size st e (sub (fits S c.args.value.now) l (snd _ _ l.fits)) a in
+    passes S _ start _ w.result w.new.self.value w.new.self.leave _ (AssignTo name) k _ _ _ gone came)
+
+pub keep_local-returns-then-slot-room-clause-kept : goal.keep_local-returns-then-slot-room-clause-kept
+keep_local-returns-then-slot-room-clause-kept g m c = λ name S names size st e l i p q. c.evaluate_call-came.ensures.kept S names size st e (sub (fits S c.args.value.now) l (snd _ _ l.fits)) i p q
+
+pub keep_local-returns-then-slot-room-clause-came : goal.keep_local-returns-then-slot-room-clause-came
+keep_local-returns-then-slot-room-clause-came g m c = λ name.
+    let w = c.evaluate_call-came in
+    let o = c.over.ensures in
+    only_left _ (over_left c.over.result c.over.new.self.value c.over.new.self.leave _ o.gives) (λ S start k names size st e l a.
+    let came = w.ensures.came S start (Then (AssignTo name) ∷ k) names size st e (sub (fits S c.args.value.now) l (snd _ _ l.fits)) a in
+    let v = given w.result w.new.self.value w.new.self.leave (sym c.is_left.ensures ∙ c.if-is_left.false) came in
+    rw (o.gives, o.left, o.store) (_, v, refl))
+
+pub keep_local-returns-clause-kept : goal.keep_local-returns-clause-kept
+keep_local-returns-clause-kept g m c = λ name S names size st e l i p q.
+    let w = c.evaluate_call-came in
+    let t = c.move_to.ensures.passed in
+    let s = slot_within name names c.args.slot (fst _ _ l.fits) in
+    kept_write c.args.slot i _ _ _ _ (λ z. omega (arith, z, s, l.within, p)) (wrote t.0 t.1 t.2) ∙ w.ensures.kept S names size st e (sub (fits S c.args.value.now) l (snd _ _ l.fits)) i p q
+
+pub keep_local-returns-clause-came : goal.keep_local-returns-clause-came
+keep_local-returns-clause-came g m c = λ name.
+    let w = c.evaluate_call-came in
+    let t = c.move_to.ensures.passed in
+    only_came _ refl (
+      value_of w.result w.new.self.value,
+      λ S start k names size st e l a.
+          let come = w.ensures.came S start (Then (AssignTo name) ∷ k) names size st e (sub (fits S c.args.value.now) l (snd _ _ l.fits)) a in
+          let v = given w.result w.new.self.value w.new.self.leave (sym c.is_left.ensures ∙ c.if-is_left.false) come in
+          let len : length names ≤ length w.new.room = omega (arith, l.within, l.below, l.room, w.ensures.room) in
+          rw (c.move_to.ensures.left, c.move_to.ensures.store) (assigned name (AssignTo name) names c.args.slot w.new.room c.move_to.new.room (value_of w.result w.new.self.value) _ _ plainly len (fst _ _ l.fits) (wrote t.0 t.1 t.2) v),
+    )
 
 pub begin-returns-in-Local-clause-came : goal.begin-returns-in-Local-clause-came
 begin-returns-in-Local-clause-came g m c = λ S start k names size st e l a.
@@ -484,19 +699,19 @@ repeat-returns-then-not-goes_on-2-clause-came g m c = λ S start k names size st
     let none = sym c.is_left.ensures ∙ c.if-is_left.false in
     let v = given w.result w.new.self.value w.new.self.leave none e1 in
     let t = sym (c.is_true_now.ensures none) in
-    let y = c.body-came in
+    let y = c.passage-came in
     let within = moved _ _ (w.ensures.base ∙ inv.base) (w.ensures.room ∙ inv.room) (sub (every (map (fits S) c.args.body.now)) l (snd _ _ l.fits)) in
     let m1 = test_true (t ∙ c.if-not-is_true_now.false) v in
-    let j = rw (w.ensures.context, inv.context) at y.ensures.came in
-    let e2 = j S start (Again (erase c.args.condition.now) (map erase c.args.body.now) ∷ k) names size st e within m1 in
     let stop = sym c.goes_on-in-turns.ensures ∙ c.if-not-goes_on-2.true in
+    let j = rw (w.ensures.context, inv.context) at (y.ensures.came.0 (stopped_left _ _ _ stop)) in
+    let e2 = j S start (Again (erase c.args.condition.now) (map erase c.args.body.now) ∷ k) names size st e within m1 in
     rw (c.out_of_loop-then-not-goes_on-2.ensures stop) (again_out S _ start _ _ _ (erase c.args.condition.now) (map erase c.args.body.now) k _ _ _ stop e2)
 
 pub repeat-turns-preserved : goal.repeat-turns-preserved
 repeat-turns-preserved g m c =
     let w = c.evaluate_call-came.ensures in
     let old = c.turns.invariant in
-    let y = c.body-came.ensures in
+    let y = c.passage-came.ensures in
     record {
       base = y.base ∙ (w.base ∙ old.base);
       context = y.context ∙ (w.context ∙ old.context);
@@ -507,7 +722,7 @@ repeat-turns-preserved g m c =
           let inv = c.turns.invariant in
           let w = c.evaluate_call-came in
           let under = moved _ _ inv.base inv.room (sub (fits S c.args.condition.now) l (fst _ _ l.fits)) in
-          let y = c.body-came in
+          let y = c.passage-came in
           let within = moved _ _ (w.ensures.base ∙ inv.base) (w.ensures.room ∙ inv.room) (sub (every (map (fits S) c.args.body.now)) l (snd _ _ l.fits)) in
           let f = rw inv.context at w.ensures.kept in
           let j = rw (w.ensures.context, inv.context) at y.ensures.kept in
@@ -522,12 +737,14 @@ repeat-turns-preserved g m c =
           let none = sym c.is_left.ensures ∙ c.if-is_left.false in
           let v = given w.result w.new.self.value w.new.self.leave none e1 in
           let t = sym (c.is_true_now.ensures none) in
-          let y = c.body-came in
+          let y = c.passage-came in
           let within = moved _ _ (w.ensures.base ∙ inv.base) (w.ensures.room ∙ inv.room) (sub (every (map (fits S) c.args.body.now)) l (snd _ _ l.fits)) in
           let m1 = test_true (t ∙ c.if-not-is_true_now.false) v in
-          let j = rw (w.ensures.context, inv.context) at y.ensures.came in
-          let e2 = j S start (Again (erase c.args.condition.now) (map erase c.args.body.now) ∷ k) names size st e within m1 in
-          again S _ start _ _ _ (erase c.args.condition.now) (map erase c.args.body.now) k _ _ _ (sym c.goes_on-in-turns.ensures ∙ c.if-not-goes_on-2.false) e2;
+          let on_again = sym c.goes_on-in-turns.ensures ∙ c.if-not-goes_on-2.false in
+          let behind = Again (erase c.args.condition.now) (map erase c.args.body.now) ∷ k in
+          again_unread S _ start _ y.result y.new.self.value y.new.self.leave _ (erase c.args.condition.now) (map erase c.args.body.now) k _ _ _ on_again
+          (λ so. let j = rw (w.ensures.context, inv.context) at (y.ensures.came.0 so) in j S start behind names size st e within m1)
+          (λ so. let some = y.ensures.came.1 so in let j = rw (w.ensures.context, inv.context) at some.1 in (some.0, j S start behind names size st e within m1));
     }
 
 pub repeat-turns-preserved-then-is_left : goal.repeat-turns-preserved-then-is_left
@@ -665,17 +882,17 @@ pub arguments-returns-then-is_left-clause-kept : goal.arguments-returns-then-is_
 arguments-returns-then-is_left-clause-kept g m c = λ S names size st e l i p q.
     let loop = c.each in
     let inv = loop.invariant in
-    let w = c.evaluate-came in
+    let w = c.evaluate_call-came in
     let right = every_item S _ _ c.arg-item.result names size c.each-test.true c.arg-item.is l.fits in
     let under = lies (fits S c.arg-item.result) names size loop.self.base (length loop.room) right l.within (omega (arith, l.below, inv.base)) (inv.bound l.room) in
     let f = rw inv.context at w.ensures.kept in
     f S names size st e under i p (omega (arith, q, inv.base)) ∙ inv.kept S names size st e l i p q
 
-pub arguments-returns-then-self-room-clause-kept : goal.arguments-returns-then-self-room-clause-kept
-arguments-returns-then-self-room-clause-kept g m c = λ S names size st e l i p q.
+pub arguments-returns-then-self-room-2-clause-kept : goal.arguments-returns-then-self-room-2-clause-kept
+arguments-returns-then-self-room-2-clause-kept g m c = λ S names size st e l i p q.
     let loop = c.each in
     let inv = loop.invariant in
-    let w = c.evaluate-came in
+    let w = c.evaluate_call-came in
     let right = every_item S _ _ c.arg-item.result names size c.each-test.true c.arg-item.is l.fits in
     let under = lies (fits S c.arg-item.result) names size loop.self.base (length loop.room) right l.within (omega (arith, l.below, inv.base)) (inv.bound l.room) in
     let f = rw inv.context at w.ensures.kept in
@@ -685,7 +902,7 @@ pub arguments-returns-then-is_left-clause-came : goal.arguments-returns-then-is_
 arguments-returns-then-is_left-clause-came g m c = λ aim at S start k names size st e l a.
     let loop = c.each in
     let inv = loop.invariant in
-    let w = c.evaluate-came in
+    let w = c.evaluate_call-came in
     let right = every_item S _ _ c.arg-item.result names size c.each-test.true c.arg-item.is l.fits in
     let under = lies (fits S c.arg-item.result) names size loop.self.base (length loop.room) right l.within (omega (arith, l.below, inv.base)) (inv.bound l.room) in
     let item = next_item _ _ c.arg-item.result c.each-test.true c.arg-item.is in
@@ -697,11 +914,11 @@ arguments-returns-then-is_left-clause-came g m c = λ aim at S start k names siz
     let gone = sym c.is_left.ensures ∙ c.if-is_left.true in
     only_left _ gone (passes S _ start _ w.result w.new.self.value w.new.self.leave _ step k _ _ _ gone come)
 
-pub arguments-returns-then-self-room-clause-came : goal.arguments-returns-then-self-room-clause-came
-arguments-returns-then-self-room-clause-came g m c = λ aim at S start k names size st e l a.
+pub arguments-returns-then-self-room-2-clause-came : goal.arguments-returns-then-self-room-2-clause-came
+arguments-returns-then-self-room-2-clause-came g m c = λ aim at S start k names size st e l a.
     let loop = c.each in
     let inv = loop.invariant in
-    let w = c.evaluate-came in
+    let w = c.evaluate_call-came in
     let right = every_item S _ _ c.arg-item.result names size c.each-test.true c.arg-item.is l.fits in
     let under = lies (fits S c.arg-item.result) names size loop.self.base (length loop.room) right l.within (omega (arith, l.below, inv.base)) (inv.bound l.room) in
     let item = next_item _ _ c.arg-item.result c.each-test.true c.arg-item.is in
@@ -831,19 +1048,19 @@ begin_other-returns-in-UpdateAttribute-clause-came g m c = λ S start k names si
     let under = sub _ l (rw (c.get-in-UpdateAttribute.ensures, c.get-in-UpdateAttribute-2.ensures) s) in
     c.update_attribute.ensures.came S start k names size st e under (rw (c.get-in-UpdateAttribute.ensures, c.get-in-UpdateAttribute-2.ensures) (same (begins _ _ k _ _ _ (shows-update_attribute c.args.code.now x.number x.writer x.name x.receiver x.op x.value x.at x.is) a) (target_attribute S (erase x.receiver) x.name x.op (erase x.value) x.at k (scope_of (me_of c.args.self.now.context.me) names c.args.room.now) c.args.depth c.args.self.now.left)))
 
-pub begin_store-returns-in-Store-clause-kept : goal.begin_store-returns-in-Store-clause-kept
-begin_store-returns-in-Store-clause-kept g m c = λ S names size st e l i p q.
+pub begin_store-returns-after-self-gt0-clause-kept : goal.begin_store-returns-after-self-gt0-clause-kept
+begin_store-returns-after-self-gt0-clause-kept g m c = λ S names size st e l i p q.
     let x = c.in-Store in
     let s = sym (ap (λ d. fits S d names size) x.is ∙ fits-store S names size x.method x.receiver x.name x.args x.at) ∙ l.fits in
-    let under = sub _ l (rw (c.get.ensures, c.as_slice.ensures) s) in
+    let under = sub _ l (rw (c.get-receiver.ensures, c.as_slice-args.ensures) s) in
     c.store_by.ensures.kept S names size st e under i p q
 
-pub begin_store-returns-in-Store-clause-came : goal.begin_store-returns-in-Store-clause-came
-begin_store-returns-in-Store-clause-came g m c = λ S start k names size st e l a.
+pub begin_store-returns-after-self-gt0-clause-came : goal.begin_store-returns-after-self-gt0-clause-came
+begin_store-returns-after-self-gt0-clause-came g m c = λ S start k names size st e l a.
     let x = c.in-Store in
     let s = sym (ap (λ d. fits S d names size) x.is ∙ fits-store S names size x.method x.receiver x.name x.args x.at) ∙ l.fits in
-    let under = sub _ l (rw (c.get.ensures, c.as_slice.ensures) s) in
-    c.store_by.ensures.came S start k names size st e under (rw (c.get.ensures, c.as_slice.ensures) (begins _ _ k _ _ _ (shows-store c.args.code.now x.method x.receiver x.name x.args x.at x.is) a))
+    let under = sub _ l (rw (c.get-receiver.ensures, c.as_slice-args.ensures) s) in
+    c.store_by.ensures.came S start k names size st e under (rw (c.get-receiver.ensures, c.as_slice-args.ensures) (begins _ _ k _ _ _ (shows-store c.args.code.now x.method x.receiver x.name x.args x.at x.is) a))
 
 pub begin_other-returns-in-Print-clause-kept : goal.begin_other-returns-in-Print-clause-kept
 begin_other-returns-in-Print-clause-kept g m c = λ S names size st e l i p q.
@@ -1247,6 +1464,24 @@ begin-returns-in-New-clause-kept g m c = c.begin_new.ensures.kept
 pub begin-returns-in-New-clause-came : goal.begin-returns-in-New-clause-came
 begin-returns-in-New-clause-came g m c = c.begin_new.ensures.came
 
+pub begin-returns-in-And-clause-kept : goal.begin-returns-in-And-clause-kept
+begin-returns-in-And-clause-kept g m c = c.begin_logic.ensures.kept
+
+pub begin-returns-in-And-clause-came : goal.begin-returns-in-And-clause-came
+begin-returns-in-And-clause-came g m c = c.begin_logic.ensures.came
+
+pub begin-returns-in-Or-clause-kept : goal.begin-returns-in-Or-clause-kept
+begin-returns-in-Or-clause-kept g m c = c.begin_logic-in-Or.ensures.kept
+
+pub begin-returns-in-Or-clause-came : goal.begin-returns-in-Or-clause-came
+begin-returns-in-Or-clause-came g m c = c.begin_logic-in-Or.ensures.came
+
+pub begin-returns-in-Not-clause-kept : goal.begin-returns-in-Not-clause-kept
+begin-returns-in-Not-clause-kept g m c = c.begin_logic-in-Not.ensures.kept
+
+pub begin-returns-in-Not-clause-came : goal.begin-returns-in-Not-clause-came
+begin-returns-in-Not-clause-came g m c = c.begin_logic-in-Not.ensures.came
+
 pub begin-returns-in_default-clause-kept : goal.begin-returns-in_default-clause-kept
 begin-returns-in_default-clause-kept g m c = c.begin_other.ensures.kept
 
@@ -1273,8 +1508,18 @@ begin_operate-returns-in_default-clause-came g m c = λ S start k names size st 
     let o = c.over.ensures in
     rw (o.gives, o.left, o.store) (_, a, begin_left S (out-Node (erase c.args.code.now)) k (scope_of (me_of c.args.self.now.context.me) names c.args.room.now) c.args.depth c.args.self.now.left)
 
+pub begin_object_operate-returns-in_default-clause-came : goal.begin_object_operate-returns-in_default-clause-came
+begin_object_operate-returns-in_default-clause-came g m c = λ S start k names size st e l a.
+    let o = c.over.ensures in
+    rw (o.gives, o.left, o.store) (_, a, begin_left S (out-Node (erase c.args.code.now)) k (scope_of (me_of c.args.self.now.context.me) names c.args.room.now) c.args.depth c.args.self.now.left)
+
 pub begin_slow_operate-returns-in_default-clause-came : goal.begin_slow_operate-returns-in_default-clause-came
 begin_slow_operate-returns-in_default-clause-came g m c = λ S start k names size st e l a.
+    let o = c.over.ensures in
+    rw (o.gives, o.left, o.store) (_, a, begin_left S (out-Node (erase c.args.code.now)) k (scope_of (me_of c.args.self.now.context.me) names c.args.room.now) c.args.depth c.args.self.now.left)
+
+pub begin_read-returns-in_default-clause-came : goal.begin_read-returns-in_default-clause-came
+begin_read-returns-in_default-clause-came g m c = λ S start k names size st e l a.
     let o = c.over.ensures in
     rw (o.gives, o.left, o.store) (_, a, begin_left S (out-Node (erase c.args.code.now)) k (scope_of (me_of c.args.self.now.context.me) names c.args.room.now) c.args.depth c.args.self.now.left)
 
@@ -1305,6 +1550,16 @@ begin_update_field-returns-in_default-clause-came g m c = λ S start k names siz
 
 pub begin_new-returns-in_default-clause-came : goal.begin_new-returns-in_default-clause-came
 begin_new-returns-in_default-clause-came g m c = λ S start k names size st e l a.
+    let o = c.over.ensures in
+    rw (o.gives, o.left, o.store) (_, a, begin_left S (out-Node (erase c.args.code.now)) k (scope_of (me_of c.args.self.now.context.me) names c.args.room.now) c.args.depth c.args.self.now.left)
+
+pub begin_logic-returns-in_default-clause-came : goal.begin_logic-returns-in_default-clause-came
+begin_logic-returns-in_default-clause-came g m c = λ S start k names size st e l a.
+    let o = c.over.ensures in
+    rw (o.gives, o.left, o.store) (_, a, begin_left S (out-Node (erase c.args.code.now)) k (scope_of (me_of c.args.self.now.context.me) names c.args.room.now) c.args.depth c.args.self.now.left)
+
+pub begin_slow_send-returns-in_default-clause-came : goal.begin_slow_send-returns-in_default-clause-came
+begin_slow_send-returns-in_default-clause-came g m c = λ S start k names size st e l a.
     let o = c.over.ensures in
     rw (o.gives, o.left, o.store) (_, a, begin_left S (out-Node (erase c.args.code.now)) k (scope_of (me_of c.args.self.now.context.me) names c.args.room.now) c.args.depth c.args.self.now.left)
 
@@ -1354,6 +1609,12 @@ begin_update_over-returns-in_default-clause-came g m c = λ S start k names size
     let o = c.over.ensures in
     rw (o.gives, o.left, o.store) (_, a, begin_left S (out-Node (erase c.args.code.now)) k (scope_of (me_of c.args.self.now.context.me) names c.args.room.now) c.args.depth c.args.self.now.left)
 
+pub begin_update-returns-then-is_deep-clause-kept : goal.begin_update-returns-then-is_deep-clause-kept
+begin_update-returns-then-is_deep-clause-kept g m c = c.begin_slow_update.ensures.kept
+
+pub begin_update-returns-then-is_deep-clause-came : goal.begin_update-returns-then-is_deep-clause-came
+begin_update-returns-then-is_deep-clause-came g m c = c.begin_slow_update.ensures.came
+
 pub begin_update-returns-then-is_operate-clause-kept : goal.begin_update-returns-then-is_operate-clause-kept
 begin_update-returns-then-is_operate-clause-kept g m c = c.begin_update_over.ensures.kept
 
@@ -1364,17 +1625,42 @@ pub begin_operate-returns-in-Some-clause-came : goal.begin_operate-returns-in-So
 begin_operate-returns-in-Some-clause-came g m c = λ S start k names size st e l a.
     let x = c.in-Operate in
     let s = sym (ap (λ d. fits S d names size) x.is ∙ fits-operate S names size x.method x.field-1 x.left x.right x.at) ∙ l.fits in
-    let first = c.get.result.now in
-    let second = c.get-then-depth-lt-MAX_DEPTH.result.now in
-    let fl : fits S first names size ≡ true = rw c.get.ensures (fst _ _ (snd _ _ s)) in
-    let fr : fits S second names size ≡ true = rw c.get-then-depth-lt-MAX_DEPTH.ensures (snd _ _ (snd _ _ s)) in
+    let first = c.get-left.result.now in
+    let second = c.get-right.result.now in
+    let fl : fits S first names size ≡ true = rw c.get-left.ensures (fst _ _ (snd _ _ s)) in
+    let fr : fits S second names size ≡ true = rw c.get-right.ensures (snd _ _ (snd _ _ s)) in
     let len : length names ≤ length c.args.room.now = omega (arith, l.within, l.below, l.room) in
     let is = c.in-Some.ensures in
     let o = c.answer.ensures in
     let number = same_is (builtin_of (text_of S x.field-1)) x.method (fst _ _ s) in
     let b = begins _ _ k _ _ _ (shows-operate c.args.code.now x.method x.field-1 x.left x.right x.at x.is) a in
     rw (o.gives, o.left, o.store, sym (is.4 S.program (text_of S x.field-1) number))
-    (calls_pair S _ start _ _ k _ names size c.args.depth c.args.self.now.left c.args.room.now x.field-1 first second x.at (Int is.0) (Int is.1) _ (none_plain S (Int is.0) (text_of S x.field-1) refl) fl fr len c.if-self-gt1.true c.if-depth-lt-MAX_DEPTH.true is.2 is.3 (inl refl) (rw (c.get.ensures, c.get-then-depth-lt-MAX_DEPTH.ensures) b))
+    (calls_pair S _ start _ _ k _ names size c.args.depth c.args.self.now.left c.args.room.now x.field-1 first second x.at (Int is.0) (Int is.1) _ (none_plain S (Int is.0) (text_of S x.field-1) refl) fl fr len c.if-self-gt1.true c.if-depth-lt-MAX_DEPTH.true is.2 is.3 (inl refl) (rw (c.get-left.ensures, c.get-right.ensures) b))
+
+pub begin_operate-returns-then-is_object_at-clause-kept : goal.begin_operate-returns-then-is_object_at-clause-kept
+begin_operate-returns-then-is_object_at-clause-kept g m c = c.begin_object_operate.ensures.kept
+
+pub begin_operate-returns-then-is_object_at-clause-came : goal.begin_operate-returns-then-is_object_at-clause-came
+begin_operate-returns-then-is_object_at-clause-came g m c = c.begin_object_operate.ensures.came
+
+pub begin_object_operate-returns-in-Some-clause-kept : goal.begin_object_operate-returns-in-Some-clause-kept
+begin_object_operate-returns-in-Some-clause-kept g m c = λ S names size st e l i p q.
+    let x = c.in-Operate in
+    let s = sym (ap (λ d. fits S d names size) x.is ∙ fits-operate S names size x.field-0 x.name x.left x.right x.at) ∙ l.fits in
+    let fr : fits S c.get-right.result.now names size ≡ true = rw c.get-right.ensures (snd _ _ (snd _ _ s)) in
+    c.operate_target.ensures.kept S names size st e (sub _ l fr) i p q
+
+pub begin_object_operate-returns-in-Some-clause-came : goal.begin_object_operate-returns-in-Some-clause-came
+begin_object_operate-returns-in-Some-clause-came g m c = λ S start k names size st e l a.
+    let x = c.in-Operate in
+    let s = sym (ap (λ d. fits S d names size) x.is ∙ fits-operate S names size x.field-0 x.name x.left x.right x.at) ∙ l.fits in
+    let fl : fits S c.get-left.result.now names size ≡ true = rw c.get-left.ensures (fst _ _ (snd _ _ s)) in
+    let fr : fits S c.get-right.result.now names size ≡ true = rw c.get-right.ensures (snd _ _ (snd _ _ s)) in
+    let len : length names ≤ length c.args.room.now = omega (arith, l.within, l.below, l.room) in
+    let b = begins _ _ k _ _ _ (shows-operate c.args.code.now x.field-0 x.name x.left x.right x.at x.is) a in
+    let waits = Then (ReceiverOf (text_of S x.name) (erase c.get-right.result.now ∷ []) None x.at) ∷ k in
+    let e1 = c.in-Some.ensures.held S _ names size c.args.depth c.args.self.now.left start _ _ waits (me_of c.args.self.now.context.me) fl len c.if-self-gt0.true c.if-depth-lt-MAX_DEPTH.true (rw (c.get-left.ensures, c.get-right.ensures) b) in
+    c.operate_target.ensures.came S start k names size st e (sub _ l fr) (on _ (on _ e1 refl) refl)
 
 pub begin_slow_operate-returns-in-Some-held_alone-clause-came : goal.begin_slow_operate-returns-in-Some-held_alone-clause-came
 begin_slow_operate-returns-in-Some-held_alone-clause-came g m c = λ S start k names size st e l a.
@@ -1391,7 +1677,7 @@ begin_slow_operate-returns-in-Some-held_alone-clause-came g m c = λ S start k n
     let given = rw (sym e, vs.1) at (o.gives (text_of S x.name) number) in
     let b = begins _ _ k _ _ _ (shows-operate c.args.code.now x.method x.name x.left x.right x.at x.is) a in
     rw (o.left, o.store)
-    (calls_pair S _ start _ _ k _ names size c.args.depth c.args.self.now.left c.args.room.now x.name first second x.at (plain c.in-Some.receiver.now) vs.0 _ (none_plain S (plain c.in-Some.receiver.now) (text_of S x.name) c.in-Some.ensures.plain) fl fr len c.if-self-gt1.true c.if-depth-lt-MAX_DEPTH.true c.in-Some.ensures.held vs.2 given (rw (c.get-left.ensures, c.get-right.ensures) b))
+    (calls_pair S _ start _ _ k _ names size c.args.depth c.args.self.now.left c.args.room.now x.name first second x.at (plain c.in-Some-held_at.receiver.now) vs.0 _ (none_plain S (plain c.in-Some-held_at.receiver.now) (text_of S x.name) c.in-Some-held_at.ensures.plain) fl fr len c.if-self-gt1.true c.if-depth-lt-MAX_DEPTH.true c.in-Some-held_at.ensures.held vs.2 given (rw (c.get-left.ensures, c.get-right.ensures) b))
 
 pub begin_slow_operate-returns-in-Some-local_target-clause-kept : goal.begin_slow_operate-returns-in-Some-local_target-clause-kept
 begin_slow_operate-returns-in-Some-local_target-clause-kept g m c = λ S names size st e l i p q.
@@ -1427,8 +1713,14 @@ begin_slow_operate-returns-after-self-gt1-clause-came g m c = λ S start k names
     let under = sub _ l (rw (c.get-left.ensures, c.get-right.ensures) s) in
     c.operate.ensures.came S start k names size st e under (rw (c.get-left.ensures, c.get-right.ensures) (begins _ _ k _ _ _ (shows-operate c.args.code.now x.method x.name x.left x.right x.at x.is) a))
 
-pub begin_send-returns-in-Some-clause-came : goal.begin_send-returns-in-Some-clause-came
-begin_send-returns-in-Some-clause-came g m c = λ S start k names size st e l a.
+pub begin_send-returns-then-is_object_at-clause-kept : goal.begin_send-returns-then-is_object_at-clause-kept
+begin_send-returns-then-is_object_at-clause-kept g m c = c.begin_read.ensures.kept
+
+pub begin_send-returns-then-is_object_at-clause-came : goal.begin_send-returns-then-is_object_at-clause-came
+begin_send-returns-then-is_object_at-clause-came g m c = c.begin_read.ensures.came
+
+pub begin_read-returns-in-Some-clause-came : goal.begin_read-returns-in-Some-clause-came
+begin_read-returns-in-Some-clause-came g m c = λ S start k names size st e l a.
     let x = c.in-Send in
     let s = sym (ap (λ d. fits S d names size) x.is ∙ fits-send S names size x.method x.name x.receiver x.args x.at) ∙ l.fits in
     let right : fits S c.get-receiver.result.now names size ≡ true = rw c.get-receiver.ensures (fst _ _ (snd _ _ s)) in
@@ -1438,16 +1730,33 @@ begin_send-returns-in-Some-clause-came g m c = λ S start k names size st e l a.
     let b = same (begins _ _ k _ _ _ (shows-send c.args.code.now x.method x.name x.receiver x.args x.at x.is) a) (ap (λ args. On (Eval (erase x.receiver)) (Then (ReceiverOf (text_of S x.name) (map erase args) None x.at) ∷ k) (scope_of (me_of c.args.self.now.context.me) names c.args.room.now) c.args.depth c.args.self.now.left) none) in
     c.in-Some.ensures.came S start k names size st e number right len (rw c.get-receiver.ensures b)
 
-pub begin_send-returns-in-None-clause-kept : goal.begin_send-returns-in-None-clause-kept
-begin_send-returns-in-None-clause-kept g m c = λ S names size st e l i p q.
+pub begin_read-returns-in-None-clause-kept : goal.begin_read-returns-in-None-clause-kept
+begin_read-returns-in-None-clause-kept g m c = rw (c.sent_reader.ensures.none c.in-None.is) at c.begin_slow_send.ensures.kept
+
+pub begin_read-returns-in-None-clause-came : goal.begin_read-returns-in-None-clause-came
+begin_read-returns-in-None-clause-came g m c = rw (c.sent_reader.ensures.none c.in-None.is) at c.begin_slow_send.ensures.came
+
+pub begin_slow_send-returns-in-Some-clause-came : goal.begin_slow_send-returns-in-Some-clause-came
+begin_slow_send-returns-in-Some-clause-came g m c = λ S start k names size st e l a.
+    let x = c.in-Send in
+    let s = sym (ap (λ d. fits S d names size) x.is ∙ fits-send S names size x.method x.name x.receiver x.args x.at) ∙ l.fits in
+    let right : fits S c.get-receiver.result.now names size ≡ true = rw c.get-receiver.ensures (fst _ _ (snd _ _ s)) in
+    let len : length names ≤ length c.args.room.now = omega (arith, l.within, l.below, l.room) in
+    let none : x.args ≡ [] = rw c.as_slice-args.ensures at c.in-Some.ensures.empty in
+    let number = same_is (builtin_of (text_of S x.name)) x.method (fst _ _ s) in
+    let b = same (begins _ _ k _ _ _ (shows-send c.args.code.now x.method x.name x.receiver x.args x.at x.is) a) (ap (λ args. On (Eval (erase x.receiver)) (Then (ReceiverOf (text_of S x.name) (map erase args) None x.at) ∷ k) (scope_of (me_of c.args.self.now.context.me) names c.args.room.now) c.args.depth c.args.self.now.left) none) in
+    c.in-Some.ensures.came S start k names size st e number right len (rw c.get-receiver.ensures b)
+
+pub begin_slow_send-returns-in-None-clause-kept : goal.begin_slow_send-returns-in-None-clause-kept
+begin_slow_send-returns-in-None-clause-kept g m c = λ S names size st e l i p q.
     let x = c.in-Send in
     let s = sym (ap (λ d. fits S d names size) x.is ∙ fits-send S names size x.method x.name x.receiver x.args x.at) ∙ l.fits in
     let under = sub _ l (rw (c.get-receiver.ensures, c.as_slice-args.ensures) s) in
     let kept = rw (c.sent.ensures.none c.in-None.is) at c.send.ensures.kept in
     kept S names size st e under i p q
 
-pub begin_send-returns-in-None-clause-came : goal.begin_send-returns-in-None-clause-came
-begin_send-returns-in-None-clause-came g m c = λ S start k names size st e l a.
+pub begin_slow_send-returns-in-None-clause-came : goal.begin_slow_send-returns-in-None-clause-came
+begin_slow_send-returns-in-None-clause-came g m c = λ S start k names size st e l a.
     let x = c.in-Send in
     let s = sym (ap (λ d. fits S d names size) x.is ∙ fits-send S names size x.method x.name x.receiver x.args x.at) ∙ l.fits in
     let under = sub _ l (rw (c.get-receiver.ensures, c.as_slice-args.ensures) s) in
@@ -1557,14 +1866,14 @@ operate_target-returns-then-self-room-clause-came g m c = λ S start k names siz
 pub operate_target-returns-clause-kept : goal.operate_target-returns-clause-kept
 operate_target-returns-clause-kept g m c = λ S names size st e l i p q.
     let w = c.evaluate-came in
-    let t = c.pass.ensures in
+    let t = c.move_to.ensures in
     c.enter.ensures.kept i (omega (arith, q, t.base, w.ensures.base))
     ∙ (ap (λ r. slice_get r i) t.passed.2 ∙ (get_set w.new.room w.new.self.base i t.passed.0 (λ z. omega (arith, z, q, w.ensures.base)) ∙ w.ensures.kept S names size st e l i p q))
 
 pub operate_target-returns-clause-came : goal.operate_target-returns-clause-came
 operate_target-returns-clause-came g m c = λ S start k names size st e l a.
     let w = c.evaluate-came in
-    let t = c.pass.ensures in
+    let t = c.move_to.ensures in
     let p = t.passed in
     let to = me_of (Some c.args.target.object) in
     let method = erase_method c.args.target.method.now in
@@ -1707,14 +2016,14 @@ combine_value-returns-clause-kept g m c = λ S names size st e l i p q.
 
 pub arguments-each-preserved : goal.arguments-each-preserved
 arguments-each-preserved g m c =
-    let w = c.evaluate-came.ensures in
-    let t = c.pass.ensures in
+    let w = c.evaluate_call-came.ensures in
+    let t = c.move_to.ensures in
     let p = t.passed in
     let old = c.each.invariant in
-    let long : length c.pass.new.room ≡ length c.evaluate-came.new.room = ap length p.2 ∙ len_set c.evaluate-came.new.room c.evaluate-came.new.self.base p.0 in
+    let long : length c.move_to.new.room ≡ length c.evaluate_call-came.new.room = ap length p.2 ∙ len_set c.evaluate_call-came.new.room c.evaluate_call-came.new.self.base p.0 in
     record {
       base = omega (arith, t.base, w.base, old.base);
-      bound = λ r. omega (arith, long, t.base, c.if-self-room.false);
+      bound = λ r. omega (arith, long, t.base, c.if-self-room-2.false);
       context = t.context ∙ (w.context ∙ old.context);
       room = long ∙ (w.room ∙ old.room);
       less = omega (arith, t.left, w.less, old.less);
@@ -1722,7 +2031,7 @@ arguments-each-preserved g m c =
       kept = λ S names size st e l i p q.
           let loop = c.each in
           let inv = loop.invariant in
-          let w = c.evaluate-came in
+          let w = c.evaluate_call-came in
           let right = every_item S _ _ c.arg-item.result names size c.each-test.true c.arg-item.is l.fits in
           let under = lies (fits S c.arg-item.result) names size loop.self.base (length loop.room) right l.within (omega (arith, l.below, inv.base)) (inv.bound l.room) in
           let f = rw inv.context at w.ensures.kept in
@@ -1730,7 +2039,7 @@ arguments-each-preserved g m c =
       came = λ aim at S start k names size st e l a.
           let loop = c.each in
           let inv = loop.invariant in
-          let w = c.evaluate-came in
+          let w = c.evaluate_call-came in
           let right = every_item S _ _ c.arg-item.result names size c.each-test.true c.arg-item.is l.fits in
           let under = lies (fits S c.arg-item.result) names size loop.self.base (length loop.room) right l.within (omega (arith, l.below, inv.base)) (inv.bound l.room) in
           let item = next_item _ _ c.arg-item.result c.each-test.true c.arg-item.is in
@@ -1742,7 +2051,7 @@ arguments-each-preserved g m c =
           let v = value_of w.result w.new.self.value in
           let base = c.args.self.now.base in
           let spot : w.new.self.base ≡ base + loop.arg-index = w.ensures.base ∙ inv.base in
-          let within : base + loop.arg-index < length w.new.room = omega (arith, w.ensures.base, inv.base, c.if-self-room.false) in
+          let within : base + loop.arg-index < length w.new.room = omega (arith, w.ensures.base, inv.base, c.if-self-room-2.false) in
           let f2 = rw inv.context at w.ensures.kept in
           let g1 = given w.result w.new.self.value w.new.self.leave (sym c.is_left.ensures ∙ c.if-is_left.false) come in
           rw (t.left, t.store, t.passed.2, spot) (joined (me_of c.args.self.now.context.me) names base loop.arg-index loop.room w.new.room t.passed.0 v t.passed.1 (omega (arith, l.within, l.below)) within (λ j q. f2 S names size st e under (base + j) (omega (arith, l.below)) (omega (arith, q, inv.base))) g1);
@@ -1784,10 +2093,10 @@ evaluate_call-returns-in-Some-clause-came g m c = λ S start k names size st e l
     let o = c.answer.ensures in
     let number = same_is (builtin_of (text_of S x.field-1)) x.method (fst _ _ s) in
     let inside = Under c.args.depth ∷ k in
-    let b = begins _ _ inside _ _ _ (shows-operate c.args.code.now x.method x.field-1 x.left x.right x.at x.is) (counts (omega (arith, c.if-self-gt4.true)) (omega (arith, c.if-depth.true)) a) in
+    let b = begins _ _ inside _ _ _ (shows-operate c.args.code.now x.method x.field-1 x.left x.right x.at x.is) (counts (omega (arith, c.if-self-gt6.true)) (omega (arith, c.if-depth.true)) a) in
     let thrice : c.args.self.now.left - 3 ≡ c.args.self.now.left - 1 - 2 = omega arith in
     rw (o.gives, o.left, o.store, sym (is.4 S.program (text_of S x.field-1) number), thrice)
-    (left S _ start _ _ _ k _ _ _ _ (calls_pair S _ start _ _ inside _ names size (c.args.depth + 1) (c.args.self.now.left - 1) c.args.room.now x.field-1 first second x.at (Int is.0) (Int is.1) _ (none_plain S (Int is.0) (text_of S x.field-1) refl) fl fr len (omega (arith, c.if-self-gt4.true)) (omega (arith, c.if-depth.true)) is.2 is.3 (inl refl) (rw (c.get-left.ensures, c.get-right.ensures) b)))
+    (left S _ start _ _ _ k _ _ _ _ (calls_pair S _ start _ _ inside _ names size (c.args.depth + 1) (c.args.self.now.left - 1) c.args.room.now x.field-1 first second x.at (Int is.0) (Int is.1) _ (none_plain S (Int is.0) (text_of S x.field-1) refl) fl fr len (omega (arith, c.if-self-gt6.true)) (omega (arith, c.if-depth.true)) is.2 is.3 (inl refl) (rw (c.get-left.ensures, c.get-right.ensures) b)))
 
 pub evaluate_call-returns-in-Some-quick_twice-clause-came : goal.evaluate_call-returns-in-Some-quick_twice-clause-came
 evaluate_call-returns-in-Some-quick_twice-clause-came g m c = λ S start k names size st e l a.
@@ -1802,17 +2111,17 @@ evaluate_call-returns-in-Some-quick_twice-clause-came g m c = λ S start k names
     let o = c.answer-in-Some-quick_twice.ensures in
     let number = same_is (builtin_of (text_of S x.field-1)) x.method (fst _ _ s) in
     let inside = Under c.args.depth ∷ k in
-    let b = begins _ _ inside _ _ _ (shows-operate c.args.code.now x.method x.field-1 x.left x.right x.at x.is) (counts (omega (arith, c.if-self-gt4.true)) (omega (arith, c.if-depth.true)) a) in
+    let b = begins _ _ inside _ _ _ (shows-operate c.args.code.now x.method x.field-1 x.left x.right x.at x.is) (counts (omega (arith, c.if-self-gt6.true)) (omega (arith, c.if-depth.true)) a) in
     let fifth : c.args.self.now.left - 5 ≡ c.args.self.now.left - 1 - 4 = omega arith in
     rw (o.gives, o.left, o.store, sym (is.4 S.program (text_of S x.field-1) number), fifth)
-    (left S _ start _ _ _ k _ _ _ _ (calls_twice S _ start _ _ inside _ names size (c.args.depth + 1) (c.args.self.now.left - 1) c.args.room.now x.field-1 first second x.at is.0 (Int is.1) _ fl fr len (omega (arith, c.if-self-gt4.true)) (omega (arith, c.if-depth.true)) is.2 is.3 (inl refl) (rw (c.get-left.ensures, c.get-right.ensures) b)))
+    (left S _ start _ _ _ k _ _ _ _ (calls_twice S _ start _ _ inside _ names size (c.args.depth + 1) (c.args.self.now.left - 1) c.args.room.now x.field-1 first second x.at is.0 (Int is.1) _ fl fr len (omega (arith, c.if-self-gt6.true)) (omega (arith, c.if-depth.true)) is.2 is.3 (inl refl) (rw (c.get-left.ensures, c.get-right.ensures) b)))
 
 pub evaluate_call-returns-then-depth-clause-kept : goal.evaluate_call-returns-then-depth-clause-kept
 evaluate_call-returns-then-depth-clause-kept g m c = c.begin_slow_operate.ensures.kept
 
 pub evaluate_call-returns-then-depth-clause-came : goal.evaluate_call-returns-then-depth-clause-came
 evaluate_call-returns-then-depth-clause-came g m c = λ S start k names size st e l a.
-    left S _ start _ _ _ k _ _ _ _ (c.begin_slow_operate.ensures.came S start (Under c.args.depth ∷ k) names size st e l (counts (omega (arith, c.if-self-gt4.true)) (omega (arith, c.if-depth.true)) a))
+    left S _ start _ _ _ k _ _ _ _ (c.begin_slow_operate.ensures.came S start (Under c.args.depth ∷ k) names size st e l (counts (omega (arith, c.if-self-gt6.true)) (omega (arith, c.if-depth.true)) a))
 
 pub evaluate_call-returns-then-depth-lt-MAX_DEPTH-clause-kept : goal.evaluate_call-returns-then-depth-lt-MAX_DEPTH-clause-kept
 evaluate_call-returns-then-depth-lt-MAX_DEPTH-clause-kept g m c = c.begin_function.ensures.kept
@@ -1821,11 +2130,11 @@ pub evaluate_call-returns-then-depth-lt-MAX_DEPTH-clause-came : goal.evaluate_ca
 evaluate_call-returns-then-depth-lt-MAX_DEPTH-clause-came g m c = λ S start k names size st e l a.
     left S _ start _ _ _ k _ _ _ _ (c.begin_function.ensures.came S start (Under c.args.depth ∷ k) names size st e l (counts c.if-self-gt0.true c.if-depth-lt-MAX_DEPTH.true a))
 
-pub evaluate_call-returns-else-self-gt4-clause-kept : goal.evaluate_call-returns-else-self-gt4-clause-kept
-evaluate_call-returns-else-self-gt4-clause-kept g m c = c.walk.ensures.kept
+pub evaluate_call-returns-else-self-gt6-clause-kept : goal.evaluate_call-returns-else-self-gt6-clause-kept
+evaluate_call-returns-else-self-gt6-clause-kept g m c = c.walk.ensures.kept
 
-pub evaluate_call-returns-else-self-gt4-clause-came : goal.evaluate_call-returns-else-self-gt4-clause-came
-evaluate_call-returns-else-self-gt4-clause-came g m c = c.walk.ensures.came
+pub evaluate_call-returns-else-self-gt6-clause-came : goal.evaluate_call-returns-else-self-gt6-clause-came
+evaluate_call-returns-else-self-gt6-clause-came g m c = c.walk.ensures.came
 
 pub evaluate_call-returns-else-self-gt0-clause-kept : goal.evaluate_call-returns-else-self-gt0-clause-kept
 evaluate_call-returns-else-self-gt0-clause-kept g m c = c.walk-in-Function.ensures.kept
@@ -1851,6 +2160,43 @@ evaluate_call-returns-in-Local-clause-kept g m c = c.evaluate_operand-in-Local.e
 pub evaluate_call-returns-in-Local-clause-came : goal.evaluate_call-returns-in-Local-clause-came
 evaluate_call-returns-in-Local-clause-came g m c = c.evaluate_operand-in-Local.ensures.came
 
+pub evaluate_call-returns-in-False-clause-kept : goal.evaluate_call-returns-in-False-clause-kept
+evaluate_call-returns-in-False-clause-kept g m c = c.evaluate_operand-in-False.ensures.kept
+
+pub evaluate_call-returns-in-False-clause-came : goal.evaluate_call-returns-in-False-clause-came
+evaluate_call-returns-in-False-clause-came g m c = c.evaluate_operand-in-False.ensures.came
+
+pub evaluate_call-returns-in-True-clause-kept : goal.evaluate_call-returns-in-True-clause-kept
+evaluate_call-returns-in-True-clause-kept g m c = c.evaluate_operand-in-True.ensures.kept
+
+pub evaluate_call-returns-in-True-clause-came : goal.evaluate_call-returns-in-True-clause-came
+evaluate_call-returns-in-True-clause-came g m c = c.evaluate_operand-in-True.ensures.came
+
+pub evaluate_call-returns-in-And-clause-kept : goal.evaluate_call-returns-in-And-clause-kept
+evaluate_call-returns-in-And-clause-kept g m c = c.evaluate_logic.ensures.kept
+
+pub evaluate_call-returns-in-And-clause-came : goal.evaluate_call-returns-in-And-clause-came
+evaluate_call-returns-in-And-clause-came g m c = c.evaluate_logic.ensures.came
+
+pub evaluate_call-returns-in-Or-clause-kept : goal.evaluate_call-returns-in-Or-clause-kept
+evaluate_call-returns-in-Or-clause-kept g m c = c.evaluate_logic-in-Or.ensures.kept
+
+pub evaluate_call-returns-in-Or-clause-came : goal.evaluate_call-returns-in-Or-clause-came
+evaluate_call-returns-in-Or-clause-came g m c = c.evaluate_logic-in-Or.ensures.came
+
+pub evaluate_call-returns-in-Not-clause-kept : goal.evaluate_call-returns-in-Not-clause-kept
+evaluate_call-returns-in-Not-clause-kept g m c = c.evaluate_logic-in-Not.ensures.kept
+
+pub evaluate_call-returns-in-Not-clause-came : goal.evaluate_call-returns-in-Not-clause-came
+evaluate_call-returns-in-Not-clause-came g m c = c.evaluate_logic-in-Not.ensures.came
+
+pub evaluate_logic-returns-then-depth-lt-MAX_DEPTH-clause-kept : goal.evaluate_logic-returns-then-depth-lt-MAX_DEPTH-clause-kept
+evaluate_logic-returns-then-depth-lt-MAX_DEPTH-clause-kept g m c = c.begin_logic.ensures.kept
+
+pub evaluate_logic-returns-then-depth-lt-MAX_DEPTH-clause-came : goal.evaluate_logic-returns-then-depth-lt-MAX_DEPTH-clause-came
+evaluate_logic-returns-then-depth-lt-MAX_DEPTH-clause-came g m c = λ S start k names size st e l a.
+    left S _ start _ _ _ k _ _ _ _ (c.begin_logic.ensures.came S start (Under c.args.depth ∷ k) names size st e l (counts c.if-self-gt0.true c.if-depth-lt-MAX_DEPTH.true a))
+
 pub evaluate_operand-returns-then-depth-lt-MAX_DEPTH-clause-kept : goal.evaluate_operand-returns-then-depth-lt-MAX_DEPTH-clause-kept
 evaluate_operand-returns-then-depth-lt-MAX_DEPTH-clause-kept g m c = c.begin_operand.ensures.kept
 
@@ -1860,7 +2206,7 @@ evaluate_operand-returns-then-depth-lt-MAX_DEPTH-clause-came g m c = λ S start 
 
 pub begin_operand-returns-in-Field-clause-came : goal.begin_operand-returns-in-Field-clause-came
 begin_operand-returns-in-Field-clause-came g m c = λ S start k names size st e l a.
-    let o = c.field.ensures in
+    let o = c.field_apart.ensures in
     rw (o.left, o.log) (o.came S start k _ c.args.depth (begins _ _ k _ _ _ (shows-field c.args.code.now c.in-Field.name c.in-Field.at c.in-Field.is) a))
 
 pub begin_operand-returns-in-Local-clause-came : goal.begin_operand-returns-in-Local-clause-came
@@ -1871,6 +2217,14 @@ begin_operand-returns-in-Local-clause-came g m c = λ S start k names size st e 
     let b = begins _ _ k _ _ _ (shows-local c.args.code.now x.slot x.field-1 x.field-2 x.is) a in
     let r = c.read in
     rw (r.ensures.left, r.ensures.store) (reads S _ start _ _ k c.args.depth _ x.field-1 names c.args.room.now x.slot _ (outcome r.result r.new.self.value r.new.self.leave) len s r.ensures.gives b)
+
+pub begin_operand-returns-in-False-clause-came : goal.begin_operand-returns-in-False-clause-came
+begin_operand-returns-in-False-clause-came g m c = λ S start k names size st e l a.
+    begins _ _ k _ _ _ (shows-false c.args.code.now c.in-False.field-0 c.in-False.is) a
+
+pub begin_operand-returns-in-True-clause-came : goal.begin_operand-returns-in-True-clause-came
+begin_operand-returns-in-True-clause-came g m c = λ S start k names size st e l a.
+    begins _ _ k _ _ _ (shows-true c.args.code.now c.in-True.field-0 c.in-True.is) a
 
 pub begin_operand-returns-in_default-clause-kept : goal.begin_operand-returns-in_default-clause-kept
 begin_operand-returns-in_default-clause-kept g m c = c.begin_send.ensures.kept
@@ -2422,7 +2776,7 @@ begin_other-returns-in-Start-clause-came g m c = λ S start k names size st e l 
 
 pub begin-returns-in-Field-clause-came : goal.begin-returns-in-Field-clause-came
 begin-returns-in-Field-clause-came g m c = λ S start k names size st e l a.
-    let o = c.field.ensures in
+    let o = c.field_apart.ensures in
     rw (o.left, o.log) (o.came S start k _ c.args.depth (begins _ _ k _ _ _ (shows-field c.args.code.now c.in-Field.name c.in-Field.at c.in-Field.is) a))
 
 pub begin_set_field-returns-in-SetField-clause-kept : goal.begin_set_field-returns-in-SetField-clause-kept
@@ -4214,16 +4568,16 @@ operate_collection-returns-clause-came g m c = λ S start k names size st e l a.
     let f1 = rw w.ensures.context at o.came in
     rw o.log (calls_builtin S _ start _ _ _ _ _ _ _ _ _ c.args.self.now.context.program.now c.args.method to (text_of S c.args.name) (value_of w.result w.new.self.value ∷ []) c.args.at (c.requires.alone S st) number e f1 (on _ (on _ g1 refl) refl))
 
-pub begin_slow_operate-returns-in-Some-local_collection-clause-kept : goal.begin_slow_operate-returns-in-Some-local_collection-clause-kept
-begin_slow_operate-returns-in-Some-local_collection-clause-kept g m c = λ S names size st e l i p q.
+pub begin_slow_operate-returns-in-Some-clause-kept : goal.begin_slow_operate-returns-in-Some-clause-kept
+begin_slow_operate-returns-in-Some-clause-kept g m c = λ S names size st e l i p q.
     let x = c.in-Operate in
     let s = sym (ap (λ d. fits S d names size) x.is ∙ fits-operate S names size x.method x.name x.left x.right x.at) ∙ l.fits in
     let fr : fits S c.get-right.result.now names size ≡ true = rw c.get-right.ensures (snd _ _ (snd _ _ s)) in
     let right = two _ (fits S c.get-right.result.now names size) (fst _ _ s) fr in
     c.operate_collection.ensures.kept S names size st e (sub _ l right) i p q
 
-pub begin_slow_operate-returns-in-Some-local_collection-clause-came : goal.begin_slow_operate-returns-in-Some-local_collection-clause-came
-begin_slow_operate-returns-in-Some-local_collection-clause-came g m c = λ S start k names size st e l a.
+pub begin_slow_operate-returns-in-Some-clause-came : goal.begin_slow_operate-returns-in-Some-clause-came
+begin_slow_operate-returns-in-Some-clause-came g m c = λ S start k names size st e l a.
     let x = c.in-Operate in
     let s = sym (ap (λ d. fits S d names size) x.is ∙ fits-operate S names size x.method x.name x.left x.right x.at) ∙ l.fits in
     let fl : fits S c.get-left.result.now names size ≡ true = rw c.get-left.ensures (fst _ _ (snd _ _ s)) in
@@ -4232,7 +4586,7 @@ begin_slow_operate-returns-in-Some-local_collection-clause-came g m c = λ S sta
     let more : 0 < c.args.self.now.left = omega (arith, c.if-self-gt1.true) in
     let b = begins _ _ k _ _ _ (shows-operate c.args.code.now x.method x.name x.left x.right x.at x.is) a in
     let waits = Then (ReceiverOf (text_of S x.name) (erase c.get-right.result.now ∷ []) None x.at) ∷ k in
-    let e1 = c.in-Some-local_collection.ensures.held S _ names size c.args.depth c.args.self.now.left start _ _ waits (me_of c.args.self.now.context.me) fl len more c.if-depth-lt-MAX_DEPTH.true (rw (c.get-left.ensures, c.get-right.ensures) b) in
+    let e1 = c.in-Some.ensures.held S _ names size c.args.depth c.args.self.now.left start _ _ waits (me_of c.args.self.now.context.me) fl len more c.if-depth-lt-MAX_DEPTH.true (rw (c.get-left.ensures, c.get-right.ensures) b) in
     let right = two _ (fits S c.get-right.result.now names size) (fst _ _ s) fr in
     c.operate_collection.ensures.came S start k names size st e (sub _ l right) (on _ (on _ e1 refl) refl)
 
@@ -4246,3 +4600,177 @@ begin-returns-in-Store-clause-kept g m c = c.begin_store.ensures.kept
 
 pub begin-returns-in-Store-clause-came : goal.begin-returns-in-Store-clause-came
 begin-returns-in-Store-clause-came g m c = c.begin_store.ensures.came
+
+pub begin_store-returns-in-Some-clause-kept : goal.begin_store-returns-in-Some-clause-kept
+begin_store-returns-in-Some-clause-kept g m c = λ S names size st e l i p q.
+    let x = c.in-Store in
+    let s = sym (ap (λ d. fits S d names size) x.is ∙ fits-store S names size x.method x.receiver x.name x.args x.at) ∙ l.fits in
+    let args = two_items _ _ c.index-item.result c.value-item.result c.as_slice-args.ensures c.in-len2.len_at_least c.in-len2.len_below c.index-item.is c.value-item.is in
+    let all : every (map (fits S) x.args) names size ≡ true = snd _ _ (snd _ _ s) in
+    let both_fit = args_fit S c.index-item.result c.value-item.result names size (rw args at all) in
+    let right = two _ _ (fst _ _ s) both_fit in
+    c.store_element.ensures.kept S names size st e (sub _ l right) i p q
+
+pub begin_store-returns-in-Some-clause-came : goal.begin_store-returns-in-Some-clause-came
+begin_store-returns-in-Some-clause-came g m c = λ S start k names size st e l a.
+    let x = c.in-Store in
+    let first = c.index-item.result in
+    let second = c.value-item.result in
+    let s = sym (ap (λ d. fits S d names size) x.is ∙ fits-store S names size x.method x.receiver x.name x.args x.at) ∙ l.fits in
+    let fl : fits S c.get-receiver.result.now names size ≡ true = rw c.get-receiver.ensures (fst _ _ (snd _ _ s)) in
+    let args = two_items _ _ first second c.as_slice-args.ensures c.in-len2.len_at_least c.in-len2.len_below c.index-item.is c.value-item.is in
+    let all : every (map (fits S) x.args) names size ≡ true = snd _ _ (snd _ _ s) in
+    let both_fit = args_fit S first second names size (rw args at all) in
+    let right = two _ _ (fst _ _ s) both_fit in
+    let len : length names ≤ length c.args.room.now = omega (arith, l.within, l.below, l.room) in
+    let sc = scope_of (me_of c.args.self.now.context.me) names c.args.room.now in
+    let b = same (begins _ _ k _ _ _ (shows-store c.args.code.now x.method x.receiver x.name x.args x.at x.is) a) (ap (λ args. On (Eval (erase x.receiver)) (Then (ReceiverToStore (text_of S x.name) (map erase args) x.at) ∷ k) sc c.args.depth c.args.self.now.left) args) in
+    let waits = Then (ReceiverToStore (text_of S x.name) (erase first ∷ erase second ∷ []) x.at) ∷ k in
+    let e1 = c.in-Some.ensures.held S _ names size c.args.depth c.args.self.now.left start _ _ waits (me_of c.args.self.now.context.me) fl len c.if-self-gt0.true c.if-depth-lt-MAX_DEPTH.true (rw c.get-receiver.ensures b) in
+    c.store_element.ensures.came S start k names size st e (sub _ l right) (on _ (on _ e1 refl) refl)
+
+pub store_element-returns-then-is_left-clause-kept : goal.store_element-returns-then-is_left-clause-kept
+store_element-returns-then-is_left-clause-kept g m c = λ S names size st e l i p q.
+    c.evaluate-first.ensures.kept S names size st e (sub (fits S c.args.index.now) l (fst _ _ (snd _ _ l.fits))) i p q
+
+pub store_element-returns-then-is_left-clause-came : goal.store_element-returns-then-is_left-clause-came
+store_element-returns-then-is_left-clause-came g m c = λ S start k names size st e l a.
+    let w = c.evaluate-first in
+    let step = Argument (Storing (me_of (Some c.args.thing)) (text_of S c.args.name)) [] (erase c.args.value.now ∷ []) c.args.at in
+    let come = w.ensures.came S start (Then step ∷ k) names size st e (sub (fits S c.args.index.now) l (fst _ _ (snd _ _ l.fits))) a in
+    passes S _ start _ w.result w.new.self.value w.new.self.leave _ step k _ _ _ (sym c.is_left.ensures ∙ c.if-is_left.true) come
+
+pub store_element-returns-then-is_left-2-clause-kept : goal.store_element-returns-then-is_left-2-clause-kept
+store_element-returns-then-is_left-2-clause-kept g m c = λ S names size st e l i p q.
+    let w = c.evaluate-first in
+    let t = c.take-index in
+    let y = c.evaluate-came in
+    let under = moved _ _ (t.ensures.base ∙ w.ensures.base) w.ensures.room (sub (fits S c.args.value.now) l (snd _ _ (snd _ _ l.fits))) in
+    let f = rw (t.ensures.context, w.ensures.context) at y.ensures.kept in
+    f S names size st e under i p (omega (arith, q, t.ensures.base, w.ensures.base)) ∙ w.ensures.kept S names size st e (sub (fits S c.args.index.now) l (fst _ _ (snd _ _ l.fits))) i p q
+
+pub store_element-returns-then-is_left-2-clause-came : goal.store_element-returns-then-is_left-2-clause-came
+store_element-returns-then-is_left-2-clause-came g m c = λ S start k names size st e l a.
+    let w = c.evaluate-first in
+    let t = c.take-index in
+    let y = c.evaluate-came in
+    let aim = Storing (me_of (Some c.args.thing)) (text_of S c.args.name) in
+    let step = Argument aim [] (erase c.args.value.now ∷ []) c.args.at in
+    let come = w.ensures.came S start (Then step ∷ k) names size st e (sub (fits S c.args.index.now) l (fst _ _ (snd _ _ l.fits))) a in
+    let v = value_of w.result w.new.self.value in
+    let g1 = given w.result w.new.self.value w.new.self.leave (sym c.is_left.ensures ∙ c.if-is_left.false) come in
+    let under = moved _ _ (t.ensures.base ∙ w.ensures.base) w.ensures.room (sub (fits S c.args.value.now) l (snd _ _ (snd _ _ l.fits))) in
+    let next = Argument aim (v ∷ []) [] c.args.at in
+    let f = rw (t.ensures.context, w.ensures.context, t.ensures.left, t.ensures.store) at y.ensures.came in
+    let h = f S start (Then next ∷ k) names size st e under (on _ (on _ g1 refl) refl) in
+    passes S _ start _ y.result y.new.self.value y.new.self.leave _ next k _ _ _ (sym c.is_left-2.ensures ∙ c.if-is_left-2.true) h
+
+pub store_element-returns-clause-kept : goal.store_element-returns-clause-kept
+store_element-returns-clause-kept g m c = λ S names size st e l i p q.
+    let w = c.evaluate-first in
+    let t = c.take-index in
+    let y = c.evaluate-came in
+    let under = moved _ _ (t.ensures.base ∙ w.ensures.base) w.ensures.room (sub (fits S c.args.value.now) l (snd _ _ (snd _ _ l.fits))) in
+    let f = rw (t.ensures.context, w.ensures.context) at y.ensures.kept in
+    f S names size st e under i p (omega (arith, q, t.ensures.base, w.ensures.base)) ∙ w.ensures.kept S names size st e (sub (fits S c.args.index.now) l (fst _ _ (snd _ _ l.fits))) i p q
+
+pub store_element-returns-clause-came : goal.store_element-returns-clause-came
+store_element-returns-clause-came g m c = λ S start k names size st e l a.
+    let w = c.evaluate-first in
+    let t = c.take-index in
+    let y = c.evaluate-came in
+    let to = me_of (Some c.args.thing) in
+    let aim = Storing to (text_of S c.args.name) in
+    let step = Argument aim [] (erase c.args.value.now ∷ []) c.args.at in
+    let come = w.ensures.came S start (Then step ∷ k) names size st e (sub (fits S c.args.index.now) l (fst _ _ (snd _ _ l.fits))) a in
+    let v = value_of w.result w.new.self.value in
+    let g1 = given w.result w.new.self.value w.new.self.leave (sym c.is_left.ensures ∙ c.if-is_left.false) come in
+    let under = moved _ _ (t.ensures.base ∙ w.ensures.base) w.ensures.room (sub (fits S c.args.value.now) l (snd _ _ (snd _ _ l.fits))) in
+    let next = Argument aim (v ∷ []) [] c.args.at in
+    let f = rw (t.ensures.context, w.ensures.context, t.ensures.left, t.ensures.store) at y.ensures.came in
+    let h = f S start (Then next ∷ k) names size st e under (on _ (on _ g1 refl) refl) in
+    let g2 = given y.result y.new.self.value y.new.self.leave (sym c.is_left-2.ensures ∙ c.if-is_left-2.false) h in
+    let values = v ∷ value_of y.result y.new.self.value ∷ [] in
+    let o = c.stored.ensures in
+    let number = same_is (builtin_of (text_of S c.args.name)) c.args.method (fst _ _ l.fits) in
+    let f1 = rw (y.ensures.context, t.ensures.context, w.ensures.context, t.ensures.value, o.log) at (o.came (text_of S c.args.name) number) in
+    rw o.log (stores_builtin S _ start _ _ _ _ _ _ _ _ _ c.args.self.now.context.program.now to (text_of S c.args.name) values c.args.at (c.requires.alone S st) e f1 (on _ (on _ g2 refl) refl))
+
+pub evaluate_call-returns-then-is_told-clause-came : goal.evaluate_call-returns-then-is_told-clause-came
+evaluate_call-returns-then-is_told-clause-came g m c = λ S start k names size st e l a.
+    let x = c.in-Operate in
+    let s = sym (ap (λ d. fits S d names size) x.is ∙ fits-operate S names size x.method x.field-1 x.left x.right x.at) ∙ l.fits in
+    let first = c.get-left.result.now in
+    let second = c.get-right.result.now in
+    let fl : fits S first names size ≡ true = rw c.get-left.ensures (fst _ _ (snd _ _ s)) in
+    let fr : fits S second names size ≡ true = rw c.get-right.ensures (snd _ _ (snd _ _ s)) in
+    let len : length names ≤ length c.args.room.now = omega (arith, l.within, l.below, l.room) in
+    let told = told_value _ (sym c.is_told.ensures ∙ c.if-is_told.true) in
+    let is = rw told.1 at c.element_at-element.ensures in
+    let number = same_is (builtin_of (text_of S x.field-1)) x.method (fst _ _ s) in
+    let inside = Under c.args.depth ∷ k in
+    let b = begins _ _ inside _ _ _ (shows-operate c.args.code.now x.method x.field-1 x.left x.right x.at x.is) (counts (omega (arith, c.if-self-gt6.true)) (omega (arith, c.if-depth.true)) a) in
+    let gives_it = c.immediate.ensures told.0 c.args.self.now.value c.args.self.now.leave told.1 in
+    let less : c.args.self.now.left - (1 + c.steps_of.result + c.steps_of-then-is_told.result) ≡ c.args.self.now.left - 1 - (c.steps_of.result + c.steps_of-then-is_told.result) = omega arith in
+    let come = reads_element S c.args.self.now.context.steps start (g.O.ThreadStore.log c.args.self.now.store) (g.O.ThreadStore.private c.args.self.now.store) inside (me_of c.args.self.now.context.me) names size (c.args.depth + 1) (c.args.self.now.left - 1) _ _ c.args.room.now x.method x.field-1 first second x.at told.0 number fl fr len (rw c.steps_of.ensures.exact at c.steps_of.ensures.few) (omega (arith, c.if-self-gt6.true)) (omega (arith, c.if-depth.true)) is (rw (c.get-left.ensures, c.get-right.ensures) b) in
+    rw (gives_it, less, c.steps_of.ensures.exact, c.steps_of-then-is_told.ensures.exact)
+    (left S c.args.self.now.context.steps start (g.O.ThreadStore.private c.args.self.now.store) (g.O.ThreadStore.log c.args.self.now.store) (Gave told.0) k (scope_of (me_of c.args.self.now.context.me) names c.args.room.now) c.args.depth (c.args.depth + 1) _ come)
+
+pub arguments-each-preserved-in-Some : goal.arguments-each-preserved-in-Some
+arguments-each-preserved-in-Some g m c =
+    let old = c.each.invariant in
+    let z : to_z w64 (of_z w64 c.in-Some.n) ≡ c.in-Some.n = search rules in
+    let long : length c.put.new.room ≡ length c.each.room = ap length c.put.ensures ∙ len_set c.each.room c.each.self.base _ in
+    record {
+      base = omega (arith, old.base);
+      bound = λ r. omega (arith, long, c.if-self-room.true);
+      context = old.context;
+      room = long ∙ old.room;
+      less = omega (arith, old.less);
+      unended = old.unended;
+      kept = λ S names size st e l i p q.
+          let inv = c.each.invariant in
+          ap (λ r. slice_get r i) c.put.ensures ∙ (get_set c.each.room c.each.self.base i _ (λ z. omega (arith, z, q, inv.base)) ∙ inv.kept S names size st e l i p q);
+      came = λ aim at S start k names size st e l a.
+          let loop = c.each in
+          let inv = loop.invariant in
+          let right = every_item S _ _ c.arg-item.result names size c.each-test.true c.arg-item.is l.fits in
+          let item = next_item _ _ c.arg-item.result c.each-test.true c.arg-item.is in
+          let rest = map erase (drop (loop.arg-index + 1) c.args.args.now) in
+          let step = Argument aim (map plain (take loop.arg-index (drop c.args.self.now.base loop.room))) rest at in
+          let h1 = on _ (passing _ (sym (ap (map erase) item)) (inv.came aim at S start k names size st e l a)) refl in
+          let len : length names ≤ length loop.room = omega (arith, l.within, l.below, l.room, inv.room) in
+          let e1 = c.in-Some.ensures S _ names size c.args.depth loop.self.left start _ _ (Then step ∷ k) _ right len c.if-self-gt0.true c.if-depth-lt-MAX_DEPTH.true h1 in
+          let base = c.args.self.now.base in
+          let within : base + loop.arg-index < length loop.room = omega (arith, inv.base, c.if-self-room.true) in
+          rw (c.put.ensures, z, inv.base) (joined (me_of c.args.self.now.context.me) names base loop.arg-index loop.room loop.room (held.Int c.in-Some.n) (Int c.in-Some.n) refl (omega (arith, l.within, l.below)) within (λ j q. refl) e1);
+    }
+
+pub arguments-each-preserved-in-Ok : goal.arguments-each-preserved-in-Ok
+arguments-each-preserved-in-Ok g m c =
+    let old = c.each.invariant in
+    let long : length (slice_set c.each.room c.each.self.base c.in-Ok.copy) ≡ length c.each.room = len_set c.each.room c.each.self.base c.in-Ok.copy in
+    record {
+      base = omega (arith, old.base);
+      bound = λ r. omega (arith, long, c.if-self-room.true);
+      context = old.context;
+      room = long ∙ old.room;
+      less = omega (arith, old.less);
+      unended = old.unended;
+      kept = λ S names size st e l i p q.
+          let inv = c.each.invariant in
+          (get_set c.each.room c.each.self.base i _ (λ z. omega (arith, z, q, inv.base)) ∙ inv.kept S names size st e l i p q);
+      came = λ aim at S start k names size st e l a.
+          let loop = c.each in
+          let inv = loop.invariant in
+          let right = every_item S _ _ c.arg-item.result names size c.each-test.true c.arg-item.is l.fits in
+          let item = next_item _ _ c.arg-item.result c.each-test.true c.arg-item.is in
+          let rest = map erase (drop (loop.arg-index + 1) c.args.args.now) in
+          let step = Argument aim (map plain (take loop.arg-index (drop c.args.self.now.base loop.room))) rest at in
+          let h1 = on _ (passing _ (sym (ap (map erase) item)) (inv.came aim at S start k names size st e l a)) refl in
+          let len : length names ≤ length loop.room = omega (arith, l.within, l.below, l.room, inv.room) in
+          let e1 = c.in-Some-local_at.ensures S _ names size c.args.depth loop.self.left start _ _ (Then step ∷ k) _ right len c.if-self-gt0.true c.if-depth-lt-MAX_DEPTH.true h1 in
+          let base = c.args.self.now.base in
+          let within : base + loop.arg-index < length loop.room = omega (arith, inv.base, c.if-self-room.true) in
+          rw inv.base (joined (me_of c.args.self.now.context.me) names base loop.arg-index loop.room loop.room c.in-Ok.copy (plain c.in-Some-local_at.value.now) c.in-Ok.ensures.value (omega (arith, l.within, l.below)) within (λ j q. refl) e1);
+    }

@@ -1,7 +1,7 @@
 use Rattle.std.proofs.Common.{take, ◌≡◌, ℕ, ◌≤◌, ◌<◌, ◌+◌, ◌-◌, ◌*◌, [], drop, map, length, false}
 use Rattle.std.specs.Prelude.{pos, ◌+ℤ◌, ◌≤ℤ◌, slice_get}
 use Rattle.rb_tree.specs.declared.span.Span.{Span}
-use Rattle.rb_model.specs.Values.{To, Nil, Int, plain}
+use Rattle.rb_model.specs.Values.{Value as Val, To, Nil, Int, plain}
 use Rattle.rb_model.specs.Log.{has_end}
 use Rattle.rb_machine.specs.Control.{EachPair, On, Following, Looping, Turning, Counting, Passing, Joining, Aim}
 use Rattle.rb_code.specs.Erase.{erase, erase_block, erase_piece}
@@ -164,13 +164,13 @@ abbrev pub decreases-begin_slow_update : goal.decreases-begin_slow_update
 decreases-begin_slow_update g l = 24 * (1001 - l.depth) + 12
 
 abbrev pub decreases-begin_operate : goal.decreases-begin_operate
-decreases-begin_operate g l = 24 * (1001 - l.depth) + 13
+decreases-begin_operate g l = 24 * (1001 - l.depth) + 14
 
 abbrev pub decreases-begin_slow_operate : goal.decreases-begin_slow_operate
 decreases-begin_slow_operate g l = 24 * (1001 - l.depth) + 12
 
 abbrev pub decreases-begin_send : goal.decreases-begin_send
-decreases-begin_send g l = 24 * (1001 - l.depth) + 8
+decreases-begin_send g l = 24 * (1001 - l.depth) + 10
 
 abbrev pub decreases-begin_function : goal.decreases-begin_function
 decreases-begin_function g l = 24 * (1001 - l.depth) + 8
@@ -197,7 +197,7 @@ abbrev pub decreases-evaluate_operand : goal.decreases-evaluate_operand
 decreases-evaluate_operand g l = 24 * (1001 - l.depth) + 2
 
 abbrev pub decreases-begin_operand : goal.decreases-begin_operand
-decreases-begin_operand g l = 24 * (1001 - l.depth) + 9
+decreases-begin_operand g l = 24 * (1001 - l.depth) + 11
 
 abbrev pub decreases-begin_other : goal.decreases-begin_other
 decreases-begin_other g l = 24 * (1001 - l.depth) + 16
@@ -267,9 +267,20 @@ invariant-body-nodes g l =
       room : length l.room ≡ length l.fn.room;
       less : l.self.left ≤ l.fn.self.left;
       unended : has_end (g.O.ThreadStore.log l.self.store).entries ≡ false;
-      going : is_left l.came ≡ false;
       kept : Keeps l.fn.self.context.script.now l.fn.self.context.program.now (λ S. every (map (fits S) l.nodes)) l.fn.self.base l.fn.room l.room;
-      came : Reaches l.fn.self.context.script.now l.fn.self.context.program.now l.fn.self.context.steps (me_of l.fn.self.context.me) (λ S. every (map (fits S) l.nodes)) (λ S k sc d n. On (Following Nil (map erase l.nodes)) k sc d n) (λ S k sc d n. On (Following (value_of l.came l.self.value) (map erase (drop l.node-index l.nodes))) k sc d n) l.fn.self.base l.depth l.fn.self.left l.self.left l.fn.room l.room (g.O.ThreadStore.log l.fn.self.store) (g.O.ThreadStore.log l.self.store) (g.O.ThreadStore.private l.fn.self.store) (g.O.ThreadStore.private l.self.store);
+      came : (v : Val) × Reaches l.fn.self.context.script.now l.fn.self.context.program.now l.fn.self.context.steps (me_of l.fn.self.context.me) (λ S. every (map (fits S) l.nodes)) (λ S k sc d n. On (Following Nil (map erase l.nodes)) k sc d n) (λ S k sc d n. On (Following v (map erase (drop l.node-index l.nodes))) k sc d n) l.fn.self.base l.depth l.fn.self.left l.self.left l.fn.room l.room (g.O.ThreadStore.log l.fn.self.store) (g.O.ThreadStore.log l.self.store) (g.O.ThreadStore.private l.fn.self.store) (g.O.ThreadStore.private l.self.store);
+    }
+
+abbrev pub invariant-passage-nodes : goal.invariant-passage-nodes
+invariant-passage-nodes g l =
+    record {
+      base : l.self.base ≡ l.fn.self.base;
+      context : l.self.context ≡ l.fn.self.context;
+      room : length l.room ≡ length l.fn.room;
+      less : l.self.left ≤ l.fn.self.left;
+      unended : has_end (g.O.ThreadStore.log l.self.store).entries ≡ false;
+      kept : Keeps l.fn.self.context.script.now l.fn.self.context.program.now (λ S. every (map (fits S) l.nodes)) l.fn.self.base l.fn.room l.room;
+      came : (v : Val) × Reaches l.fn.self.context.script.now l.fn.self.context.program.now l.fn.self.context.steps (me_of l.fn.self.context.me) (λ S. every (map (fits S) l.nodes)) (λ S k sc d n. On (Following Nil (map erase l.nodes)) k sc d n) (λ S k sc d n. On (Following v (map erase (drop l.node-index l.nodes))) k sc d n) l.fn.self.base l.depth l.fn.self.left l.self.left l.fn.room l.room (g.O.ThreadStore.log l.fn.self.store) (g.O.ThreadStore.log l.self.store) (g.O.ThreadStore.private l.fn.self.store) (g.O.ThreadStore.private l.self.store);
     }
 
 abbrev pub invariant-repeat-turns : goal.invariant-repeat-turns
@@ -390,3 +401,30 @@ decreases-operate_collection g l = 24 * (1001 - l.depth) + 6
 
 abbrev pub decreases-begin_store : goal.decreases-begin_store
 decreases-begin_store g l = 24 * (1001 - l.depth) + 8
+
+abbrev pub decreases-statement : goal.decreases-statement
+decreases-statement g l = 24 * (1001 - l.depth) + 2
+
+abbrev pub decreases-keep_local : goal.decreases-keep_local
+decreases-keep_local g l = 24 * (1001 - l.depth) + 4
+
+abbrev pub decreases-store_element : goal.decreases-store_element
+decreases-store_element g l = 24 * (1001 - l.depth) + 5
+
+abbrev pub decreases-evaluate_logic : goal.decreases-evaluate_logic
+decreases-evaluate_logic g l = 24 * (1001 - l.depth) + 2
+
+abbrev pub decreases-begin_logic : goal.decreases-begin_logic
+decreases-begin_logic g l = 24 * (1001 - l.depth) + 6
+
+abbrev pub decreases-begin_object_operate : goal.decreases-begin_object_operate
+decreases-begin_object_operate g l = 24 * (1001 - l.depth) + 13
+
+abbrev pub decreases-begin_slow_send : goal.decreases-begin_slow_send
+decreases-begin_slow_send g l = 24 * (1001 - l.depth) + 8
+
+abbrev pub decreases-begin_read : goal.decreases-begin_read
+decreases-begin_read g l = 24 * (1001 - l.depth) + 9
+
+abbrev pub decreases-passage : goal.decreases-passage
+decreases-passage g l = 24 * (1001 - l.depth) + 4

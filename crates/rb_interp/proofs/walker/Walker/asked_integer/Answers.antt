@@ -12,4 +12,4 @@ returns-then-is_element-clause-came g c =
 pub returns-clause-came : goal.returns-clause-came
 returns-clause-came g c =
     let z : to_z w64 (of_z w64 c.args.index) ≡ c.args.index = search rules in
-    rw z at c.call_with.ensures.came
+    rw z at c.asked_any.ensures.came

@@ -1,11 +1,6 @@
 use Rattle.std.proofs.Common.{◌≡◌, to_z, of_z, w64, rules}
 use Rattle.rb_interp.proofs.walker.Walker.asked_with.Goals as goal
 
-pub returns-in_default-clause-came : goal.returns-in_default-clause-came
-returns-in_default-clause-came g c =
-    let t = c.take-arg.ensures in
-    rw (t.context, t.value, t.left, t.store) at c.call_with.ensures.came
-
 pub returns-in-Int-clause-came : goal.returns-in-Int-clause-came
 returns-in-Int-clause-came g c =
     let z : to_z w64 (of_z w64 c.in-Int.index) ≡ c.in-Int.index = search rules in

@@ -6,11 +6,11 @@ use Rattle.rb_interp.specs.Answers.{outcome_of}
 use Rattle.rb_interp.proofs.Calls.{left_answered, answers, or_memory}
 use Rattle.rb_interp.proofs.walker.Walker.call_with.Goals as goal
 
-pub returns-then-is_collection-clause-came : goal.returns-then-is_collection-clause-came
-returns-then-is_collection-clause-came g c = rw c.as_slice.ensures at c.call_any.ensures.came
+pub returns-in-Some-clause-came : goal.returns-in-Some-clause-came
+returns-in-Some-clause-came g c = rw c.in-Some.ensures.some c.asked_value.ensures.came
 
-pub returns-clause-came : goal.returns-clause-came
-returns-clause-came g c = λ name e S start k sc p a.
+pub returns-in-None-clause-came : goal.returns-in-None-clause-came
+returns-in-None-clause-came g c = λ name e S start k sc p a.
     let o = c.operated.ensures in
     let answer = deed c.args.self.now.context.program.now (plain c.args.receiver.now) name (plain c.args.arg ∷ []) None in
     rw (o.store, o.left)

@@ -8,6 +8,12 @@ use Rattle.rb_interp.proofs.Moves.{on, same}
 use Rattle.rb_interp.proofs.Outcomes.{given, passes}
 use Rattle.rb_interp.proofs.walker.Walker.write_element.Goals as goal
 
+pub returns-in-Some-clause-came : goal.returns-in-Some-clause-came
+returns-in-Some-clause-came g c = λ S start k sc p a.
+    let v = value_of c.args.came c.args.self.now.value in
+    let written = same a (writes_so S c.args.self.now.context.program.now (plain c.args.index ∷ v ∷ []) (plain c.args.receiver.now) (plain c.args.index) v c.args.at (Then (Instead v) ∷ k) sc _ _ p refl) in
+    c.stored.ensures.came (codes "[]=") refl S start k sc p (rw c.in-Some.ensures.some at written)
+
 pub returns-then-is_left-clause-came : goal.returns-then-is_left-clause-came
 returns-then-is_left-clause-came g c = λ S start k sc p a.
     let v = value_of c.args.came c.args.self.now.value in

@@ -1,0 +1,669 @@
+// The starts of nodes whose steps are counted.
+
+ghost use Rattle.std.specs.Prelude.{◌≡◌, ◌≤◌, false, [], length, None, IfSome};
+ghost use Rattle.rb_tree.specs.declared.node.Node.{out-Node};
+ghost use Rattle.rb_model.specs.Log.{has_end};
+ghost use Rattle.rb_machine.specs.Begin.{begin};
+ghost use Rattle.rb_code.specs.Erase.{erase};
+ghost use Rattle.rb_code.specs.Resolved.{fits};
+ghost use Rattle.rb_interp.specs.Outcome.{outcome};
+ghost use Rattle.rb_interp.specs.Carries.{Carries, Keeps, me_of};
+ghost use Rattle.rb_interp.specs.Readers.{SendsTo};
+
+use super::{MAX_DEPTH, Walker};
+use crate::came::{Came, Cut, Leave};
+use crate::leaf::{
+    held_alone, held_at, is_deep, is_object_at, is_operate, local_at, quick, quick_update,
+    update_over,
+};
+use crate::target::{local_collection, local_target, reader_of};
+use rb_builtin::Builtin;
+use rb_code::Code;
+use rb_model::{Act, Fault, ThreadStore, Value};
+use rb_tree::{NameId, Span};
+
+impl<'p, O: ThreadStore + Drop> Walker<'p, O> {
+    /// An assignment to a local whose step is counted.
+    #[cycle(walk)]
+    #[inline(never)]
+    pub(super) fn begin_set(&mut self, code: &'p Code, depth: u32, room: &mut [Value]) -> Came
+        requires unended { has_end (O.log self.old.store).entries ≡ false }
+        requires steps { self.old.left ≤ self.old.context.steps }
+        ensures base { self.new.base ≡ self.old.base }
+        ensures context { self.new.context ≡ self.old.context }
+        ensures room { length room.new ≡ length room.old }
+        ensures less { self.new.left ≤ self.old.left }
+        ensures unended { has_end (O.log self.new.store).entries ≡ false }
+        ensures kept { Keeps self.old.context.script.now self.old.context.program.now (λ S. fits S code.now) self.old.base room.old room.new }
+        ensures came { Carries self.old.context.script.now self.old.context.program.now self.old.context.steps (me_of self.old.context.me) (λ S. fits S code.now) (λ S k sc d n. begin S (out-Node (erase code.now)) k sc d n) self.old.base depth self.old.left self.new.left room.old room.new (O.log self.old.store) (O.log self.new.store) (O.private self.old.store) (O.private self.new.store) (outcome result self.new.value self.new.leave) }
+    {
+        match code {
+            Code::SetLocal(slot, _, value, _) => self.set_local(*slot, value.get(), depth, room),
+            _ => self.over(Cut::Memory),
+        }
+    }
+
+    /// An assignment with an operator to a local. Over an integer and a leaf that is one it calls nothing of the walk.
+    #[cycle(walk)]
+    #[inline(never)]
+    pub(super) fn begin_update(&mut self, code: &'p Code, depth: u32, room: &mut [Value]) -> Came
+        requires unended { has_end (O.log self.old.store).entries ≡ false }
+        requires steps { self.old.left ≤ self.old.context.steps }
+        ensures base { self.new.base ≡ self.old.base }
+        ensures context { self.new.context ≡ self.old.context }
+        ensures room { length room.new ≡ length room.old }
+        ensures less { self.new.left ≤ self.old.left }
+        ensures unended { has_end (O.log self.new.store).entries ≡ false }
+        ensures kept { Keeps self.old.context.script.now self.old.context.program.now (λ S. fits S code.now) self.old.base room.old room.new }
+        ensures came { Carries self.old.context.script.now self.old.context.program.now self.old.context.steps (me_of self.old.context.me) (λ S. fits S code.now) (λ S k sc d n. begin S (out-Node (erase code.now)) k sc d n) self.old.base depth self.old.left self.new.left room.old room.new (O.log self.old.store) (O.log self.new.store) (O.private self.old.store) (O.private self.new.store) (outcome result self.new.value self.new.leave) }
+    {
+        match code {
+            Code::UpdateLocal(slot, _, op, value, _) => {
+                let value = value.get();
+                if is_deep(value) {
+                    return self.begin_slow_update(code, depth, room);
+                }
+                if is_operate(value) {
+                    return self.begin_update_over(code, depth, room);
+                }
+                if self.left > 0 && depth < MAX_DEPTH {
+                    if let Some(n) = quick_update(*slot, *op, value, room) {
+                        self.left -= 1;
+                        return Came::Int(n);
+                    }
+                }
+                self.begin_slow_update(code, depth, room)
+            }
+            _ => self.over(Cut::Memory),
+        }
+    }
+
+    /// An assignment with an operator and an operation to a local. Over integers it calls nothing of the walk.
+    #[cycle(walk)]
+    #[inline(never)]
+    fn begin_update_over(&mut self, code: &'p Code, depth: u32, room: &mut [Value]) -> Came
+        requires unended { has_end (O.log self.old.store).entries ≡ false }
+        requires steps { self.old.left ≤ self.old.context.steps }
+        ensures base { self.new.base ≡ self.old.base }
+        ensures context { self.new.context ≡ self.old.context }
+        ensures room { length room.new ≡ length room.old }
+        ensures less { self.new.left ≤ self.old.left }
+        ensures unended { has_end (O.log self.new.store).entries ≡ false }
+        ensures kept { Keeps self.old.context.script.now self.old.context.program.now (λ S. fits S code.now) self.old.base room.old room.new }
+        ensures came { Carries self.old.context.script.now self.old.context.program.now self.old.context.steps (me_of self.old.context.me) (λ S. fits S code.now) (λ S k sc d n. begin S (out-Node (erase code.now)) k sc d n) self.old.base depth self.old.left self.new.left room.old room.new (O.log self.old.store) (O.log self.new.store) (O.private self.old.store) (O.private self.new.store) (outcome result self.new.value self.new.leave) }
+    {
+        match code {
+            Code::UpdateLocal(slot, _, op, value, _) => {
+                if self.left > 2 && depth < MAX_DEPTH - 1 {
+                    if let Some(n) = update_over(*slot, *op, value.get(), room) {
+                        self.left -= 3;
+                        return Came::Int(n);
+                    }
+                }
+                self.begin_slow_update(code, depth, room)
+            }
+            _ => self.over(Cut::Memory),
+        }
+    }
+
+    /// Any assignment with an operator to a local.
+    #[cycle(walk)]
+    #[inline(never)]
+    fn begin_slow_update(&mut self, code: &'p Code, depth: u32, room: &mut [Value]) -> Came
+        requires unended { has_end (O.log self.old.store).entries ≡ false }
+        requires steps { self.old.left ≤ self.old.context.steps }
+        ensures base { self.new.base ≡ self.old.base }
+        ensures context { self.new.context ≡ self.old.context }
+        ensures room { length room.new ≡ length room.old }
+        ensures less { self.new.left ≤ self.old.left }
+        ensures unended { has_end (O.log self.new.store).entries ≡ false }
+        ensures kept { Keeps self.old.context.script.now self.old.context.program.now (λ S. fits S code.now) self.old.base room.old room.new }
+        ensures came { Carries self.old.context.script.now self.old.context.program.now self.old.context.steps (me_of self.old.context.me) (λ S. fits S code.now) (λ S k sc d n. begin S (out-Node (erase code.now)) k sc d n) self.old.base depth self.old.left self.new.left room.old room.new (O.log self.old.store) (O.log self.new.store) (O.private self.old.store) (O.private self.new.store) (outcome result self.new.value self.new.leave) }
+    {
+        match code {
+            Code::UpdateLocal(slot, _, op, value, at) => {
+                self.update_local(*slot, *op, value.get(), *at, depth, room)
+            }
+            _ => self.over(Cut::Memory),
+        }
+    }
+
+    /// A call with one argument. Over two leaves that are integers it calls nothing of the walk.
+    #[cycle(walk)]
+    #[inline(never)]
+    pub(super) fn begin_operate(&mut self, code: &'p Code, depth: u32, room: &mut [Value]) -> Came
+        requires unended { has_end (O.log self.old.store).entries ≡ false }
+        requires steps { self.old.left ≤ self.old.context.steps }
+        ensures base { self.new.base ≡ self.old.base }
+        ensures context { self.new.context ≡ self.old.context }
+        ensures room { length room.new ≡ length room.old }
+        ensures less { self.new.left ≤ self.old.left }
+        ensures unended { has_end (O.log self.new.store).entries ≡ false }
+        ensures kept { Keeps self.old.context.script.now self.old.context.program.now (λ S. fits S code.now) self.old.base room.old room.new }
+        ensures came { Carries self.old.context.script.now self.old.context.program.now self.old.context.steps (me_of self.old.context.me) (λ S. fits S code.now) (λ S k sc d n. begin S (out-Node (erase code.now)) k sc d n) self.old.base depth self.old.left self.new.left room.old room.new (O.log self.old.store) (O.log self.new.store) (O.private self.old.store) (O.private self.new.store) (outcome result self.new.value self.new.leave) }
+    {
+        match code {
+            Code::Operate(method, _, left, right, at) => {
+                let left = left.get();
+                let right = right.get();
+                if self.left > 1 && depth < MAX_DEPTH {
+                    if let Some(answer) = quick(*method, left, right, room) {
+                        self.left -= 2;
+                        return self.answer(answer, *at);
+                    }
+                }
+                if is_object_at(left, room) {
+                    return self.begin_object_operate(code, depth, room);
+                }
+                self.begin_slow_operate(code, depth, room)
+            }
+            _ => self.over(Cut::Memory),
+        }
+    }
+
+    /// A call with one argument to the object of a local, whose class has the method.
+    #[cycle(walk)]
+    #[inline(never)]
+    fn begin_object_operate(&mut self, code: &'p Code, depth: u32, room: &mut [Value]) -> Came
+        requires unended { has_end (O.log self.old.store).entries ≡ false }
+        requires steps { self.old.left ≤ self.old.context.steps }
+        ensures base { self.new.base ≡ self.old.base }
+        ensures context { self.new.context ≡ self.old.context }
+        ensures room { length room.new ≡ length room.old }
+        ensures less { self.new.left ≤ self.old.left }
+        ensures unended { has_end (O.log self.new.store).entries ≡ false }
+        ensures kept { Keeps self.old.context.script.now self.old.context.program.now (λ S. fits S code.now) self.old.base room.old room.new }
+        ensures came { Carries self.old.context.script.now self.old.context.program.now self.old.context.steps (me_of self.old.context.me) (λ S. fits S code.now) (λ S k sc d n. begin S (out-Node (erase code.now)) k sc d n) self.old.base depth self.old.left self.new.left room.old room.new (O.log self.old.store) (O.log self.new.store) (O.private self.old.store) (O.private self.new.store) (outcome result self.new.value self.new.leave) }
+    {
+        match code {
+            Code::Operate(_, name, left, right, at) => {
+                let left = left.get();
+                let right = right.get();
+                if self.left > 0 && depth < MAX_DEPTH {
+                    if let Some(target) = local_target(self.context.script, left, *name, room) {
+                        self.left -= 1;
+                        return self.operate_target(target, *name, right, *at, depth, room);
+                    }
+                }
+                self.begin_slow_operate(code, depth, room)
+            }
+            _ => self.over(Cut::Memory),
+        }
+    }
+
+    /// Any call with one argument. Over two locals it takes no values out of their slots.
+    #[cycle(walk)]
+    #[inline(never)]
+    pub(super) fn begin_slow_operate(
+        &mut self,
+        code: &'p Code,
+        depth: u32,
+        room: &mut [Value],
+    ) -> Came
+        requires unended { has_end (O.log self.old.store).entries ≡ false }
+        requires steps { self.old.left ≤ self.old.context.steps }
+        ensures base { self.new.base ≡ self.old.base }
+        ensures context { self.new.context ≡ self.old.context }
+        ensures room { length room.new ≡ length room.old }
+        ensures less { self.new.left ≤ self.old.left }
+        ensures unended { has_end (O.log self.new.store).entries ≡ false }
+        ensures kept { Keeps self.old.context.script.now self.old.context.program.now (λ S. fits S code.now) self.old.base room.old room.new }
+        ensures came { Carries self.old.context.script.now self.old.context.program.now self.old.context.steps (me_of self.old.context.me) (λ S. fits S code.now) (λ S k sc d n. begin S (out-Node (erase code.now)) k sc d n) self.old.base depth self.old.left self.new.left room.old room.new (O.log self.old.store) (O.log self.new.store) (O.private self.old.store) (O.private self.new.store) (outcome result self.new.value self.new.leave) }
+    {
+        match code {
+            Code::Operate(method, name, left, right, at) => {
+                let left = left.get();
+                let right = right.get();
+                if self.left > 1 && depth < MAX_DEPTH {
+                    if let Some(thing) = local_collection(left, room) {
+                        self.left -= 1;
+                        return self.operate_collection(
+                            thing, *method, *name, right, *at, depth, room,
+                        );
+                    }
+                    if let Some(receiver) = held_at(left, room) {
+                        if let Some(arg) = held_alone(right, room) {
+                            self.left -= 2;
+                            return self.call_held(receiver, *method, arg, *at);
+                        }
+                    }
+                    if let Some(target) = local_target(self.context.script, left, *name, room) {
+                        self.left -= 1;
+                        return self.operate_target(target, *name, right, *at, depth, room);
+                    }
+                }
+                self.operate(*method, *name, left, right, *at, depth, room)
+            }
+            _ => self.over(Cut::Memory),
+        }
+    }
+
+    /// What comes of a method that is sent without arguments to an object and only reads an instance variable, where the object is a
+    /// local's. Else nothing is done.
+    #[inline(always)]
+    fn sent_reader(
+        &mut self,
+        method: Option<Builtin>,
+        name: NameId,
+        receiver: &Code,
+        args: &[Code],
+        at: Span,
+        depth: u32,
+        room: &[Value],
+    ) -> Option<Came>
+        requires unended { has_end (O.log self.old.store).entries ≡ false }
+        ensures none { result ≡ None → self.new ≡ self.old }
+        ensures empty { IfSome result (λ _. args.now ≡ []) }
+        ensures base { self.new.base ≡ self.old.base }
+        ensures context { self.new.context ≡ self.old.context }
+        ensures less { self.new.left ≤ self.old.left }
+        ensures log { O.log self.new.store ≡ O.log self.old.store }
+        ensures came { IfSome result (λ came. SendsTo self.old.context.script.now self.old.context.program.now self.old.context.steps (me_of self.old.context.me) receiver.now method name at depth self.old.left self.new.left room.now (O.log self.old.store) (O.log self.new.store) (O.private self.old.store) (O.private self.new.store) (outcome came self.new.value self.new.leave)) }
+    {
+        if !args.is_empty() {
+            return None;
+        }
+        if self.left < 2 || depth >= MAX_DEPTH {
+            return None;
+        }
+        let reader = reader_of(self.context.script, local_at(receiver, room)?, name)?;
+        self.left -= 2;
+        let came = self.ask(reader.object, Act::GetField(reader.field), reader.at);
+        Some(self.out_of_call(came))
+    }
+
+    /// What comes of a method that is sent without arguments, where the receiver is a local that holds no thing. Else nothing is done.
+    #[inline(always)]
+    fn sent(
+        &mut self,
+        method: Option<Builtin>,
+        name: NameId,
+        receiver: &Code,
+        args: &[Code],
+        at: Span,
+        depth: u32,
+        room: &[Value],
+    ) -> Option<Came>
+        requires unended { has_end (O.log self.old.store).entries ≡ false }
+        ensures none { result ≡ None → self.new ≡ self.old }
+        ensures empty { IfSome result (λ _. args.now ≡ []) }
+        ensures base { self.new.base ≡ self.old.base }
+        ensures context { self.new.context ≡ self.old.context }
+        ensures less { self.new.left ≤ self.old.left }
+        ensures log { O.log self.new.store ≡ O.log self.old.store }
+        ensures came { IfSome result (λ came. SendsTo self.old.context.script.now self.old.context.program.now self.old.context.steps (me_of self.old.context.me) receiver.now method name at depth self.old.left self.new.left room.now (O.log self.old.store) (O.log self.new.store) (O.private self.old.store) (O.private self.new.store) (outcome came self.new.value self.new.leave)) }
+    {
+        if !args.is_empty() {
+            return None;
+        }
+        if self.left < 2 || depth >= MAX_DEPTH {
+            return None;
+        }
+        let held = held_at(receiver, room)?;
+        self.left -= 1;
+        Some(self.call_held(held, method, &[], at))
+    }
+
+    /// A call with a receiver, without a block.
+    #[cycle(walk)]
+    #[inline(always)]
+    pub(super) fn begin_send(&mut self, code: &'p Code, depth: u32, room: &mut [Value]) -> Came
+        requires unended { has_end (O.log self.old.store).entries ≡ false }
+        requires steps { self.old.left ≤ self.old.context.steps }
+        ensures base { self.new.base ≡ self.old.base }
+        ensures context { self.new.context ≡ self.old.context }
+        ensures room { length room.new ≡ length room.old }
+        ensures less { self.new.left ≤ self.old.left }
+        ensures unended { has_end (O.log self.new.store).entries ≡ false }
+        ensures kept { Keeps self.old.context.script.now self.old.context.program.now (λ S. fits S code.now) self.old.base room.old room.new }
+        ensures came { Carries self.old.context.script.now self.old.context.program.now self.old.context.steps (me_of self.old.context.me) (λ S. fits S code.now) (λ S k sc d n. begin S (out-Node (erase code.now)) k sc d n) self.old.base depth self.old.left self.new.left room.old room.new (O.log self.old.store) (O.log self.new.store) (O.private self.old.store) (O.private self.new.store) (outcome result self.new.value self.new.leave) }
+    {
+        match code {
+            Code::Send(_, _, receiver, _, _) => {
+                if is_object_at(receiver.get(), room) {
+                    return self.begin_read(code, depth, room);
+                }
+                self.begin_slow_send(code, depth, room)
+            }
+            _ => self.over(Cut::Memory),
+        }
+    }
+
+    /// A call with a receiver, without a block. What only reads an instance variable of a local's object is done here.
+    #[cycle(walk)]
+    #[inline(never)]
+    fn begin_read(&mut self, code: &'p Code, depth: u32, room: &mut [Value]) -> Came
+        requires unended { has_end (O.log self.old.store).entries ≡ false }
+        requires steps { self.old.left ≤ self.old.context.steps }
+        ensures base { self.new.base ≡ self.old.base }
+        ensures context { self.new.context ≡ self.old.context }
+        ensures room { length room.new ≡ length room.old }
+        ensures less { self.new.left ≤ self.old.left }
+        ensures unended { has_end (O.log self.new.store).entries ≡ false }
+        ensures kept { Keeps self.old.context.script.now self.old.context.program.now (λ S. fits S code.now) self.old.base room.old room.new }
+        ensures came { Carries self.old.context.script.now self.old.context.program.now self.old.context.steps (me_of self.old.context.me) (λ S. fits S code.now) (λ S k sc d n. begin S (out-Node (erase code.now)) k sc d n) self.old.base depth self.old.left self.new.left room.old room.new (O.log self.old.store) (O.log self.new.store) (O.private self.old.store) (O.private self.new.store) (outcome result self.new.value self.new.leave) }
+    {
+        match code {
+            Code::Send(method, name, receiver, args, at) => {
+                let receiver = receiver.get();
+                let args = args.as_slice();
+                match self.sent_reader(*method, *name, receiver, args, *at, depth, room) {
+                    Some(came) => came,
+                    None => self.begin_slow_send(code, depth, room),
+                }
+            }
+            _ => self.over(Cut::Memory),
+        }
+    }
+
+    /// Any call with a receiver, without a block. To a local without arguments it takes no value out of its slot.
+    #[cycle(walk)]
+    #[inline(never)]
+    fn begin_slow_send(&mut self, code: &'p Code, depth: u32, room: &mut [Value]) -> Came
+        requires unended { has_end (O.log self.old.store).entries ≡ false }
+        requires steps { self.old.left ≤ self.old.context.steps }
+        ensures base { self.new.base ≡ self.old.base }
+        ensures context { self.new.context ≡ self.old.context }
+        ensures room { length room.new ≡ length room.old }
+        ensures less { self.new.left ≤ self.old.left }
+        ensures unended { has_end (O.log self.new.store).entries ≡ false }
+        ensures kept { Keeps self.old.context.script.now self.old.context.program.now (λ S. fits S code.now) self.old.base room.old room.new }
+        ensures came { Carries self.old.context.script.now self.old.context.program.now self.old.context.steps (me_of self.old.context.me) (λ S. fits S code.now) (λ S k sc d n. begin S (out-Node (erase code.now)) k sc d n) self.old.base depth self.old.left self.new.left room.old room.new (O.log self.old.store) (O.log self.new.store) (O.private self.old.store) (O.private self.new.store) (outcome result self.new.value self.new.leave) }
+    {
+        match code {
+            Code::Send(method, name, receiver, args, at) => {
+                let receiver = receiver.get();
+                let args = args.as_slice();
+                match self.sent(*method, *name, receiver, args, *at, depth, room) {
+                    Some(came) => came,
+                    None => self.send(*method, *name, receiver, args, *at, depth, room),
+                }
+            }
+            _ => self.over(Cut::Memory),
+        }
+    }
+
+    /// A call by a name alone of a method of the script that has a number: one of the class of `self` goes before it.
+    #[cycle(walk)]
+    #[inline(never)]
+    pub(super) fn begin_function(&mut self, code: &'p Code, depth: u32, room: &mut [Value]) -> Came
+        requires unended { has_end (O.log self.old.store).entries ≡ false }
+        requires steps { self.old.left ≤ self.old.context.steps }
+        ensures base { self.new.base ≡ self.old.base }
+        ensures context { self.new.context ≡ self.old.context }
+        ensures room { length room.new ≡ length room.old }
+        ensures less { self.new.left ≤ self.old.left }
+        ensures unended { has_end (O.log self.new.store).entries ≡ false }
+        ensures kept { Keeps self.old.context.script.now self.old.context.program.now (λ S. fits S code.now) self.old.base room.old room.new }
+        ensures came { Carries self.old.context.script.now self.old.context.program.now self.old.context.steps (me_of self.old.context.me) (λ S. fits S code.now) (λ S k sc d n. begin S (out-Node (erase code.now)) k sc d n) self.old.base depth self.old.left self.new.left room.old room.new (O.log self.old.store) (O.log self.new.store) (O.private self.old.store) (O.private self.new.store) (outcome result self.new.value self.new.leave) }
+    {
+        match code {
+            Code::Function(number, name, args, at) => {
+                let args = args.as_slice();
+                match self.own_target(*name) {
+                    Some(target) => self.own(target, *name, args, *at, depth, room),
+                    None => self.function(*number, *name, args, *at, depth, room),
+                }
+            }
+            _ => self.over(Cut::Memory),
+        }
+    }
+
+    /// A local, an instance variable, a truth value or a call with a receiver, whose step is counted.
+    #[cycle(walk)]
+    #[inline(always)]
+    pub(super) fn begin_operand(&mut self, code: &'p Code, depth: u32, room: &mut [Value]) -> Came
+        requires unended { has_end (O.log self.old.store).entries ≡ false }
+        requires steps { self.old.left ≤ self.old.context.steps }
+        ensures base { self.new.base ≡ self.old.base }
+        ensures context { self.new.context ≡ self.old.context }
+        ensures room { length room.new ≡ length room.old }
+        ensures less { self.new.left ≤ self.old.left }
+        ensures unended { has_end (O.log self.new.store).entries ≡ false }
+        ensures kept { Keeps self.old.context.script.now self.old.context.program.now (λ S. fits S code.now) self.old.base room.old room.new }
+        ensures came { Carries self.old.context.script.now self.old.context.program.now self.old.context.steps (me_of self.old.context.me) (λ S. fits S code.now) (λ S k sc d n. begin S (out-Node (erase code.now)) k sc d n) self.old.base depth self.old.left self.new.left room.old room.new (O.log self.old.store) (O.log self.new.store) (O.private self.old.store) (O.private self.new.store) (outcome result self.new.value self.new.leave) }
+    {
+        match code {
+            Code::Field(name, at) => self.field_apart(*name, *at),
+            Code::Local(slot, _, _) => self.read(*slot, room),
+            Code::False(_) => Came::False,
+            Code::True(_) => Came::True,
+            _ => self.begin_send(code, depth, room),
+        }
+    }
+
+    /// A choice between two bodies.
+    #[cycle(walk)]
+    #[inline(never)]
+    pub(super) fn begin_choice(&mut self, code: &'p Code, depth: u32, room: &mut [Value]) -> Came
+        requires unended { has_end (O.log self.old.store).entries ≡ false }
+        requires steps { self.old.left ≤ self.old.context.steps }
+        ensures base { self.new.base ≡ self.old.base }
+        ensures context { self.new.context ≡ self.old.context }
+        ensures room { length room.new ≡ length room.old }
+        ensures less { self.new.left ≤ self.old.left }
+        ensures unended { has_end (O.log self.new.store).entries ≡ false }
+        ensures kept { Keeps self.old.context.script.now self.old.context.program.now (λ S. fits S code.now) self.old.base room.old room.new }
+        ensures came { Carries self.old.context.script.now self.old.context.program.now self.old.context.steps (me_of self.old.context.me) (λ S. fits S code.now) (λ S k sc d n. begin S (out-Node (erase code.now)) k sc d n) self.old.base depth self.old.left self.new.left room.old room.new (O.log self.old.store) (O.log self.new.store) (O.private self.old.store) (O.private self.new.store) (outcome result self.new.value self.new.leave) }
+    {
+        match code {
+            Code::If(condition, first, second, _) => self.choose(
+                condition.get(),
+                first.as_slice(),
+                second.as_slice(),
+                depth,
+                room,
+            ),
+            _ => self.over(Cut::Memory),
+        }
+    }
+
+    /// A node that combines truth values, whose step is counted.
+    #[cycle(walk)]
+    #[inline(never)]
+    pub(super) fn begin_logic(&mut self, code: &'p Code, depth: u32, room: &mut [Value]) -> Came
+        requires unended { has_end (O.log self.old.store).entries ≡ false }
+        requires steps { self.old.left ≤ self.old.context.steps }
+        ensures base { self.new.base ≡ self.old.base }
+        ensures context { self.new.context ≡ self.old.context }
+        ensures room { length room.new ≡ length room.old }
+        ensures less { self.new.left ≤ self.old.left }
+        ensures unended { has_end (O.log self.new.store).entries ≡ false }
+        ensures kept { Keeps self.old.context.script.now self.old.context.program.now (λ S. fits S code.now) self.old.base room.old room.new }
+        ensures came { Carries self.old.context.script.now self.old.context.program.now self.old.context.steps (me_of self.old.context.me) (λ S. fits S code.now) (λ S k sc d n. begin S (out-Node (erase code.now)) k sc d n) self.old.base depth self.old.left self.new.left room.old room.new (O.log self.old.store) (O.log self.new.store) (O.private self.old.store) (O.private self.new.store) (outcome result self.new.value self.new.leave) }
+    {
+        match code {
+            Code::And(first, second, _) => self.both(first.get(), second.get(), depth, room),
+            Code::Or(first, second, _) => self.either(first.get(), second.get(), depth, room),
+            Code::Not(value, _) => self.negate(value.get(), depth, room),
+            _ => self.over(Cut::Memory),
+        }
+    }
+
+    /// An assignment to an instance variable.
+    #[cycle(walk)]
+    #[inline(never)]
+    pub(super) fn begin_set_field(&mut self, code: &'p Code, depth: u32, room: &mut [Value]) -> Came
+        requires unended { has_end (O.log self.old.store).entries ≡ false }
+        requires steps { self.old.left ≤ self.old.context.steps }
+        ensures base { self.new.base ≡ self.old.base }
+        ensures context { self.new.context ≡ self.old.context }
+        ensures room { length room.new ≡ length room.old }
+        ensures less { self.new.left ≤ self.old.left }
+        ensures unended { has_end (O.log self.new.store).entries ≡ false }
+        ensures kept { Keeps self.old.context.script.now self.old.context.program.now (λ S. fits S code.now) self.old.base room.old room.new }
+        ensures came { Carries self.old.context.script.now self.old.context.program.now self.old.context.steps (me_of self.old.context.me) (λ S. fits S code.now) (λ S k sc d n. begin S (out-Node (erase code.now)) k sc d n) self.old.base depth self.old.left self.new.left room.old room.new (O.log self.old.store) (O.log self.new.store) (O.private self.old.store) (O.private self.new.store) (outcome result self.new.value self.new.leave) }
+    {
+        match code {
+            Code::SetField(name, value, at) => {
+                self.set_field(*name, value.get(), *at, depth, room)
+            }
+            _ => self.over(Cut::Memory),
+        }
+    }
+
+    /// An assignment with an operator to an instance variable.
+    #[cycle(walk)]
+    #[inline(never)]
+    pub(super) fn begin_update_field(
+        &mut self,
+        code: &'p Code,
+        depth: u32,
+        room: &mut [Value],
+    ) -> Came
+        requires unended { has_end (O.log self.old.store).entries ≡ false }
+        requires steps { self.old.left ≤ self.old.context.steps }
+        ensures base { self.new.base ≡ self.old.base }
+        ensures context { self.new.context ≡ self.old.context }
+        ensures room { length room.new ≡ length room.old }
+        ensures less { self.new.left ≤ self.old.left }
+        ensures unended { has_end (O.log self.new.store).entries ≡ false }
+        ensures kept { Keeps self.old.context.script.now self.old.context.program.now (λ S. fits S code.now) self.old.base room.old room.new }
+        ensures came { Carries self.old.context.script.now self.old.context.program.now self.old.context.steps (me_of self.old.context.me) (λ S. fits S code.now) (λ S k sc d n. begin S (out-Node (erase code.now)) k sc d n) self.old.base depth self.old.left self.new.left room.old room.new (O.log self.old.store) (O.log self.new.store) (O.private self.old.store) (O.private self.new.store) (outcome result self.new.value self.new.leave) }
+    {
+        match code {
+            Code::UpdateField(name, op, value, at) => {
+                self.update_field(*name, *op, value.get(), *at, depth, room)
+            }
+            _ => self.over(Cut::Memory),
+        }
+    }
+
+    /// An assignment by the call of a method.
+    #[cycle(walk)]
+    #[inline(never)]
+    pub(super) fn begin_store(&mut self, code: &'p Code, depth: u32, room: &mut [Value]) -> Came
+        requires unended { has_end (O.log self.old.store).entries ≡ false }
+        requires steps { self.old.left ≤ self.old.context.steps }
+        ensures base { self.new.base ≡ self.old.base }
+        ensures context { self.new.context ≡ self.old.context }
+        ensures room { length room.new ≡ length room.old }
+        ensures less { self.new.left ≤ self.old.left }
+        ensures unended { has_end (O.log self.new.store).entries ≡ false }
+        ensures kept { Keeps self.old.context.script.now self.old.context.program.now (λ S. fits S code.now) self.old.base room.old room.new }
+        ensures came { Carries self.old.context.script.now self.old.context.program.now self.old.context.steps (me_of self.old.context.me) (λ S. fits S code.now) (λ S k sc d n. begin S (out-Node (erase code.now)) k sc d n) self.old.base depth self.old.left self.new.left room.old room.new (O.log self.old.store) (O.log self.new.store) (O.private self.old.store) (O.private self.new.store) (outcome result self.new.value self.new.leave) }
+    {
+        match code {
+            Code::Store(method, receiver, name, args, at) => {
+                let receiver = receiver.get();
+                let args = args.as_slice();
+                if self.left > 0 && depth < MAX_DEPTH {
+                    if let [index, value] = args {
+                        if let Some(thing) = local_collection(receiver, room) {
+                            self.left -= 1;
+                            return self.store_element(
+                                thing, *method, *name, index, value, *at, depth, room,
+                            );
+                        }
+                    }
+                }
+                self.store_by(*method, receiver, *name, args, *at, depth, room)
+            }
+            _ => self.over(Cut::Memory),
+        }
+    }
+
+    /// A new object.
+    #[cycle(walk)]
+    #[inline(never)]
+    pub(super) fn begin_new(&mut self, code: &'p Code, depth: u32, room: &mut [Value]) -> Came
+        requires unended { has_end (O.log self.old.store).entries ≡ false }
+        requires steps { self.old.left ≤ self.old.context.steps }
+        ensures base { self.new.base ≡ self.old.base }
+        ensures context { self.new.context ≡ self.old.context }
+        ensures room { length room.new ≡ length room.old }
+        ensures less { self.new.left ≤ self.old.left }
+        ensures unended { has_end (O.log self.new.store).entries ≡ false }
+        ensures kept { Keeps self.old.context.script.now self.old.context.program.now (λ S. fits S code.now) self.old.base room.old room.new }
+        ensures came { Carries self.old.context.script.now self.old.context.program.now self.old.context.steps (me_of self.old.context.me) (λ S. fits S code.now) (λ S k sc d n. begin S (out-Node (erase code.now)) k sc d n) self.old.base depth self.old.left self.new.left room.old room.new (O.log self.old.store) (O.log self.new.store) (O.private self.old.store) (O.private self.new.store) (outcome result self.new.value self.new.leave) }
+    {
+        match code {
+            Code::New(class, first, name, args, at) => self.create(
+                *class,
+                *first,
+                *name,
+                args.as_slice(),
+                *at,
+                depth,
+                room,
+            ),
+            _ => self.over(Cut::Memory),
+        }
+    }
+
+    /// A node of the other kinds whose step is counted.
+    #[cycle(walk)]
+    #[inline(never)]
+    pub(super) fn begin_other(&mut self, code: &'p Code, depth: u32, room: &mut [Value]) -> Came
+        requires unended { has_end (O.log self.old.store).entries ≡ false }
+        requires steps { self.old.left ≤ self.old.context.steps }
+        ensures base { self.new.base ≡ self.old.base }
+        ensures context { self.new.context ≡ self.old.context }
+        ensures room { length room.new ≡ length room.old }
+        ensures less { self.new.left ≤ self.old.left }
+        ensures unended { has_end (O.log self.new.store).entries ≡ false }
+        ensures kept { Keeps self.old.context.script.now self.old.context.program.now (λ S. fits S code.now) self.old.base room.old room.new }
+        ensures came { Carries self.old.context.script.now self.old.context.program.now self.old.context.steps (me_of self.old.context.me) (λ S. fits S code.now) (λ S k sc d n. begin S (out-Node (erase code.now)) k sc d n) self.old.base depth self.old.left self.new.left room.old room.new (O.log self.old.store) (O.log self.new.store) (O.private self.old.store) (O.private self.new.store) (outcome result self.new.value self.new.leave) }
+    {
+        match code {
+            Code::Sym(name, _) => self.give(Value::Sym(*name)),
+            Code::Str(pieces, at) => self.literal(pieces.as_slice(), *at, depth, room),
+            Code::Array(items, _) => self.array(items.as_slice(), depth, room),
+            Code::Hash(items, at) => self.hash(items.as_slice(), *at, depth, room),
+            Code::UpdateElement(receiver, index, op, value, at) => self.update_element(
+                receiver.get(),
+                index.get(),
+                *op,
+                value.get(),
+                *at,
+                depth,
+                room,
+            ),
+            Code::UpdateAttribute(number, writer, name, receiver, op, value, at) =>
+                self.update_attribute(
+                    *number,
+                    *writer,
+                    *name,
+                    receiver.get(),
+                    *op,
+                    value.get(),
+                    *at,
+                    depth,
+                    room,
+                ),
+            Code::Walk(method, name, receiver, args, block, at) => self.send_block(
+                *method,
+                *name,
+                receiver.get(),
+                args.as_slice(),
+                block.get(),
+                *at,
+                depth,
+                room,
+            ),
+            Code::Print(form, name, args, at) => {
+                self.begin_print(*form, *name, args.as_slice(), *at, depth, room)
+            }
+            Code::Own(name, args, at) => self.begin_own(*name, args.as_slice(), *at, depth, room),
+            Code::SelfRef(_) => self.give_self(),
+            Code::NewBuiltin(class, name, args, at) => {
+                self.create_builtin(*class, *name, args.as_slice(), *at, depth, room)
+            }
+            // No accepted script starts a thread yet.
+            Code::Start(_, _, _, at) => self.raise(Fault::NoMethod, *at),
+            Code::While(condition, body, _) => {
+                self.repeat(condition.get(), body.as_slice(), depth, room)
+            }
+            Code::Return(value, _) => self.leave_method(value, depth, room),
+            Code::Break(_) => {
+                self.leave = Leave::Break;
+                Came::Left
+            }
+            Code::Next(_) => {
+                self.leave = Leave::Next;
+                Came::Left
+            }
+            _ => self.over(Cut::Memory),
+        }
+    }
+}
