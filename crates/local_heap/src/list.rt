@@ -43,7 +43,7 @@ pub fn filled(alloc: Global, count: usize, value: Value) -> Result<List, AllocEr
 }
 
 /// Does what is asked of a list.
-#[inline(always)]
+#[inline(never)]
 pub fn apply(list: &mut List, act: Act) -> Result<Reply, AllocError>
     ensures { Does (listed list.old) (doing act) result (listed list.new) }
 {

@@ -26,7 +26,7 @@ pub fn made(alloc: Global, given: Vec<(Value, Value)>) -> Result<OrderedPairs, A
 }
 
 /// Does what is asked of the pairs of a hash.
-#[inline(always)]
+#[inline(never)]
 pub fn apply(pairs: &mut OrderedPairs, alloc: Global, act: Act) -> Result<Reply, AllocError>
     ensures { Does (Pairs pairs.old) (doing act) result (Pairs pairs.new) }
 {

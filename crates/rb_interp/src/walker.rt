@@ -212,7 +212,7 @@ impl<'p, O: ThreadStore + Drop> Walker<'p, O> {
 
     /// Evaluates a node that combines truth values.
     #[cycle(walk)]
-    #[inline(always)]
+    #[inline(never)]
     fn evaluate_logic(&mut self, code: &'p Code, depth: u32, room: &mut [Value]) -> Came
         requires unended { has_end (O.log self.old.store).entries ≡ false }
         requires steps { self.old.left ≤ self.old.context.steps }
@@ -234,7 +234,7 @@ impl<'p, O: ThreadStore + Drop> Walker<'p, O> {
 
     /// Evaluates a local, an instance variable, a truth value or a call with a receiver.
     #[cycle(walk)]
-    #[inline(always)]
+    #[inline(never)]
     fn evaluate_operand(&mut self, code: &'p Code, depth: u32, room: &mut [Value]) -> Came
         requires unended { has_end (O.log self.old.store).entries ≡ false }
         requires steps { self.old.left ≤ self.old.context.steps }
