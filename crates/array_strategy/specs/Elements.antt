@@ -75,6 +75,10 @@ module _ {V : Type 0} where
   abbrev pub IsSetAt : List V → ℤ → V → List V → Type 0
   IsSetAt xs i v ys = IsSomeAnd (place_of i (length xs)) (λ j. (j < length xs) × (ys ≡ slice_set xs j v))
 
+  -- whether there is an item at an index
+  abbrev pub HasItem : List V → ℤ → Type 0
+  HasItem xs i = IsSomeAnd (place_of i (length xs)) (λ j. j < length xs)
+
   -- the items with v at place j, first filled up to there
   abbrev pub with_item : List V → ℕ → V → V → List V
   with_item xs j v fill = take j (xs ++ replicate (j - length xs) fill) ++ v ∷ drop (suc j) xs

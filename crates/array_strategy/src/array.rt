@@ -1,7 +1,7 @@
 //! The array.
 
 ghost use Rattle.std.specs.Prelude.{◌≡◌, ◌≢◌, ◌<◌, ◌≤◌, ◌+◌, ◌-◌, ◌++◌, ◌∷◌, [], length, take, drop, replicate, slice_get, IsTrue, All, ◌↔◌, None, Some, IsSome, IsSomeAnd, IfSome, IfOk, OnOk, OnErr, true, false};
-ghost use Rattle.array_strategy.specs.Elements.{IsIntegerBy, IsSetAt, item_at, without_item, place_of, empty, of_items, pushed, unshifted, put_at, MayNeedMemory};
+ghost use Rattle.array_strategy.specs.Elements.{HasItem, IsIntegerBy, IsSetAt, item_at, without_item, place_of, empty, of_items, pushed, unshifted, put_at, MayNeedMemory};
 ghost use Rattle.array_strategy.specs.Storage.{seen};
 
 use crate::fault::PutFault;
@@ -181,6 +181,7 @@ impl<V: Item> LocalArray<V> {
     #[inline(always)]
     pub fn put_int(&mut self, index: i64, n: i64) -> bool
         ensures done { result ≡ true → IsSetAt self.old.items index (V.int n) self.new.items }
+        ensures there { self.old.strategy ≡ Strategy.Ints → HasItem self.old.items index → result ≡ true }
         ensures bound { length self.old.items ≤ MAX_LEN }
         ensures strategy { self.new.strategy ≡ self.old.strategy }
         ensures kept { result ≡ false → self.new ≡ self.old }
@@ -193,6 +194,7 @@ impl<V: Item> LocalArray<V> {
     #[inline(always)]
     pub fn put_flag(&mut self, index: i64, flag: Flag) -> bool
         ensures done { result ≡ true → IsSetAt self.old.items index (V.flag flag) self.new.items }
+        ensures there { self.old.strategy ≡ Strategy.Anys → HasItem self.old.items index → result ≡ true }
         ensures bound { length self.old.items ≤ MAX_LEN }
         ensures strategy { self.new.strategy ≡ self.old.strategy }
         ensures kept { result ≡ false → self.new ≡ self.old }

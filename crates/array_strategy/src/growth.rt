@@ -2,7 +2,7 @@
 
 ghost use Rattle.std.specs.Prelude.{◌≡◌, ◌<◌, ◌≤◌, ◌+◌, ◌-◌, ◌^◌, ◌++◌, ◌∷◌, [], length, map, take, replicate, slice_set, IfOk, OnOk, OnErr, true, false};
 ghost use Rattle.std.specs.VecDeque.{deque_len, deque_capacity};
-ghost use Rattle.array_strategy.specs.Elements.{IsSetAt, all_integers};
+ghost use Rattle.array_strategy.specs.Elements.{HasItem, IsSetAt, all_integers};
 
 use crate::place::place_at;
 use std::alloc::{AllocError, Global};
@@ -13,6 +13,7 @@ use typed_location::Item;
 #[inline(always)]
 pub(crate) fn set_at<T: Drop>(items: &mut VecDeque<T>, index: i64, item: T) -> bool
     ensures done { result ≡ true → IsSetAt items.old.items index item items.new.items }
+    ensures there { HasItem items.old.items index → result ≡ true }
     ensures kept { result ≡ false → items.new.items ≡ items.old.items }
 {
     match place_at(index, items.len()) {
@@ -25,6 +26,7 @@ pub(crate) fn set_at<T: Drop>(items: &mut VecDeque<T>, index: i64, item: T) -> b
 #[inline(always)]
 fn set_within<T: Drop>(items: &mut VecDeque<T>, place: usize, item: T) -> bool
     ensures within { result ≡ true → place < length items.old.items }
+    ensures there { place < length items.old.items → result ≡ true }
     ensures done { result ≡ true → items.new.items ≡ slice_set items.old.items place item }
     ensures kept { result ≡ false → items.new.items ≡ items.old.items }
 {

@@ -44,7 +44,7 @@ pub enum Peeked<'a, V> {
 
 impl<V: Item> Store<V> {
     ghost use Rattle.array_strategy.specs.Storage.{stored, seen, replaced, filled};
-    ghost use Rattle.array_strategy.specs.Elements.{IsIntegerBy, IsSetAt, Widens, empty, of_items, pushed, unshifted};
+    ghost use Rattle.array_strategy.specs.Elements.{HasItem, IsIntegerBy, IsSetAt, Widens, empty, of_items, pushed, unshifted};
 
     /// The storage of these items.
     pub(crate) fn of_vec(alloc: Global, items: Vec<V>) -> Result<Store<V>, AllocError>
@@ -274,6 +274,7 @@ impl<V: Item> Store<V> {
     #[inline(always)]
     pub(crate) fn put_int(&mut self, index: i64, n: i64) -> bool
         ensures done { result ≡ true → IsSetAt (stored V.int V.flag self.old).items index (V.int n) (stored V.int V.flag self.new).items }
+        ensures there { (stored V.int V.flag self.old).strategy ≡ Strategy.Ints → HasItem (stored V.int V.flag self.old).items index → result ≡ true }
         ensures strategy { (stored V.int V.flag self.new).strategy ≡ (stored V.int V.flag self.old).strategy }
         ensures kept { result ≡ false → stored V.int V.flag self.new ≡ stored V.int V.flag self.old }
     {
@@ -290,6 +291,7 @@ impl<V: Item> Store<V> {
     #[inline(always)]
     pub(crate) fn put_flag(&mut self, index: i64, flag: Flag) -> bool
         ensures done { result ≡ true → IsSetAt (stored V.int V.flag self.old).items index (V.flag flag) (stored V.int V.flag self.new).items }
+        ensures there { (stored V.int V.flag self.old).strategy ≡ Strategy.Anys → HasItem (stored V.int V.flag self.old).items index → result ≡ true }
         ensures strategy { (stored V.int V.flag self.new).strategy ≡ (stored V.int V.flag self.old).strategy }
         ensures kept { result ≡ false → stored V.int V.flag self.new ≡ stored V.int V.flag self.old }
     {
