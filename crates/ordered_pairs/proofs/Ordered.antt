@@ -1,7 +1,7 @@
 -- What a list of entries, the newest first, says of the pairs in order.
-use Rattle.std.proofs.Common.{◌≡◌, ℕ, ◌-◌, ◌<◌, ◌≤◌, Bool, true, false, cond, List, [], ◌∷◌, ◌++◌, length, map, Option, Some, None, refl, sym, ap, ◌∙◌, arith}
+use Rattle.std.proofs.Common.{◌≡◌, ℕ, ◌-◌, ◌<◌, ◌≤◌, Bool, true, false, cond, List, [], ◌∷◌, ◌++◌, length, map, Option, Some, None, Ok, Err, refl, sym, ap, ◌∙◌, arith}
 use Rattle.std.specs.Borrow.{Bor}
-use Rattle.std.specs.Prelude.{◌||◌, is_some, if◌then◌else◌, IfSome}
+use Rattle.std.specs.Prelude.{◌||◌, is_some, if◌then◌else◌, IfSome, Result, IsErrAnd}
 use Rattle.std.specs.Option.{option_copied, option_map}
 use Rattle.std.specs.List.{AllByRecursion, IsDistinct}
 use Rattle.std.specs.Map.{keys_of, lookup, lookup_entry, remove_entry, set_value}
@@ -12,6 +12,8 @@ use Rattle.rb_model.specs.Values.{Value as Val, Nil, plain, same, or_nil}
 use Rattle.rb_model.specs.declared.value.Value.{Value as Held}
 use Rattle.rb_model.specs.Sameness.{same_equivalence}
 use Rattle.rb_model.specs.Things.{has_key, value_at, with_pair, without_key, may_put, has_room}
+use Rattle.ordered_pairs.specs.declared.pairs.PutFault.{PutFault}
+use Rattle.ordered_pairs.specs.declared.pairs.PutFault.TheVariants.{TooLong, Memory}
 use Rattle.ordered_pairs.specs.Order.{pair_of, in_order}
 
 -- two keys of the code are one
@@ -72,7 +74,7 @@ module _ (key : Val) where
       ]) refl
 
   -- a key that is not there
-  nothing_out : (xs : List (Val × Val)) → has_key key xs ≡ false → without_key key xs ≡ xs
+  pub nothing_out : (xs : List (Val × Val)) → has_key key xs ≡ false → without_key key xs ≡ xs
   nothing_out [] z = refl
   nothing_out (x ∷ xs) z = (elim (same x.0 key) as (λ t. same x.0 key ≡ t → without_key key (x ∷ xs) ≡ x ∷ xs) [
     | true ↦ λ q. absurd (let y = rw q at z in cc)
@@ -242,6 +244,12 @@ may_come key ps n e lt = either (has_key key ps) (has_room (length ps)) (sym (ap
     either : (a b : Bool) → b ≡ true → (a || b) ≡ true
     either true b h = refl
     either false b h = h
+
+-- an answer is not that there are too many pairs and that memory is wanted
+pub not_both : (r : Result Unit PutFault) → r ≡ Err TooLong → IsErrAnd r (λ fault. fault ≡ Memory) → ⊥
+not_both (Ok u) e h = cc
+not_both (Err TooLong) e h = cc
+not_both (Err Memory) e h = cc
 
 no_entry : (k : Held) (es : List (Held × Held)) → lookup (one k) es ≡ None → lookup_entry (one k) es ≡ None
 no_entry k [] h = refl

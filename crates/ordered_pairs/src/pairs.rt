@@ -1,13 +1,13 @@
-// Pairs in the order of their keys.
+// Pairs in the order of their keys, few or indexed.
 
 ghost use Rattle.std.specs.Prelude.{◌≡◌, ◌<◌, ◌^◌, ◌↔◌, [], length, map, true, false, None, IfSome, IfOk, IsOk, OnOk, OnErr, Err};
-ghost use Rattle.std.specs.List.{IsDistinct};
-ghost use Rattle.std.specs.Map.{keys_of};
-ghost use Rattle.rb_model.specs.Values.{is_text, plain, same};
+ghost use Rattle.rb_model.specs.Values.{is_text, plain};
 ghost use Rattle.rb_model.specs.Things.{has_key, value_at, with_pair, without_key, may_put};
 ghost use Rattle.ordered_pairs.specs.Order.{pair_of};
+ghost use Rattle.ordered_pairs.specs.Forms.{form_pairs, HasPlace};
 
-use lru::LruCache;
+use crate::few::FewPairs;
+use crate::indexed::IndexedPairs;
 use rb_model::Value;
 use std::alloc::{AllocError, AllocFailed, Global};
 use std::marker::Model;
@@ -38,34 +38,69 @@ impl From<AllocFailed<(Value, Value)>> for PutFault {
     }
 }
 
+impl From<AllocError> for PutFault {
+    ghost use Rattle.std.specs.Prelude.{◌≡◌};
+    ghost use Rattle.ordered_pairs.specs.declared.pairs.PutFault.TheVariants.{Memory};
+
+    ghost from_gives = { λ _ fault. fault ≡ Memory };
+
+    fn from(_: AllocError) -> PutFault {
+        PutFault::Memory
+    }
+}
+
+/// How a hash holds its pairs.
+#[derive(Drop)]
+pub enum Form {
+    /// Few pairs in one row, which need no index.
+    Few(FewPairs),
+    /// Pairs that are found by the hash of their key. The index lies apart, so that a hash of few pairs is small.
+    Indexed(Box<IndexedPairs>),
+}
+
+impl Form {
+    /// Gives a new key a place: few pairs that are as many as there may be get an index. No pair changes.
+    #[inline(always)]
+    fn make_place(&mut self, alloc: Global, key: &Value) -> Result<(), AllocError>
+        ensures place { OnOk result (HasPlace (plain key.now) self.new) }
+        ensures kept { form_pairs self.new ≡ form_pairs self.old }
+        ensures there { has_key (plain key.now) (form_pairs self.old) ≡ true → IsOk result }
+        ensures few { OnErr result (length (form_pairs self.old) < MAX_PAIRS) }
+    {
+        let Form::Few(few) = self else {
+            return Ok(());
+        };
+        if few.has_place(key) {
+            return Ok(());
+        }
+        // The index is whole before the row is let go: where there is no memory for it, the row stays.
+        let indexed = few.indexed(alloc)?;
+        *self = Form::Indexed(indexed);
+        Ok(())
+    }
+}
+
 /// Pairs of a key and a value, in the order in which their keys came. Two keys are one where they are the same value. Contracts
 /// see the list of pairs.
 ///
-/// The entries are those of a cache without bound that is never asked for a key in a way that counts as a use: then its order is that of
-/// their coming, and an entry is linked out in constant time.
+/// Few pairs stand in one row. The first key too many gives them an index, which stays until all pairs are taken out by `clear`.
 #[derive(Drop)]
 pub struct OrderedPairs {
-    entries: LruCache<Value, Value>,
+    form: Form,
+    alloc: Global,
 }
 
+/// A hash of few pairs has this size, beside their row.
+const _: () = prove!(size_of::<OrderedPairs>() == 32);
+
 impl Model for OrderedPairs {
-    ghost use Rattle.std.specs.Prelude.{◌≡◌, ◌-◌, ◌^◌, List};
+    ghost use Rattle.std.specs.Prelude.{List};
     ghost use Rattle.rb_model.specs.Values.{Value as Val};
-    ghost use Rattle.ordered_pairs.specs.Order.{in_order};
+    ghost use Rattle.ordered_pairs.specs.Forms.{form_pairs};
 
     ghost Value = { List (Val × Val) };
 
-    ghost view = { λ p. in_order p.entries.entries };
-
-    ghost invariant = { λ p. p.entries.cap ≡ 2 ^ 64 - 1 };
-}
-
-/// No key stands twice. The length of a cache tells that, and so callers ask for it.
-#[inline(always)]
-fn are_distinct(entries: &LruCache<Value, Value>)
-    ensures { IsDistinct (λ a b. same (plain a) (plain b)) (keys_of entries.now.entries) }
-{
-    let _ = entries.len();
+    ghost view = { λ p. form_pairs p.form };
 }
 
 impl OrderedPairs {
@@ -74,7 +109,8 @@ impl OrderedPairs {
         ensures { IfOk result (λ pairs. pairs ≡ []) }
     {
         Ok(OrderedPairs {
-            entries: LruCache::unbounded(alloc)?,
+            form: Form::Few(FewPairs::new(alloc)),
+            alloc,
         })
     }
 
@@ -83,21 +119,27 @@ impl OrderedPairs {
         ensures exact { result ≡ length self.now }
         ensures fits { result < 2 ^ 63 }
     {
-        self.entries.len()
+        match &self.form {
+            Form::Few(few) => few.len(),
+            Form::Indexed(indexed) => indexed.len(),
+        }
     }
 
     /// Whether there are none.
     pub fn is_empty(&self) -> bool
         ensures { (result ≡ true) ↔ (self.now ≡ []) }
     {
-        self.entries.len() == 0
+        self.len() == 0
     }
 
     /// Whether a key is there.
     pub fn has(&self, key: &Value) -> bool
         ensures { result ≡ has_key (plain key.now) self.now }
     {
-        self.entries.contains(key)
+        match &self.form {
+            Form::Few(few) => few.has(key),
+            Form::Indexed(indexed) => indexed.has(key),
+        }
     }
 
     /// The value of a key where it stands, where the key is there.
@@ -107,8 +149,10 @@ impl OrderedPairs {
         ensures value { IfSome result (λ value. plain value.now ≡ value_at (plain key.now) self.now) }
         ensures none { result ≡ None → has_key (plain key.now) self.now ≡ false }
     {
-        are_distinct(&self.entries);
-        self.entries.peek(key)
+        match &self.form {
+            Form::Few(few) => few.peek(key),
+            Form::Indexed(indexed) => indexed.peek(key),
+        }
     }
 
     /// The value of a key, nil where it is not there. No bytes are copied. Where as many own a text as can be counted, that is want of
@@ -130,16 +174,14 @@ impl OrderedPairs {
         ensures kept { OnErr result (self.new ≡ self.old) }
         ensures there { has_key (plain key) self.old ≡ true → IsOk result }
     {
-        are_distinct(&self.entries);
-        if let Some(place) = self.entries.peek_mut(&key) {
-            *place = value;
-            return Ok(());
+        self.form.make_place(self.alloc, &key)?;
+        match &mut self.form {
+            Form::Few(few) => {
+                few.put(key, value)?;
+                Ok(())
+            }
+            Form::Indexed(indexed) => indexed.put(key, value),
         }
-        if self.entries.len() >= MAX_PAIRS {
-            return Err(PutFault::TooLong);
-        }
-        self.entries.put(key, value)?;
-        Ok(())
     }
 
     /// Takes the pair of a key out. Answers its value, nil where it is not there.
@@ -147,10 +189,9 @@ impl OrderedPairs {
         ensures value { plain result ≡ value_at (plain key.now) self.old }
         ensures gone { self.new ≡ without_key (plain key.now) self.old }
     {
-        are_distinct(&self.entries);
-        match self.entries.pop(key) {
-            Some(value) => value,
-            None => Value::Nil,
+        match &mut self.form {
+            Form::Few(few) => few.delete(key),
+            Form::Indexed(indexed) => indexed.delete(key),
         }
     }
 
@@ -158,17 +199,22 @@ impl OrderedPairs {
     pub fn clear(&mut self)
         ensures { self.new ≡ [] }
     {
-        self.entries.clear();
+        self.form = Form::Few(FewPairs::new(self.alloc));
+    }
+
+    /// Whether the pairs have an index.
+    #[cfg(test)]
+    pub(crate) fn has_index(&self) -> bool {
+        matches!(&self.form, Form::Indexed(_))
     }
 
     /// A copy of all pairs. No bytes are copied.
     pub fn copy(&self, alloc: Global) -> Result<Vec<(Value, Value)>, AllocError>
         ensures { IfOk result (λ pairs. map pair_of pairs.items ≡ self.now) }
     {
-        let mut pairs = Vec::with_capacity(alloc, self.entries.len())?;
-        'pairs: for (key, value) in self.entries.iter().rev() {
-            pairs.push((key.share()?, value.share()?))?;
+        match &self.form {
+            Form::Few(few) => few.copy(alloc),
+            Form::Indexed(indexed) => indexed.copy(alloc),
         }
-        Ok(pairs)
     }
 }

@@ -1,6 +1,6 @@
 use Rattle.std.proofs.Common.{◌≡◌, ◌++◌, map}
 use Rattle.ordered_pairs.specs.Order.{pair_of, in_order}
-use Rattle.ordered_pairs.proofs.pairs.OrderedPairs.copy.Given as goal
+use Rattle.ordered_pairs.proofs.indexed.IndexedPairs.copy.Given as goal
 
 -- the pairs so far, and those of the entries that are left, are all
 abbrev pub invariant-pairs : goal.invariant-pairs

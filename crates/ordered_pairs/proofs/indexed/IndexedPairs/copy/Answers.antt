@@ -1,7 +1,7 @@
 use Rattle.std.proofs.Common.{◌++◌, map, sym, ap, ◌∙◌, append-nil}
 use Rattle.ordered_pairs.specs.Order.{in_order, pair_of}
 use Rattle.ordered_pairs.proofs.Ordered.{one_more}
-use Rattle.ordered_pairs.proofs.pairs.OrderedPairs.copy.Goals as goal
+use Rattle.ordered_pairs.proofs.indexed.IndexedPairs.copy.Goals as goal
 
 pub pairs-init : goal.pairs-init
 pairs-init c =

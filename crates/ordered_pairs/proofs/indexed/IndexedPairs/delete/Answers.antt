@@ -2,8 +2,8 @@ use Rattle.std.proofs.Common.{sym, ap, ◌∙◌}
 use Rattle.rb_model.specs.Values.{plain}
 use Rattle.ordered_pairs.specs.Order.{in_order}
 use Rattle.ordered_pairs.proofs.Ordered.{found, unfound, taken_out}
-use Rattle.ordered_pairs.proofs.pairs.OrderedPairs.delete.Goals.{in-Some, in-None}
-use Rattle.ordered_pairs.proofs.pairs.OrderedPairs.delete.Goals as goal
+use Rattle.ordered_pairs.proofs.indexed.IndexedPairs.delete.Goals.{in-Some, in-None}
+use Rattle.ordered_pairs.proofs.indexed.IndexedPairs.delete.Goals as goal
 
 pub returns-clause-value : goal.returns-clause-value
 returns-clause-value c = elim c.match-pop.branch [
