@@ -56,9 +56,9 @@ cell_agrees thread shapes home cells id (cell.List list) thing at is =
     subst (AgreesWith (shape_held (private_by thread shapes home cells) id)) same
     (subst (λ (s : Option Shape). AgreesWith s (listed list)) (sym (shaped_there shapes cells id.serial (cell.List list) at)) refl)
 cell_agrees thread shapes home cells id (cell.Pairs pairs) thing at is =
-    let same : things.Pairs pairs.value ≡ thing = cc in
+    let same : things.Pairs pairs ≡ thing = cc in
     subst (AgreesWith (shape_held (private_by thread shapes home cells) id)) same
-    (subst (λ (s : Option Shape). AgreesWith s (things.Pairs pairs.value)) (sym (shaped_there shapes cells id.serial (cell.Pairs pairs) at)) refl)
+    (subst (λ (s : Option Shape). AgreesWith s (things.Pairs pairs)) (sym (shaped_there shapes cells id.serial (cell.Pairs pairs) at)) refl)
 cell_agrees thread shapes home cells id (cell.Object o) thing at is =
     let same : thing_in shapes home o ≡ thing = cc in
     let path : Path = (shape_in shapes o).path in

@@ -177,7 +177,7 @@ module _ (shapes shapes' : List Shape) (home home' : Home) (grown : Grows shapes
       let rest = things_keep cells are.1 sound.1 in
       cc
   things_keep (cell.List list ∷ cells) are sound = ap (λ ts. Some (listed list) ∷ ts) (things_keep cells are.1 sound.1)
-  things_keep (cell.Pairs pairs ∷ cells) are sound = ap (λ ts. Some (thing.Pairs pairs.value) ∷ ts) (things_keep cells are.1 sound.1)
+  things_keep (cell.Pairs pairs ∷ cells) are sound = ap (λ ts. Some (thing.Pairs pairs) ∷ ts) (things_keep cells are.1 sound.1)
 
   pub shaped_keep : (cells : List Cell) → AreKnown shapes cells → map (shaped_in shapes') cells ≡ map (shaped_in shapes) cells
   shaped_keep [] are = refl

@@ -6,7 +6,7 @@ use Rattle.std.proofs.lemmas.Bool.{ltb-true, ltb-false}
 use Rattle.std.proofs.lemmas.List.{length-append, length-replicate, length-set, length-take, length-drop}
 use Rattle.rb_model.specs.Values.{Value as Val, Nil, same}
 use Rattle.rb_model.specs.Acts.{Act, SetField, Put, Push, Unshift, Pop, Shift, DeleteAt, KPut, KDelete, Clear}
-use Rattle.rb_model.specs.Things.{Thing, Object, Elements, Pairs, becomes, has_key, has_room, index_of, last_place, may_put, put, with_element, with_pair, without_element, without_key}
+use Rattle.rb_model.specs.Things.{Thing, Object, Elements, Pairs, becomes, has_key, has_room, index_of, last_place, put, with_element, with_pair, without_element, without_key}
 use Rattle.local_heap.specs.Limits.{IsWithin}
 
 -- ---- lists
@@ -84,7 +84,3 @@ stays_within (Pairs ps) (KPut k v) fits = pair_within k v ps (has_key k ps) (has
 stays_within (Pairs ps) (KDelete k) fits = let h = key_less k ps in omega (arith, h, fits)
 stays_within (Pairs ps) Clear fits = omega arith
 stays_within thing act fits = fits
-
--- a pair that may be put makes a hash no longer than it may be
-pub put_fits : (k v : Val) (ps : List (Val × Val)) → may_put k ps ≡ true → length ps ≤ 16777216 → length (with_pair k v ps) ≤ 16777216
-put_fits k v ps may fits = subst (λ b. length (cond b (with_pair k v ps) ps) ≤ 16777216) may (stays_within (Pairs ps) (KPut k v) fits)

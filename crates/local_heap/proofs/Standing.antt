@@ -357,7 +357,7 @@ module _ (thread : ℕ) (shapes : List Shape) (cells : List Cell) (h : Private) 
         by cell.Empty at d = absurd (not_empty id held_here c read at)
         by (cell.Object o) at d = subst (AreWhole thread shapes) (sym (cells_stay (d.0 ∙ sym at))) whole
         by (cell.List list) at d = done_cells id held_here c read c' (listed list) d.0 (ap contents at) d.1 act result d.2
-        by (cell.Pairs pairs) at d = done_cells id held_here c read c' (thing.Pairs pairs.value) d.0 (ap contents at) d.1 act result d.2
+        by (cell.Pairs pairs) at d = done_cells id held_here c read c' (thing.Pairs pairs) d.0 (ap contents at) d.1 act result d.2
 
     pub cell_reply : IfOk result (λ reply. Gives h id act (said reply))
     cell_reply = by c refl does
@@ -370,7 +370,7 @@ module _ (thread : ℕ) (shapes : List Shape) (cells : List Cell) (h : Private) 
         by cell.Empty at d = absurd (not_empty id held_here c read at)
         by (cell.Object o) at d = refuses o at result d.1
         by (cell.List list) at d = done_reply id held_here c read c' (listed list) d.0 (ap contents at) d.1 act result d.2
-        by (cell.Pairs pairs) at d = done_reply id held_here c read c' (thing.Pairs pairs.value) d.0 (ap contents at) d.1 act result d.2
+        by (cell.Pairs pairs) at d = done_reply id held_here c read c' (thing.Pairs pairs) d.0 (ap contents at) d.1 act result d.2
 
     pub cell_private : OnOk result (Becomes h id act now)
     cell_private = by c refl does
@@ -381,7 +381,7 @@ module _ (thread : ℕ) (shapes : List Shape) (cells : List Cell) (h : Private) 
             always_ok result
             (λ x e. stays (d.0 ∙ sym at) ∙ idle id act x e (object_becomes o at x e) (shape_stays act other (shape_held h id)))
         by (cell.List list) at d = done_private id held_here c read c' (listed list) d.0 (ap contents at) d.1 act result d.2
-        by (cell.Pairs pairs) at d = done_private id held_here c read c' (thing.Pairs pairs.value) d.0 (ap contents at) d.1 act result d.2
+        by (cell.Pairs pairs) at d = done_private id held_here c read c' (thing.Pairs pairs) d.0 (ap contents at) d.1 act result d.2
 
     pub cell_err : OnErr result (now ≡ h)
     cell_err = by c refl does
@@ -390,7 +390,7 @@ module _ (thread : ℕ) (shapes : List Shape) (cells : List Cell) (h : Private) 
         by cell.Empty at d = absurd (not_empty id held_here c read at)
         by (cell.Object o) at d = always_err result (stays (d.0 ∙ sym at))
         by (cell.List list) at d = done_err id held_here c read c' (listed list) d.0 (ap contents at) d.1 act result d.2
-        by (cell.Pairs pairs) at d = done_err id held_here c read c' (thing.Pairs pairs.value) d.0 (ap contents at) d.1 act result d.2
+        by (cell.Pairs pairs) at d = done_err id held_here c read c' (thing.Pairs pairs) d.0 (ap contents at) d.1 act result d.2
 
     pub cell_refused : OnErr result (MayWant h id act)
     cell_refused = by c refl does
@@ -403,7 +403,7 @@ module _ (thread : ℕ) (shapes : List Shape) (cells : List Cell) (h : Private) 
         by cell.Empty at d = absurd (not_empty id held_here c read at)
         by (cell.Object o) at d = refuses result d.1
         by (cell.List list) at d = done_refused id held_here c read c' (listed list) d.0 (ap contents at) d.1 act result d.2
-        by (cell.Pairs pairs) at d = done_refused id held_here c read c' (thing.Pairs pairs.value) d.0 (ap contents at) d.1 act result d.2
+        by (cell.Pairs pairs) at d = done_refused id held_here c read c' (thing.Pairs pairs) d.0 (ap contents at) d.1 act result d.2
 
   -- ---- a new thing that stands by itself
 
@@ -453,13 +453,13 @@ module _ (thread : ℕ) (shapes : List Shape) (cells : List Cell) (h : Private) 
   enters_whole cell.Empty e = absurd e
   enters_whole (cell.Object o) e = absurd e
   enters_whole (cell.List list) e = entered_whole (cell.List list) (listed list) refl e
-  enters_whole (cell.Pairs pairs) e = entered_whole (cell.Pairs pairs) (thing.Pairs pairs.value) refl e
+  enters_whole (cell.Pairs pairs) e = entered_whole (cell.Pairs pairs) (thing.Pairs pairs) refl e
 
   pub enters_private : (c : Cell) → IsContents c → option_map (entered h) (contents c) ≡ Some (private_now thread shapes (cells ++ c ∷ []))
   enters_private cell.Empty e = absurd e
   enters_private (cell.Object o) e = absurd e
   enters_private (cell.List list) e = ap Some (sym (entered_private (cell.List list) (listed list) refl e))
-  enters_private (cell.Pairs pairs) e = ap Some (sym (entered_private (cell.Pairs pairs) (thing.Pairs pairs.value) refl e))
+  enters_private (cell.Pairs pairs) e = ap Some (sym (entered_private (cell.Pairs pairs) (thing.Pairs pairs) refl e))
 
   -- ---- what is looked up by an id alone
 

@@ -75,14 +75,14 @@ abbrev pub contents : Cell → Option Thing
 contents cell.Empty = None
 contents (cell.Object o) = None
 contents (cell.List list) = Some (listed list)
-contents (cell.Pairs pairs) = Some (thing.Pairs pairs.value)
+contents (cell.Pairs pairs) = Some (thing.Pairs pairs)
 
 -- there is one, and it is no longer than it may be
 abbrev pub IsContents : Cell → Type 0
 IsContents cell.Empty = ⊥
 IsContents (cell.Object o) = ⊥
 IsContents (cell.List list) = IsWithin (listed list)
-IsContents (cell.Pairs pairs) = IsWithin (thing.Pairs pairs.value)
+IsContents (cell.Pairs pairs) = IsWithin (thing.Pairs pairs)
 
 -- what an act that is not of a field did to what a cell has
 abbrev pub DoesWithin : {E : Type 0} → Thing → Act → Result Answered E → Cell → Type 0
@@ -92,7 +92,7 @@ abbrev pub CellDoes : {E : Type 0} → Cell → Act → Result Answered E → Ce
 CellDoes cell.Empty act result now = (now ≡ cell.Empty) × IsErr result
 CellDoes (cell.Object o) act result now = (now ≡ cell.Object o) × IsOkAnd result (λ reply. said reply ≡ Failed NoMethod)
 CellDoes (cell.List list) act result now = DoesWithin (listed list) act result now
-CellDoes (cell.Pairs pairs) act result now = DoesWithin (thing.Pairs pairs.value) act result now
+CellDoes (cell.Pairs pairs) act result now = DoesWithin (thing.Pairs pairs) act result now
 
 -- Whether an element of what a cell has was given a value, and what the cell then has. Where it has no list, it was not.
 abbrev pub CellPuts : Bool → Cell → ℤ → Option Val → Cell → Type 0
@@ -105,7 +105,7 @@ abbrev pub still : List Shape → Home → Cell → Option Thing
 still shapes home cell.Empty = None
 still shapes home (cell.Object o) = Some (thing_in shapes home o)
 still shapes home (cell.List list) = Some (listed list)
-still shapes home (cell.Pairs pairs) = Some (thing.Pairs pairs.value)
+still shapes home (cell.Pairs pairs) = Some (thing.Pairs pairs)
 
 abbrev pub shaped_in : List Shape → Cell → Option Shape
 shaped_in shapes cell.Empty = None
@@ -140,7 +140,7 @@ abbrev pub IsCell : List Shape → Home → Cell → Type 0
 IsCell shapes home cell.Empty = Unit {0}
 IsCell shapes home (cell.Object o) = IsSound shapes home o
 IsCell shapes home (cell.List list) = IsWithin (listed list)
-IsCell shapes home (cell.Pairs pairs) = IsWithin (thing.Pairs pairs.value)
+IsCell shapes home (cell.Pairs pairs) = IsWithin (thing.Pairs pairs)
 
 abbrev pub AreSound : List Shape → Home → List Cell → Type 0
 AreSound shapes home cells = AllByRecursion (IsCell shapes home) cells

@@ -34,7 +34,7 @@ pub enum Cell {
     Empty,
     Object(Object),
     List(List),
-    Pairs(Box<OrderedPairs>),
+    Pairs(OrderedPairs),
 }
 
 impl Cell {

@@ -1,10 +1,10 @@
 // The pairs of one hash.
 
-ghost use Rattle.std.specs.Prelude.{◌≡◌, ◌≤◌, length, map, true, IfOk, OnOk};
+ghost use Rattle.std.specs.Prelude.{◌≡◌, ◌≤◌, length, map, IfOk};
 ghost use Rattle.rb_model.specs.Values.{plain, truth as truth_of};
 ghost use Rattle.rb_model.specs.Acts.{Clear, Copy, KDelete, KGet, KHas, KPut, Len};
 ghost use Rattle.rb_model.specs.Doing.{doing, pair, seen};
-ghost use Rattle.rb_model.specs.Things.{Pairs, gathered, gives, max_elements, may_put, with_pair};
+ghost use Rattle.rb_model.specs.Things.{Pairs, gathered, gives, max_elements};
 ghost use Rattle.rb_model.specs.Immediates.{told_reply};
 ghost use Rattle.local_heap.specs.Contents.{Does, RefusesPair};
 
@@ -18,11 +18,7 @@ pub fn made(alloc: Global, given: Vec<(Value, Value)>) -> Result<OrderedPairs, A
     ensures pairs { IfOk result (λ pairs. pairs ≡ gathered (map pair given.items)) }
     ensures few { IfOk result (λ pairs. length pairs ≤ max_elements) }
 {
-    let mut pairs = OrderedPairs::new(alloc)?;
-    'given: for (key, value) in given {
-        add(&mut pairs, key, value)?;
-    }
-    Ok(pairs)
+    OrderedPairs::from_vec(alloc, given)
 }
 
 /// Does what is asked of the pairs of a hash.
@@ -39,17 +35,6 @@ pub fn apply(pairs: &mut OrderedPairs, alloc: Global, act: Act) -> Result<Reply,
         Act::Len => len(pairs),
         Act::Copy => copy(pairs, alloc),
         _ => Ok(Reply::Failed(Fault::NoMethod)),
-    }
-}
-
-/// Gives a key a value while pairs are gathered.
-fn add(pairs: &mut OrderedPairs, key: Value, value: Value) -> Result<(), AllocError>
-    ensures added { OnOk result (pairs.new ≡ with_pair (plain key) (plain value) pairs.old) }
-    ensures few { OnOk result (may_put (plain key) pairs.old ≡ true) }
-{
-    match pairs.put(key, value) {
-        Ok(()) => Ok(()),
-        Err(_) => Err(AllocError),
     }
 }
 

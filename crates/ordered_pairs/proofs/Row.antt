@@ -3,9 +3,10 @@ use Rattle.std.proofs.Common.{◌≡◌, ℕ, zero, suc, ◌<◌, ◌≤◌, ◌
 use Rattle.std.specs.Prelude.{◌||◌, is_some, IfSome}
 use Rattle.std.specs.List.{AllByRecursion, IsDistinct, remove, slice_set}
 use Rattle.std.proofs.lemmas.List.{append_assoc, append-nil, drop_all, length-append, length-map, map-append, map_more, take_all}
+use Rattle.std.proofs.lemmas.Bool.{ltb-true}
 use Rattle.rb_model.specs.Values.{Value as Val, plain, same}
 use Rattle.rb_model.specs.declared.value.Value.{Value as Held}
-use Rattle.rb_model.specs.Things.{has_key, key_of, value_at, with_pair, without_key, gathered, gathered_onto}
+use Rattle.rb_model.specs.Things.{has_key, key_of, value_at, with_pair, without_key, gathered, gathered_onto, may_put}
 use Rattle.ordered_pairs.specs.Order.{pair_of}
 use Rattle.ordered_pairs.specs.Few.{AreFew, StandsAt}
 use Rattle.ordered_pairs.proofs.Ordered.{comes_last}
@@ -20,7 +21,7 @@ no_pass a b e h = rw e h
 
 module _ (key : Val) where
   -- the key is at none of the first pairs, so it is first at this one
-  stands_here : (n : ℕ) (items : List (Held × Held)) (e : Held × Held) → n < length items → e ≡ get_or items n e
+  pub stands_here : (n : ℕ) (items : List (Held × Held)) (e : Held × Held) → n < length items → e ≡ get_or items n e
       → has_key key (map pair_of (take n items)) ≡ false → same (plain e.0) key ≡ true → StandsAt key n (map pair_of items)
   stands_here n [] e lt is none h = absurd (omega (arith, lt))
   stands_here zero (x ∷ xs) e lt is none h = subst (λ (y : Held × Held). same (plain y.0) key ≡ true) is h
@@ -63,6 +64,10 @@ module _ (key : Val) where
   taken_out n [] h = absurd h
   taken_out zero (x ∷ xs) h = rw h refl
   taken_out (suc n) (x ∷ xs) h = rw h.0 (ap (λ ps. pair_of x ∷ ps) (taken_out n xs h.1))
+
+  -- it is at none of all pairs
+  pub none_here : (n : ℕ) (items : List (Held × Held)) → length items ≤ n → has_key key (map pair_of (take n items)) ≡ false → has_key key (map pair_of items) ≡ false
+  none_here n items le none = ap (λ l. has_key key (map pair_of l)) (sym (take_all n items le)) ∙ none
 
 -- ---- no key stands twice
 
@@ -130,9 +135,32 @@ few_added key v ps none room few = (
   let long : length (ps ++ (key, v) ∷ []) ≡ length ps + 1 = length-append ps ((key, v) ∷ []) in omega (arith, long, room),
 )
 
+-- the key of the next pair is at none of the pairs before it
+pub distinct_more : (n : ℕ) (items : List (Held × Held)) (e : Held × Held) → n < length items → e ≡ get_or items n e
+    → IsDistinct same (map key_of (map pair_of (take n items))) → has_key (plain e.0) (map pair_of (take n items)) ≡ false → IsDistinct same (map key_of (map pair_of (take (n + 1) items)))
+distinct_more n items e lt is distinct none =
+    let more : map pair_of (take (n + 1) items) ≡ map pair_of (take n items) ++ pair_of e ∷ [] =
+    map_more pair_of items n e lt ∙ ap (λ x. map pair_of (take n items) ++ pair_of x ∷ []) (sym is) in
+    subst (λ ps. IsDistinct same (map key_of ps)) (sym more) (distinct_added (plain e.0) (plain e.1) (map pair_of (take n items)) none distinct)
+
+pub distinct_none : IsDistinct same (map key_of [])
+unfolding IsDistinct
+distinct_none = tt
+
 pub few_none : AreFew []
 unfolding IsDistinct
 few_none = (tt, omega arith)
+
+-- where a pair may be put, there are not too many with it
+pub put_fits : (key v : Val) (ps : List (Val × Val)) → may_put key ps ≡ true → length ps ≤ 16777216 → length (with_pair key v ps) ≤ 16777216
+put_fits key v ps may fits = by (has_key key ps) refl
+  where
+    by : (t : Bool) → has_key key ps ≡ t → length (with_pair key v ps) ≤ 16777216
+    by true there = subst (λ n. n ≤ 16777216) (sym (as_many key v ps there)) fits
+    by false none =
+        let room : length ps < 16777216 = ltb-true (length ps) 16777216 (rw none at may) in
+        let long : length (ps ++ (key, v) ∷ []) ≡ length ps + 1 = length-append ps ((key, v) ∷ []) in
+        subst (λ l. length l ≤ 16777216) (sym (comes_last key v ps none)) (omega (arith, long, room))
 
 -- ---- pairs that are put one after the other
 
@@ -156,19 +184,12 @@ distinct_onto qs (p ∷ ps) d =
     ∙ moved
 
 -- distinct pairs that are put one after the other are the pairs
-distinct_gathered : (ps : List (Val × Val)) → IsDistinct same (map key_of ps) → gathered ps ≡ ps
+pub distinct_gathered : (ps : List (Val × Val)) → IsDistinct same (map key_of ps) → gathered ps ≡ ps
 distinct_gathered ps d = distinct_onto [] ps d
 
 -- ---- a row whose pairs are these
 
 module _ (key : Val) (items : List (Held × Held)) (ps : List (Val × Val)) (view : map pair_of items ≡ ps) where
-  pub place_here : (n : ℕ) (e : Held × Held) → n < length items → e ≡ get_or items n e
-      → has_key key (map pair_of (take n items)) ≡ false → same (plain e.0) key ≡ true → StandsAt key n ps
-  place_here n e lt is none h = subst (StandsAt key n) view (stands_here key n items e lt is none h)
-
-  pub none_here : (n : ℕ) → length items ≤ n → has_key key (map pair_of (take n items)) ≡ false → has_key key ps ≡ false
-  none_here n le none = ap (has_key key) (sym view) ∙ ap (λ l. has_key key (map pair_of l)) (sym (take_all n items le)) ∙ none
-
   module _ (n : ℕ) (stands : StandsAt key n ps) where
     at_items : StandsAt key n (map pair_of items)
     at_items = subst (StandsAt key n) (sym view) stands
@@ -186,6 +207,11 @@ module _ (key : Val) (items : List (Held × Held)) (ps : List (Val × Val)) (vie
 
     pub place_out : map pair_of (remove items n) ≡ without_key key ps
     place_out = taken_out key n items at_items ∙ ap (without_key key) view
+
+-- no pair is left
+pub none_left : {X : Type 0} (ys : List X) → length ys ≡ 0 → ys ≡ []
+none_left [] e = refl
+none_left (y ∷ ys) e = absurd (cc)
 
 -- a key is there exactly where its place is told
 pub has_place_told : (key : Val) (ps : List (Val × Val)) (place : Option ℕ) → IfSome place (λ n. StandsAt key n ps) → (place ≡ None → has_key key ps ≡ false) → is_some place ≡ has_key key ps

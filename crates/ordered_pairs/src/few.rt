@@ -4,7 +4,7 @@ ghost use Rattle.std.specs.Prelude.{◌≡◌, ◌<◌, ◌≤◌, ◌++◌, ◌
 ghost use Rattle.rb_model.specs.Values.{plain};
 ghost use Rattle.rb_model.specs.Things.{has_key, value_at, with_pair, without_key};
 ghost use Rattle.ordered_pairs.specs.Order.{pair_of};
-ghost use Rattle.ordered_pairs.specs.Few.{StandsAt, has_place};
+ghost use Rattle.ordered_pairs.specs.Few.{AreFew, StandsAt, has_place};
 
 use crate::indexed::IndexedPairs;
 use rb_model::Value;
@@ -33,6 +33,35 @@ impl Model for FewPairs {
     ghost invariant = { λ p. AreFew (map pair_of p.pairs.items) };
 }
 
+/// Where the first pair with a key stands.
+#[inline(always)]
+fn place_in(pairs: &[(Value, Value)], key: &Value) -> Option<usize>
+    ensures there { IfSome result (λ place. StandsAt (plain key.now) place (map pair_of pairs.now)) }
+    ensures none { result ≡ None → has_key (plain key.now) (map pair_of pairs.now) ≡ false }
+{
+    'pairs: for (place, pair) in pairs.iter().enumerate() {
+        if pair.0 == *key {
+            return Some(place);
+        }
+    }
+    None
+}
+
+/// Whether these pairs may stand in one row: they are few, and no key stands twice.
+pub(crate) fn are_few(pairs: &[(Value, Value)]) -> bool
+    ensures { result ≡ true → AreFew (map pair_of pairs.now) }
+{
+    if pairs.len() > FEW {
+        return false;
+    }
+    'pairs: for (place, pair) in pairs.iter().enumerate() {
+        if place_in(&pairs[..place], &pair.0).is_some() {
+            return false;
+        }
+    }
+    true
+}
+
 impl FewPairs {
     /// No pairs. They take no memory.
     pub(crate) fn new(alloc: Global) -> FewPairs
@@ -41,6 +70,14 @@ impl FewPairs {
         FewPairs {
             pairs: Vec::new(alloc),
         }
+    }
+
+    /// These pairs, in the memory in which they are given.
+    pub(crate) fn from_vec(pairs: Vec<(Value, Value)>) -> FewPairs
+        requires { AreFew (map pair_of pairs.items) }
+        ensures { result ≡ map pair_of pairs.items }
+    {
+        FewPairs { pairs }
     }
 
     /// How many pairs there are.
@@ -58,12 +95,7 @@ impl FewPairs {
         ensures there { IfSome result (λ place. StandsAt (plain key.now) place self.now) }
         ensures none { result ≡ None → has_key (plain key.now) self.now ≡ false }
     {
-        'pairs: for (place, pair) in self.pairs.iter().enumerate() {
-            if pair.0 == *key {
-                return Some(place);
-            }
-        }
-        None
+        place_in(self.pairs.as_slice(), key)
     }
 
     /// Whether a key is there.

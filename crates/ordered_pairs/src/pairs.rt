@@ -1,12 +1,12 @@
 // Pairs in the order of their keys, few or indexed.
 
-ghost use Rattle.std.specs.Prelude.{◌≡◌, ◌<◌, ◌^◌, ◌↔◌, [], length, map, true, false, None, IfSome, IfOk, IsOk, OnOk, OnErr, Err};
+ghost use Rattle.std.specs.Prelude.{◌≡◌, ◌<◌, ◌≤◌, ◌^◌, ◌↔◌, [], length, map, true, false, None, IfSome, IfOk, IsOk, OnOk, OnErr, Err};
 ghost use Rattle.rb_model.specs.Values.{is_text, plain};
-ghost use Rattle.rb_model.specs.Things.{has_key, value_at, with_pair, without_key, may_put};
+ghost use Rattle.rb_model.specs.Things.{gathered, has_key, value_at, with_pair, without_key, may_put};
 ghost use Rattle.ordered_pairs.specs.Order.{pair_of};
 ghost use Rattle.ordered_pairs.specs.Forms.{form_pairs, HasPlace};
 
-use crate::few::FewPairs;
+use crate::few::{FewPairs, are_few};
 use crate::indexed::IndexedPairs;
 use rb_model::Value;
 use std::alloc::{AllocError, AllocFailed, Global};
@@ -114,6 +114,33 @@ impl OrderedPairs {
         })
     }
 
+    /// Pairs as they are given, from the left: a key that stands twice keeps its first place and has the last value. Few pairs of different
+    /// keys stay in the memory in which they are given. That there are more than there may be is told as want of memory.
+    pub fn from_vec(alloc: Global, given: Vec<(Value, Value)>) -> Result<OrderedPairs, AllocError>
+        ensures pairs { IfOk result (λ pairs. pairs ≡ gathered (map pair_of given.items)) }
+        ensures few { IfOk result (λ pairs. length pairs ≤ MAX_PAIRS) }
+    {
+        if are_few(given.as_slice()) {
+            return Ok(OrderedPairs {
+                form: Form::Few(FewPairs::from_vec(given)),
+                alloc,
+            });
+        }
+        OrderedPairs::one_by_one(alloc, given)
+    }
+
+    /// The same by one `put` for each pair.
+    fn one_by_one(alloc: Global, given: Vec<(Value, Value)>) -> Result<OrderedPairs, AllocError>
+        ensures pairs { IfOk result (λ pairs. pairs ≡ gathered (map pair_of given.items)) }
+        ensures few { IfOk result (λ pairs. length pairs ≤ MAX_PAIRS) }
+    {
+        let mut pairs = OrderedPairs::new(alloc)?;
+        'given: for (key, value) in given {
+            pairs.add(key, value)?;
+        }
+        Ok(pairs)
+    }
+
     /// How many pairs there are.
     pub fn len(&self) -> usize
         ensures exact { result ≡ length self.now }
@@ -181,6 +208,17 @@ impl OrderedPairs {
                 Ok(())
             }
             Form::Indexed(indexed) => indexed.put(key, value),
+        }
+    }
+
+    /// The same while pairs are gathered. That there are too many is told as want of memory.
+    fn add(&mut self, key: Value, value: Value) -> Result<(), AllocError>
+        ensures done { OnOk result (self.new ≡ with_pair (plain key) (plain value) self.old) }
+        ensures few { OnOk result (may_put (plain key) self.old ≡ true) }
+    {
+        match self.put(key, value) {
+            Ok(()) => Ok(()),
+            Err(_) => Err(AllocError),
         }
     }
 

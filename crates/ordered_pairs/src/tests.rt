@@ -372,6 +372,102 @@ fn a_row_becomes_an_index_at_the_ninth_key(rt: HostRuntime) -> Result<(), Fail> 
     Ok(())
 }
 
+/// Pairs as they are given; the pairs that there are then, and their form.
+const GIVEN: [(&[(i64, i64)], &[(i64, i64)], Form); 6] = [
+    (&[], &[], Form::Row),
+    (&[(2, 20), (1, 10)], &[(2, 20), (1, 10)], Form::Row),
+    // a key that stands twice keeps its first place and has the last value
+    (&[(2, 20), (1, 10), (2, 21)], &[(2, 21), (1, 10)], Form::Row),
+    (
+        &[
+            (8, 80),
+            (7, 70),
+            (6, 60),
+            (5, 50),
+            (4, 40),
+            (3, 30),
+            (2, 20),
+            (1, 10),
+        ],
+        &[
+            (8, 80),
+            (7, 70),
+            (6, 60),
+            (5, 50),
+            (4, 40),
+            (3, 30),
+            (2, 20),
+            (1, 10),
+        ],
+        Form::Row,
+    ),
+    (
+        &[
+            (8, 80),
+            (7, 70),
+            (6, 60),
+            (5, 50),
+            (4, 40),
+            (3, 30),
+            (2, 20),
+            (1, 10),
+            (8, 81),
+        ],
+        &[
+            (8, 81),
+            (7, 70),
+            (6, 60),
+            (5, 50),
+            (4, 40),
+            (3, 30),
+            (2, 20),
+            (1, 10),
+        ],
+        Form::Row,
+    ),
+    (
+        &[
+            (9, 90),
+            (8, 80),
+            (7, 70),
+            (6, 60),
+            (5, 50),
+            (4, 40),
+            (3, 30),
+            (2, 20),
+            (1, 10),
+            (8, 81),
+        ],
+        &[
+            (9, 90),
+            (8, 81),
+            (7, 70),
+            (6, 60),
+            (5, 50),
+            (4, 40),
+            (3, 30),
+            (2, 20),
+            (1, 10),
+        ],
+        Form::Index,
+    ),
+];
+
+#[test]
+fn pairs_are_taken_as_they_are_given(rt: HostRuntime) -> Result<(), Fail> {
+    let alloc = rt.alloc();
+    for (given, wanted, form) in GIVEN {
+        let mut values = Vec::new(alloc);
+        for (key, value) in given {
+            values.push((Value::Int(*key), Value::Int(*value)))?;
+        }
+        let pairs = OrderedPairs::from_vec(alloc, values)?;
+        assert_eq!(rt; form_of(&pairs), form);
+        are(&rt, alloc, &pairs, wanted)?;
+    }
+    Ok(())
+}
+
 /// Where memory is wanted, which a run without refused allocations does not show, the pairs are as they were, and the next try is made.
 #[test]
 fn pairs_stay_as_they_were_where_memory_is_wanted(rt: HostRuntime) -> Result<(), Fail> {

@@ -74,8 +74,7 @@ impl<S: ShapeStore> LocalHeap<S> {
         ensures err { OnErr result (self.new ≡ self.old) }
     {
         let pairs = pairs::made(self.alloc, given)?;
-        let boxed = Box::new(self.alloc, pairs)?;
-        self.enter(Cell::Pairs(boxed), Sort::Pairs)
+        self.enter(Cell::Pairs(pairs), Sort::Pairs)
     }
 
     /// Puts a thing that is no object behind the others.
