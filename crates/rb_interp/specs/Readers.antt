@@ -1,4 +1,4 @@
--- Methods that only read an instance variable, and calls that are done at once.
+-- Methods that only read or write an instance variable, and calls that are done at once.
 use Rattle.std.specs.Prelude.{◌≡◌, ◌≤◌, ℕ, true, List, [], ◌∷◌, length, map, Option, Some, None}
 use Rattle.rb_tree.specs.declared.span.Span.{Span}
 use Rattle.rb_tree.specs.declared.span.NameId.{NameId}
@@ -10,16 +10,18 @@ use Rattle.rb_model.specs.declared.value.Ref.{Ref}
 use Rattle.rb_model.specs.declared.value.Value.{Value as Held}
 use Rattle.rb_model.specs.Log.{Log}
 use Rattle.rb_model.specs.Private.{Private}
-use Rattle.rb_machine.specs.Scopes.{Script, text_of}
+use Rattle.rb_machine.specs.Scopes.{Script, Scope, text_of}
+use Rattle.rb_machine.specs.Call.{enter}
 use Rattle.rb_machine.specs.Control.{State, On, Cont, Then, Eval, ReceiverOf}
 use Rattle.rb_machine.specs.Follows.{At}
 use Rattle.rb_builtin.specs.declared.builtin.Builtin.{Builtin}
 use Rattle.rb_builtin.specs.Names.{builtin_of}
 use Rattle.rb_code.specs.declared.code.Code.{Code}
+use Rattle.rb_code.specs.declared.code.Code.TheVariants as code
 use Rattle.rb_code.specs.declared.scripted.CodeMethod.{CodeMethod}
 use Rattle.rb_code.specs.declared.scripted.CodeScript.{CodeScript}
 use Rattle.rb_code.specs.Erase.{erase, erase_method}
-use Rattle.rb_code.specs.Resolved.{fits}
+use Rattle.rb_code.specs.Resolved.{fits, method_fits}
 use Rattle.rb_code.specs.Stands.{StandsFor}
 use Rattle.rb_interp.specs.Outcome.{Outcome, Came}
 use Rattle.rb_interp.specs.Carries.{me_of, scope_of}
@@ -46,3 +48,18 @@ SendsTo script program N me receiver method name at depth left left' room log lo
     → StandsFor script S → S.program ≡ program → builtin_of (text_of S name) ≡ method → fits S receiver names size ≡ true → length names ≤ length room
     → At S 0 N start log own (On (Eval (erase receiver)) (Then (ReceiverOf (text_of S name) [] None at) ∷ k) (scope_of me names room) depth left)
     → Came S N start log' own' o k (scope_of me names room) depth left'
+
+-- a method with one parameter gives it to this variable at this place, and does nothing else
+pub record Writes (m : CodeMethod) (field : NameId) (place : Span) : Type 0 where
+  pub params : length m.params ≡ 1
+  pub name : NameId
+  pub from : Span
+  pub body : m.body ≡ code.SetField field (code.Local 0 name from) place ∷ []
+
+-- From where a method begins with these arguments, the machine comes to the outcome.
+abbrev pub EntersAtOnce : ℕ → Val → CodeMethod → List Val → (depth left left' : ℕ) → (log log' : Log) → (own own' : Private) → Outcome → Type 0
+EntersAtOnce N to method args depth left left' log log' own own' o =
+    (S : Script) (start : State) (k : List Cont) (sc : Scope) (at : Span)
+    → method_fits S method ≡ true
+    → At S 0 N start log own (enter S (erase_method method) to args at k sc depth left)
+    → Came S N start log' own' o k sc depth left'

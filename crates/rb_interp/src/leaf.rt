@@ -1,7 +1,7 @@
 // Leaves, and operations on integers, which call nothing of the walk.
 
 ghost use Rattle.rb_tree.specs.declared.node.Program.{Program};
-ghost use Rattle.std.specs.Prelude.{◌≡◌, ◌≤◌, ℕ, List, [], ◌∷◌, length, map, slice_get, Some, None, IfSome, false};
+ghost use Rattle.std.specs.Prelude.{◌≡◌, ◌≢◌, ◌≤◌, ℕ, List, [], ◌∷◌, length, map, slice_get, Some, None, IfSome, true, false};
 ghost use Rattle.rb_tree.specs.declared.node.Node.{out-Node};
 ghost use Rattle.rb_tree.specs.Place.{place};
 ghost use Rattle.rb_model.specs.Values.{Int, Str, plain, truthy};
@@ -448,6 +448,24 @@ pub(crate) fn is_deep(code: &Code) -> bool {
     match code {
         Code::Operate(_, _, receiver, _, _) => is_operate(receiver.get()),
         _ => false,
+    }
+}
+
+/// Whether a node is a call with a receiver, without a block.
+#[inline(always)]
+pub(crate) fn is_send(code: &Code) -> bool {
+    matches!(code, Code::Send(_, _, _, _, _))
+}
+
+/// Whether an operator of an assignment combines the value that stands there with another.
+#[inline(always)]
+pub(crate) fn is_combining(op: AssignOp) -> bool
+    ensures or_else { result ≡ true → op ≢ AssignOp.OrElse }
+    ensures and_then { result ≡ true → op ≢ AssignOp.AndThen }
+{
+    match op {
+        AssignOp::OrElse | AssignOp::AndThen => false,
+        _ => true,
     }
 }
 

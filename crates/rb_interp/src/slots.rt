@@ -1,7 +1,7 @@
 // Slots of a frame.
 
 ghost use Rattle.std.specs.Prelude.{◌≡◌, ◌≤◌, ◌<◌, ◌+◌, ℕ, [], ◌∷◌, Some, IfOk, IfSome, map, length, take, drop, slice_get, slice_set};
-ghost use Rattle.rb_model.specs.Values.{plain};
+ghost use Rattle.rb_model.specs.Values.{Int, plain};
 ghost use Rattle.rb_model.specs.declared.value.Value.TheVariants as held;
 ghost use Rattle.rb_machine.specs.Scopes.{Script};
 ghost use Rattle.rb_machine.specs.Call.{last_value};
@@ -93,6 +93,20 @@ pub(crate) fn passed(room: &[Value], from: usize, count: usize) -> &[Value]
         return &room[0..0];
     }
     &room[from..from + count]
+}
+
+/// The only argument, where it is an integer.
+#[inline(always)]
+pub(crate) fn only_integer(args: &[Value]) -> Option<i64>
+    ensures { IfSome result (λ n. map plain args.now ≡ Int n ∷ []) }
+{
+    let [only] = args else {
+        return None;
+    };
+    match only {
+        Value::Int(n) => Some(*n),
+        _ => None,
+    }
 }
 
 /// The value in a place.

@@ -3,7 +3,7 @@
 ghost use Rattle.std.specs.Prelude.{◌≡◌, IfSome, Some, None};
 ghost use Rattle.rb_model.specs.Values.{plain};
 ghost use Rattle.rb_interp.specs.Methods.{IsTarget, HasNone, HasNoMethods, IsWriter, HasNoWriter};
-ghost use Rattle.rb_interp.specs.Readers.{Reads, IsReader};
+ghost use Rattle.rb_interp.specs.Readers.{Reads, IsReader, Writes};
 ghost use Rattle.rb_interp.specs.Answers.{IsHeld};
 ghost use Rattle.rb_interp.specs.Carries.{me_of};
 
@@ -96,7 +96,7 @@ pub(crate) struct Reader {
 
 /// What a method reads, where it does nothing else.
 #[inline(always)]
-fn read_by(method: &CodeMethod) -> Option<(NameId, Span)>
+pub(crate) fn read_by(method: &CodeMethod) -> Option<(NameId, Span)>
     ensures { IfSome result (λ read. Reads method.now read.0 read.1) }
 {
     if !method.params.is_empty() {
@@ -123,4 +123,27 @@ pub(crate) fn reader_of(script: &CodeScript, receiver: &Value, name: NameId) -> 
         field,
         at,
     })
+}
+
+/// What a method with one parameter gives it to, where it does nothing else, as `attr_writer` makes it: an instance variable, at this place.
+#[inline(always)]
+pub(crate) fn written_by(method: &CodeMethod) -> Option<(NameId, Span)>
+    ensures { IfSome result (λ written. Writes method.now written.0 written.1) }
+{
+    if method.params.len() != 1 {
+        return None;
+    }
+    let [only] = method.body.as_slice() else {
+        return None;
+    };
+    let Code::SetField(field, value, at) = only else {
+        return None;
+    };
+    let Code::Local(slot, _, _) = value.get() else {
+        return None;
+    };
+    if *slot != 0 {
+        return None;
+    }
+    Some((*field, *at))
 }

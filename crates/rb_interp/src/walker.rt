@@ -149,6 +149,48 @@ impl<'p, O: ThreadStore + Drop> Walker<'p, O> {
         self.evaluate_call(code, depth, room)
     }
 
+    /// The same where it is seldom another: what else it is stands apart.
+    #[cycle(walk)]
+    #[inline(always)]
+    fn evaluate_leaf(&mut self, code: &'p Code, depth: u32, room: &mut [Value]) -> Came
+        requires unended { has_end (O.log self.old.store).entries ≡ false }
+        requires steps { self.old.left ≤ self.old.context.steps }
+        ensures counted { goes_on (outcome result self.new.value self.new.leave) ≡ true → self.new.left < self.old.left }
+        ensures base { self.new.base ≡ self.old.base }
+        ensures context { self.new.context ≡ self.old.context }
+        ensures room { length room.new ≡ length room.old }
+        ensures less { self.new.left ≤ self.old.left }
+        ensures unended { has_end (O.log self.new.store).entries ≡ false }
+        ensures kept { Keeps self.old.context.script.now self.old.context.program.now (λ S. fits S code.now) self.old.base room.old room.new }
+        ensures came { Carries self.old.context.script.now self.old.context.program.now self.old.context.steps (me_of self.old.context.me) (λ S. fits S code.now) (λ S k sc d n. On (Eval (erase code.now)) k sc d n) self.old.base depth self.old.left self.new.left room.old room.new (O.log self.old.store) (O.log self.new.store) (O.private self.old.store) (O.private self.new.store) (outcome result self.new.value self.new.leave) }
+    {
+        if self.left > 0 && depth < MAX_DEPTH {
+            if let Some(n) = small(code, room) {
+                self.left -= 1;
+                return Came::Int(n);
+            }
+        }
+        self.evaluate_apart(code, depth, room)
+    }
+
+    /// Evaluates any node apart.
+    #[cycle(walk)]
+    #[inline(never)]
+    fn evaluate_apart(&mut self, code: &'p Code, depth: u32, room: &mut [Value]) -> Came
+        requires unended { has_end (O.log self.old.store).entries ≡ false }
+        requires steps { self.old.left ≤ self.old.context.steps }
+        ensures counted { goes_on (outcome result self.new.value self.new.leave) ≡ true → self.new.left < self.old.left }
+        ensures base { self.new.base ≡ self.old.base }
+        ensures context { self.new.context ≡ self.old.context }
+        ensures room { length room.new ≡ length room.old }
+        ensures less { self.new.left ≤ self.old.left }
+        ensures unended { has_end (O.log self.new.store).entries ≡ false }
+        ensures kept { Keeps self.old.context.script.now self.old.context.program.now (λ S. fits S code.now) self.old.base room.old room.new }
+        ensures came { Carries self.old.context.script.now self.old.context.program.now self.old.context.steps (me_of self.old.context.me) (λ S. fits S code.now) (λ S k sc d n. On (Eval (erase code.now)) k sc d n) self.old.base depth self.old.left self.new.left room.old room.new (O.log self.old.store) (O.log self.new.store) (O.private self.old.store) (O.private self.new.store) (outcome result self.new.value self.new.leave) }
+    {
+        self.evaluate_call(code, depth, room)
+    }
+
     /// Evaluates a node that may well be a call with one argument, which is looked into here.
     #[cycle(walk)]
     #[inline(always)]
@@ -198,7 +240,13 @@ impl<'p, O: ThreadStore + Drop> Walker<'p, O> {
                 }
                 self.walk(code, depth, room)
             }
-            Code::Send(_, _, _, _, _) => self.evaluate_operand(code, depth, room),
+            Code::Send(_, _, _, _, _) => {
+                if self.left > 0 && depth < MAX_DEPTH {
+                    self.left -= 1;
+                    return self.begin_read(code, depth + 1, room);
+                }
+                self.walk(code, depth, room)
+            }
             Code::Field(_, _) => self.evaluate_operand(code, depth, room),
             Code::Local(_, _, _) => self.evaluate_operand(code, depth, room),
             Code::False(_) => self.evaluate_operand(code, depth, room),
@@ -232,7 +280,7 @@ impl<'p, O: ThreadStore + Drop> Walker<'p, O> {
         self.walk(code, depth, room)
     }
 
-    /// Evaluates a local, an instance variable, a truth value or a call with a receiver.
+    /// Evaluates a local, an instance variable or a truth value.
     #[cycle(walk)]
     #[inline(never)]
     fn evaluate_operand(&mut self, code: &'p Code, depth: u32, room: &mut [Value]) -> Came
@@ -250,6 +298,29 @@ impl<'p, O: ThreadStore + Drop> Walker<'p, O> {
         if self.left > 0 && depth < MAX_DEPTH {
             self.left -= 1;
             return self.begin_operand(code, depth + 1, room);
+        }
+        self.walk(code, depth, room)
+    }
+
+    /// Evaluates a call with a receiver, without a block, where it stands: what only reads an instance variable of a local's object is done
+    /// here.
+    #[cycle(walk)]
+    #[inline(always)]
+    fn evaluate_sent(&mut self, code: &'p Code, depth: u32, room: &mut [Value]) -> Came
+        requires unended { has_end (O.log self.old.store).entries ≡ false }
+        requires steps { self.old.left ≤ self.old.context.steps }
+        ensures counted { goes_on (outcome result self.new.value self.new.leave) ≡ true → self.new.left < self.old.left }
+        ensures base { self.new.base ≡ self.old.base }
+        ensures context { self.new.context ≡ self.old.context }
+        ensures room { length room.new ≡ length room.old }
+        ensures less { self.new.left ≤ self.old.left }
+        ensures unended { has_end (O.log self.new.store).entries ≡ false }
+        ensures kept { Keeps self.old.context.script.now self.old.context.program.now (λ S. fits S code.now) self.old.base room.old room.new }
+        ensures came { Carries self.old.context.script.now self.old.context.program.now self.old.context.steps (me_of self.old.context.me) (λ S. fits S code.now) (λ S k sc d n. On (Eval (erase code.now)) k sc d n) self.old.base depth self.old.left self.new.left room.old room.new (O.log self.old.store) (O.log self.new.store) (O.private self.old.store) (O.private self.new.store) (outcome result self.new.value self.new.leave) }
+    {
+        if self.left > 0 && depth < MAX_DEPTH {
+            self.left -= 1;
+            return self.read_attribute(code, depth + 1, room);
         }
         self.walk(code, depth, room)
     }

@@ -11,10 +11,10 @@ ghost use Rattle.rb_interp.specs.Carries.{Carries, Keeps, me_of};
 ghost use Rattle.rb_interp.specs.Readers.{SendsTo};
 
 use super::{MAX_DEPTH, Walker};
-use crate::came::{Came, Cut, Leave};
+use crate::came::{Came, Cut, Leave, is_left};
 use crate::leaf::{
-    held_alone, held_at, is_deep, is_object_at, is_operate, local_at, quick, quick_update,
-    update_over,
+    held_alone, held_at, integer_at, is_combining, is_deep, is_object_at, is_operate, is_send,
+    local_at, quick, quick_update, update_over,
 };
 use crate::target::{local_collection, local_target, reader_of};
 use rb_builtin::Builtin;
@@ -66,6 +66,9 @@ impl<'p, O: ThreadStore + Drop> Walker<'p, O> {
                 if is_operate(value) {
                     return self.begin_update_over(code, depth, room);
                 }
+                if is_send(value) {
+                    return self.begin_update_sent(code, depth, room);
+                }
                 if self.left > 0 && depth < MAX_DEPTH {
                     if let Some(n) = quick_update(*slot, *op, value, room) {
                         self.left -= 1;
@@ -98,6 +101,37 @@ impl<'p, O: ThreadStore + Drop> Walker<'p, O> {
                     if let Some(n) = update_over(*slot, *op, value.get(), room) {
                         self.left -= 3;
                         return Came::Int(n);
+                    }
+                }
+                self.begin_slow_update(code, depth, room)
+            }
+            _ => self.over(Cut::Memory),
+        }
+    }
+
+    /// An assignment with an operator and a call with a receiver to a local. Over an integer the call stands here.
+    #[cycle(walk)]
+    #[inline(never)]
+    fn begin_update_sent(&mut self, code: &'p Code, depth: u32, room: &mut [Value]) -> Came
+        requires unended { has_end (O.log self.old.store).entries ≡ false }
+        requires steps { self.old.left ≤ self.old.context.steps }
+        ensures base { self.new.base ≡ self.old.base }
+        ensures context { self.new.context ≡ self.old.context }
+        ensures room { length room.new ≡ length room.old }
+        ensures less { self.new.left ≤ self.old.left }
+        ensures unended { has_end (O.log self.new.store).entries ≡ false }
+        ensures kept { Keeps self.old.context.script.now self.old.context.program.now (λ S. fits S code.now) self.old.base room.old room.new }
+        ensures came { Carries self.old.context.script.now self.old.context.program.now self.old.context.steps (me_of self.old.context.me) (λ S. fits S code.now) (λ S k sc d n. begin S (out-Node (erase code.now)) k sc d n) self.old.base depth self.old.left self.new.left room.old room.new (O.log self.old.store) (O.log self.new.store) (O.private self.old.store) (O.private self.new.store) (outcome result self.new.value self.new.leave) }
+    {
+        match code {
+            Code::UpdateLocal(slot, _, op, value, at) => {
+                if is_combining(*op) {
+                    if let Some(m) = integer_at(room, *slot) {
+                        let made = self.combine_sent(m, *op, value.get(), *at, depth, room);
+                        if is_left(made) {
+                            return made;
+                        }
+                        return self.write(*slot, made, room);
                     }
                 }
                 self.begin_slow_update(code, depth, room)
@@ -331,8 +365,8 @@ impl<'p, O: ThreadStore + Drop> Walker<'p, O> {
 
     /// A call with a receiver, without a block. What only reads an instance variable of a local's object is done here.
     #[cycle(walk)]
-    #[inline(never)]
-    fn begin_read(&mut self, code: &'p Code, depth: u32, room: &mut [Value]) -> Came
+    #[inline(always)]
+    pub(super) fn read_attribute(&mut self, code: &'p Code, depth: u32, room: &mut [Value]) -> Came
         requires unended { has_end (O.log self.old.store).entries ≡ false }
         requires steps { self.old.left ≤ self.old.context.steps }
         ensures base { self.new.base ≡ self.old.base }
@@ -354,6 +388,23 @@ impl<'p, O: ThreadStore + Drop> Walker<'p, O> {
             }
             _ => self.over(Cut::Memory),
         }
+    }
+
+    /// The same apart.
+    #[cycle(walk)]
+    #[inline(never)]
+    pub(super) fn begin_read(&mut self, code: &'p Code, depth: u32, room: &mut [Value]) -> Came
+        requires unended { has_end (O.log self.old.store).entries ≡ false }
+        requires steps { self.old.left ≤ self.old.context.steps }
+        ensures base { self.new.base ≡ self.old.base }
+        ensures context { self.new.context ≡ self.old.context }
+        ensures room { length room.new ≡ length room.old }
+        ensures less { self.new.left ≤ self.old.left }
+        ensures unended { has_end (O.log self.new.store).entries ≡ false }
+        ensures kept { Keeps self.old.context.script.now self.old.context.program.now (λ S. fits S code.now) self.old.base room.old room.new }
+        ensures came { Carries self.old.context.script.now self.old.context.program.now self.old.context.steps (me_of self.old.context.me) (λ S. fits S code.now) (λ S k sc d n. begin S (out-Node (erase code.now)) k sc d n) self.old.base depth self.old.left self.new.left room.old room.new (O.log self.old.store) (O.log self.new.store) (O.private self.old.store) (O.private self.new.store) (outcome result self.new.value self.new.leave) }
+    {
+        self.read_attribute(code, depth, room)
     }
 
     /// Any call with a receiver, without a block. To a local without arguments it takes no value out of its slot.

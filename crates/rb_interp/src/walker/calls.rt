@@ -336,7 +336,7 @@ impl<'p, O: ThreadStore + Drop> Walker<'p, O> {
         let Ok(last) = last_of(passed(room, self.base, count)) else {
             return self.over(Cut::Memory);
         };
-        let came = self.enter(target.method, Some(target.object), count, at, depth, room);
+        let came = self.enter_storing(target, count, at, depth, room);
         if is_left(came) {
             return came;
         }

@@ -9,14 +9,15 @@ ghost use Rattle.rb_code.specs.Resolved.{fits, every, method_fits};
 ghost use Rattle.rb_interp.specs.Outcome.{value_of, outcome};
 ghost use Rattle.rb_interp.specs.Carries.{Carries, Keeps, unnamed, me_of};
 ghost use Rattle.rb_interp.specs.Methods.{IsTarget, HasNone, Enters, EntersWith, Invokes};
+ghost use Rattle.rb_interp.specs.Readers.{EntersAtOnce};
 
-use super::Walker;
+use super::{MAX_DEPTH, Walker};
 use crate::came::{Came, Cut, is_left};
-use crate::slots::{clear, passed};
-use crate::target::{Target, target_of};
+use crate::slots::{clear, only_integer, passed};
+use crate::target::{Target, read_by, target_of, written_by};
 use rb_builtin::Builtin;
 use rb_code::{Code, CodeMethod};
-use rb_model::{Fault, Ref, ThreadStore, Value};
+use rb_model::{Act, Fault, Ref, ThreadStore, Value};
 use rb_tree::{NameId, Span};
 
 impl<'p, O: ThreadStore + Drop> Walker<'p, O> {
@@ -101,6 +102,105 @@ impl<'p, O: ThreadStore + Drop> Walker<'p, O> {
         self.enter(target.method, Some(target.object), 1, at, depth, room)
     }
 
+    /// What comes of a method that was found, where it is entered without arguments and only reads an instance variable. Else nothing is done.
+    #[inline(always)]
+    fn entered_reader(&mut self, target: Target<'p>, count: usize, depth: u32) -> Option<Came>
+        requires unended { has_end (O.log self.old.store).entries ≡ false }
+        ensures none { result ≡ None → self.new ≡ self.old }
+        ensures count { IfSome result (λ _. count ≡ 0) }
+        ensures base { self.new.base ≡ self.old.base }
+        ensures context { self.new.context ≡ self.old.context }
+        ensures less { self.new.left ≤ self.old.left }
+        ensures log { O.log self.new.store ≡ O.log self.old.store }
+        ensures came { IfSome result (λ came. EntersAtOnce self.old.context.steps (me_of (Some target.entry.object)) target.entry.method.now [] depth self.old.left self.new.left (O.log self.old.store) (O.log self.new.store) (O.private self.old.store) (O.private self.new.store) (outcome came self.new.value self.new.leave)) }
+    {
+        if count != 0 || self.left == 0 || depth >= MAX_DEPTH {
+            return None;
+        }
+        let (field, at) = read_by(target.method)?;
+        self.left -= 1;
+        let came = self.ask(target.object, Act::GetField(field), at);
+        Some(self.out_of_call(came))
+    }
+
+    /// What comes of a method that was found, where it is entered with one integer and only gives it to an instance variable. Else nothing
+    /// is done.
+    #[inline(always)]
+    fn entered_writer(&mut self, target: Target<'p>, args: &[Value], depth: u32) -> Option<Came>
+        requires unended { has_end (O.log self.old.store).entries ≡ false }
+        ensures none { result ≡ None → self.new ≡ self.old }
+        ensures base { self.new.base ≡ self.old.base }
+        ensures context { self.new.context ≡ self.old.context }
+        ensures less { self.new.left ≤ self.old.left }
+        ensures log { O.log self.new.store ≡ O.log self.old.store }
+        ensures came { IfSome result (λ came. EntersAtOnce self.old.context.steps (me_of (Some target.entry.object)) target.entry.method.now (map plain args.now) depth self.old.left self.new.left (O.log self.old.store) (O.log self.new.store) (O.private self.old.store) (O.private self.new.store) (outcome came self.new.value self.new.leave)) }
+    {
+        if self.left < 2 || depth >= MAX_DEPTH - 1 {
+            return None;
+        }
+        let n = only_integer(args)?;
+        let (field, at) = written_by(target.method)?;
+        self.left -= 2;
+        let came = self.write_integer(target.object, field, n, at);
+        Some(self.out_of_call(came))
+    }
+
+    /// Enters a method that was found for an assignment, with arguments of which there are so many behind the frame. What only gives an
+    /// integer to an instance variable is done at once.
+    #[cycle(walk)]
+    #[inline(always)]
+    pub(super) fn enter_storing(
+        &mut self,
+        target: Target<'p>,
+        count: usize,
+        at: Span,
+        depth: u32,
+        room: &mut [Value],
+    ) -> Came
+        requires unended { has_end (O.log self.old.store).entries ≡ false }
+        requires steps { self.old.left ≤ self.old.context.steps }
+        ensures base { self.new.base ≡ self.old.base }
+        ensures context { self.new.context ≡ self.old.context }
+        ensures room { length room.new ≡ length room.old }
+        ensures less { self.new.left ≤ self.old.left }
+        ensures unended { has_end (O.log self.new.store).entries ≡ false }
+        ensures kept { (i : ℕ) → i < self.old.base → slice_get room.new i ≡ slice_get room.old i }
+        ensures came { Enters self.old.context.script.now self.old.context.program.now self.old.context.steps (me_of self.old.context.me) (me_of (Some target.entry.object)) target.entry.method.now count at self.old.base depth self.old.left self.new.left room.old room.new (O.log self.old.store) (O.log self.new.store) (O.private self.old.store) (O.private self.new.store) (outcome result self.new.value self.new.leave) }
+    {
+        match self.entered_writer(target, passed(room, self.base, count), depth) {
+            Some(came) => came,
+            None => self.enter(target.method, Some(target.object), count, at, depth, room),
+        }
+    }
+
+    /// The same with one argument.
+    #[cycle(walk)]
+    #[inline(always)]
+    pub(super) fn enter_storing_with(
+        &mut self,
+        target: Target<'p>,
+        arg: Value,
+        at: Span,
+        depth: u32,
+        room: &mut [Value],
+    ) -> Came
+        requires unended { has_end (O.log self.old.store).entries ≡ false }
+        requires steps { self.old.left ≤ self.old.context.steps }
+        ensures base { self.new.base ≡ self.old.base }
+        ensures context { self.new.context ≡ self.old.context }
+        ensures room { length room.new ≡ length room.old }
+        ensures less { self.new.left ≤ self.old.left }
+        ensures unended { has_end (O.log self.new.store).entries ≡ false }
+        ensures kept { (i : ℕ) → i < self.old.base → slice_get room.new i ≡ slice_get room.old i }
+        ensures came { EntersWith self.old.context.script.now self.old.context.program.now self.old.context.steps (me_of self.old.context.me) (me_of (Some target.entry.object)) target.entry.method.now (plain arg) at self.old.base depth self.old.left self.new.left room.old room.new (O.log self.old.store) (O.log self.new.store) (O.private self.old.store) (O.private self.new.store) (outcome result self.new.value self.new.leave) }
+    {
+        if self.base >= room.len() {
+            return self.over(Cut::Memory);
+        }
+        room[self.base] = arg;
+        self.enter_storing(target, 1, at, depth, room)
+    }
+
     /// A call of a method of a value, with arguments of which there are so many behind the frame: one of its class, or one that is built in.
     #[cycle(walk)]
     #[inline(never)]
@@ -125,7 +225,10 @@ impl<'p, O: ThreadStore + Drop> Walker<'p, O> {
         ensures came { Invokes self.old.context.script.now self.old.context.program.now self.old.context.steps (me_of self.old.context.me) (plain receiver.now) method name count at self.old.base depth self.old.left self.new.left room.old room.new (O.log self.old.store) (O.log self.new.store) (O.private self.old.store) (O.private self.new.store) (outcome result self.new.value self.new.leave) }
     {
         match target_of(self.context.script, receiver, name) {
-            Some(target) => self.enter(target.method, Some(target.object), count, at, depth, room),
+            Some(target) => match self.entered_reader(target, count, depth) {
+                Some(came) => came,
+                None => self.enter(target.method, Some(target.object), count, at, depth, room),
+            },
             None => { self.call_any(receiver, method, passed(room, self.base, count), at, depth) }
         }
     }

@@ -154,7 +154,7 @@ impl<'p, O: ThreadStore + Drop> Walker<'p, O> {
 
     /// Writes an integer to an instance variable of an object, and gives it on.
     #[inline(always)]
-    fn write_integer(&mut self, object: Ref, name: NameId, n: i64, at: Span) -> Came
+    pub(super) fn write_integer(&mut self, object: Ref, name: NameId, n: i64, at: Span) -> Came
         requires unended { has_end (O.log self.old.store).entries ≡ false }
         ensures base { self.new.base ≡ self.old.base }
         ensures left { self.new.left ≡ self.old.left }
@@ -212,7 +212,7 @@ impl<'p, O: ThreadStore + Drop> Walker<'p, O> {
         ensures kept { Keeps self.old.context.script.now self.old.context.program.now (λ S. fits S value.now) self.old.base room.old room.new }
         ensures came { (step : Step) → Fields name at step → Carries self.old.context.script.now self.old.context.program.now self.old.context.steps (me_of self.old.context.me) (λ S. fits S value.now) (λ S k sc d n. On (Eval (erase value.now)) (Then step ∷ k) sc d n) self.old.base depth self.old.left self.new.left room.old room.new (O.log self.old.store) (O.log self.new.store) (O.private self.old.store) (O.private self.new.store) (outcome result self.new.value self.new.leave) }
     {
-        let came = self.evaluate(value, depth, room);
+        let came = self.evaluate_leaf(value, depth, room);
         if is_left(came) {
             return came;
         }

@@ -18,7 +18,7 @@ use Rattle.rb_interp.proofs.Moves.{gives, test_true, test_false, on, same, begin
 use Rattle.rb_interp.proofs.Immediates.{reads_element, told_value}
 use Rattle.rb_interp.specs.Answers.{wrote}
 use Rattle.rb_interp.proofs.Lists.{at_end, in_front, two_items, no_items, none_behind, never, two, fst, snd, next_item, len_set, len_map, len_args, get_set, fst_two, nothing, front, there}
-use Rattle.rb_interp.proofs.Rooms.{args_fit, sub, moved, every_item, lies, frame_back, room_beyond}
+use Rattle.rb_interp.proofs.Rooms.{args_fit, sub, moved, every_item, lies, frame_back, read_room, room_beyond}
 use Rattle.rb_interp.proofs.Outcomes.{stopped_left, again_unread, statements_end, gave, given, comes, passes, gone, again, again_out, tested_again, tested_out, called, turn_too_many, turns_end}
 use Rattle.rb_interp.proofs.Steps.{and_goes, and_stops, or_goes, or_stops, negated, chosen_first, chosen_second, assigned, kept_write}
 use Rattle.rb_machine.specs.Scopes.{text_of}
@@ -1518,8 +1518,8 @@ begin_slow_operate-returns-in_default-clause-came g m c = λ S start k names siz
     let o = c.over.ensures in
     rw (o.gives, o.left, o.store) (_, a, begin_left S (out-Node (erase c.args.code.now)) k (scope_of (me_of c.args.self.now.context.me) names c.args.room.now) c.args.depth c.args.self.now.left)
 
-pub begin_read-returns-in_default-clause-came : goal.begin_read-returns-in_default-clause-came
-begin_read-returns-in_default-clause-came g m c = λ S start k names size st e l a.
+pub read_attribute-returns-in_default-clause-came : goal.read_attribute-returns-in_default-clause-came
+read_attribute-returns-in_default-clause-came g m c = λ S start k names size st e l a.
     let o = c.over.ensures in
     rw (o.gives, o.left, o.store) (_, a, begin_left S (out-Node (erase c.args.code.now)) k (scope_of (me_of c.args.self.now.context.me) names c.args.room.now) c.args.depth c.args.self.now.left)
 
@@ -1621,6 +1621,74 @@ begin_update-returns-then-is_operate-clause-kept g m c = c.begin_update_over.ens
 pub begin_update-returns-then-is_operate-clause-came : goal.begin_update-returns-then-is_operate-clause-came
 begin_update-returns-then-is_operate-clause-came g m c = c.begin_update_over.ensures.came
 
+pub begin_update-returns-then-is_send-clause-kept : goal.begin_update-returns-then-is_send-clause-kept
+begin_update-returns-then-is_send-clause-kept g m c = c.begin_update_sent.ensures.kept
+
+pub begin_update-returns-then-is_send-clause-came : goal.begin_update-returns-then-is_send-clause-came
+begin_update-returns-then-is_send-clause-came g m c = c.begin_update_sent.ensures.came
+
+pub begin_update_sent-returns-in_default-clause-came : goal.begin_update_sent-returns-in_default-clause-came
+begin_update_sent-returns-in_default-clause-came g m c = λ S start k names size st e l a.
+    let o = c.over.ensures in
+    rw (o.gives, o.left, o.store) (_, a, begin_left S (out-Node (erase c.args.code.now)) k (scope_of (me_of c.args.self.now.context.me) names c.args.room.now) c.args.depth c.args.self.now.left)
+
+pub begin_update_sent-returns-after-is_combining-clause-kept : goal.begin_update_sent-returns-after-is_combining-clause-kept
+begin_update_sent-returns-after-is_combining-clause-kept g m c = c.begin_slow_update.ensures.kept
+
+pub begin_update_sent-returns-after-is_combining-clause-came : goal.begin_update_sent-returns-after-is_combining-clause-came
+begin_update_sent-returns-after-is_combining-clause-came g m c = c.begin_slow_update.ensures.came
+
+pub begin_update_sent-returns-then-is_left-clause-kept : goal.begin_update_sent-returns-then-is_left-clause-kept
+begin_update_sent-returns-then-is_left-clause-kept g m c = λ S names size st e l i p q.
+    let x = c.in-UpdateLocal in
+    let s = sym (ap (λ d. fits S d names size) x.is ∙ fits-update_local S names size x.slot x.field-1 x.op x.value x.at) ∙ l.fits in
+    let right : fits S c.get.result.now names size ≡ true = rw c.get.ensures (snd _ _ s) in
+    c.combine_sent-made.ensures.kept S names size st e (sub _ l right) i p q
+
+pub begin_update_sent-returns-then-is_left-clause-came : goal.begin_update_sent-returns-then-is_left-clause-came
+begin_update_sent-returns-then-is_left-clause-came g m c = λ S start k names size st e l a.
+    let x = c.in-UpdateLocal in
+    let s = sym (ap (λ d. fits S d names size) x.is ∙ fits-update_local S names size x.slot x.field-1 x.op x.value x.at) ∙ l.fits in
+    let right : fits S c.get.result.now names size ≡ true = rw c.get.ensures (snd _ _ s) in
+    let len : length names ≤ length c.args.room.now = omega (arith, l.within, l.below, l.room) in
+    let b = same (begins _ _ k _ _ _ (shows-update_local c.args.code.now x.slot x.field-1 x.op x.value x.at x.is) a) (target_local S x.field-1 x.op (erase x.value) x.at k (scope_of (me_of c.args.self.now.context.me) names c.args.room.now) c.args.depth c.args.self.now.left) in
+    let is = c.is_combining.ensures in
+    let t = c.if-is_combining.true in
+    let g1 = gives (Int c.in-Some.m) (read_room x.field-1 names c.args.room.now x.slot (held.Int c.in-Some.m) len (fst _ _ s) c.in-Some.ensures) (rw c.get.ensures b) in
+    let g2 = operates S _ start _ (Int c.in-Some.m) (OfLocal x.field-1) x.op (erase c.get.result.now) x.at (is.or_else t) (is.and_then t) g1 in
+    let y = c.combine_sent-made in
+    let z : to_z w64 (of_z w64 c.in-Some.m) ≡ c.in-Some.m = search rules in
+    let f = rw z at y.ensures.came in
+    let e2 = f S start (Then (WriteTo (OfLocal x.field-1) x.at) ∷ k) names size st e (sub _ l right) g2 in
+    passes S _ start _ y.result y.new.self.value y.new.self.leave _ (WriteTo (OfLocal x.field-1) x.at) k _ _ _ (sym c.is_left.ensures ∙ c.if-is_left.true) e2
+
+pub begin_update_sent-returns-in-Some-clause-kept : goal.begin_update_sent-returns-in-Some-clause-kept
+begin_update_sent-returns-in-Some-clause-kept g m c = λ S names size st e l i p q.
+    let x = c.in-UpdateLocal in
+    let s = sym (ap (λ d. fits S d names size) x.is ∙ fits-update_local S names size x.slot x.field-1 x.op x.value x.at) ∙ l.fits in
+    let right : fits S c.get.result.now names size ≡ true = rw c.get.ensures (snd _ _ s) in
+    let within = slot_within x.field-1 names x.slot (fst _ _ s) in
+    kept_write x.slot i _ _ _ _ (λ z. omega (arith, z, within, l.within, p)) c.write.ensures.written ∙ c.combine_sent-made.ensures.kept S names size st e (sub _ l right) i p q
+
+pub begin_update_sent-returns-in-Some-clause-came : goal.begin_update_sent-returns-in-Some-clause-came
+begin_update_sent-returns-in-Some-clause-came g m c = λ S start k names size st e l a.
+    let x = c.in-UpdateLocal in
+    let s = sym (ap (λ d. fits S d names size) x.is ∙ fits-update_local S names size x.slot x.field-1 x.op x.value x.at) ∙ l.fits in
+    let right : fits S c.get.result.now names size ≡ true = rw c.get.ensures (snd _ _ s) in
+    let len : length names ≤ length c.args.room.now = omega (arith, l.within, l.below, l.room) in
+    let b = same (begins _ _ k _ _ _ (shows-update_local c.args.code.now x.slot x.field-1 x.op x.value x.at x.is) a) (target_local S x.field-1 x.op (erase x.value) x.at k (scope_of (me_of c.args.self.now.context.me) names c.args.room.now) c.args.depth c.args.self.now.left) in
+    let is = c.is_combining.ensures in
+    let t = c.if-is_combining.true in
+    let g1 = gives (Int c.in-Some.m) (read_room x.field-1 names c.args.room.now x.slot (held.Int c.in-Some.m) len (fst _ _ s) c.in-Some.ensures) (rw c.get.ensures b) in
+    let g2 = operates S _ start _ (Int c.in-Some.m) (OfLocal x.field-1) x.op (erase c.get.result.now) x.at (is.or_else t) (is.and_then t) g1 in
+    let y = c.combine_sent-made in
+    let z : to_z w64 (of_z w64 c.in-Some.m) ≡ c.in-Some.m = search rules in
+    let f = rw z at y.ensures.came in
+    let e2 = f S start (Then (WriteTo (OfLocal x.field-1) x.at) ∷ k) names size st e (sub _ l right) g2 in
+    let g3 = given y.result y.new.self.value y.new.self.leave (sym c.is_left.ensures ∙ c.if-is_left.false) e2 in
+    let after : length names ≤ length y.new.room = omega (arith, len, y.ensures.room) in
+    rw (c.write.ensures.left, c.write.ensures.store) (assigned x.field-1 (WriteTo (OfLocal x.field-1) x.at) names x.slot y.new.room c.write.new.room (value_of y.result y.new.self.value) _ _ (updating x.at) after (fst _ _ s) c.write.ensures.written g3)
+
 pub begin_operate-returns-in-Some-clause-came : goal.begin_operate-returns-in-Some-clause-came
 begin_operate-returns-in-Some-clause-came g m c = λ S start k names size st e l a.
     let x = c.in-Operate in
@@ -1719,8 +1787,8 @@ begin_send-returns-then-is_object_at-clause-kept g m c = c.begin_read.ensures.ke
 pub begin_send-returns-then-is_object_at-clause-came : goal.begin_send-returns-then-is_object_at-clause-came
 begin_send-returns-then-is_object_at-clause-came g m c = c.begin_read.ensures.came
 
-pub begin_read-returns-in-Some-clause-came : goal.begin_read-returns-in-Some-clause-came
-begin_read-returns-in-Some-clause-came g m c = λ S start k names size st e l a.
+pub read_attribute-returns-in-Some-clause-came : goal.read_attribute-returns-in-Some-clause-came
+read_attribute-returns-in-Some-clause-came g m c = λ S start k names size st e l a.
     let x = c.in-Send in
     let s = sym (ap (λ d. fits S d names size) x.is ∙ fits-send S names size x.method x.name x.receiver x.args x.at) ∙ l.fits in
     let right : fits S c.get-receiver.result.now names size ≡ true = rw c.get-receiver.ensures (fst _ _ (snd _ _ s)) in
@@ -1730,11 +1798,17 @@ begin_read-returns-in-Some-clause-came g m c = λ S start k names size st e l a.
     let b = same (begins _ _ k _ _ _ (shows-send c.args.code.now x.method x.name x.receiver x.args x.at x.is) a) (ap (λ args. On (Eval (erase x.receiver)) (Then (ReceiverOf (text_of S x.name) (map erase args) None x.at) ∷ k) (scope_of (me_of c.args.self.now.context.me) names c.args.room.now) c.args.depth c.args.self.now.left) none) in
     c.in-Some.ensures.came S start k names size st e number right len (rw c.get-receiver.ensures b)
 
-pub begin_read-returns-in-None-clause-kept : goal.begin_read-returns-in-None-clause-kept
-begin_read-returns-in-None-clause-kept g m c = rw (c.sent_reader.ensures.none c.in-None.is) at c.begin_slow_send.ensures.kept
+pub read_attribute-returns-in-None-clause-kept : goal.read_attribute-returns-in-None-clause-kept
+read_attribute-returns-in-None-clause-kept g m c = rw (c.sent_reader.ensures.none c.in-None.is) at c.begin_slow_send.ensures.kept
 
-pub begin_read-returns-in-None-clause-came : goal.begin_read-returns-in-None-clause-came
-begin_read-returns-in-None-clause-came g m c = rw (c.sent_reader.ensures.none c.in-None.is) at c.begin_slow_send.ensures.came
+pub read_attribute-returns-in-None-clause-came : goal.read_attribute-returns-in-None-clause-came
+read_attribute-returns-in-None-clause-came g m c = rw (c.sent_reader.ensures.none c.in-None.is) at c.begin_slow_send.ensures.came
+
+pub begin_read-returns-clause-kept : goal.begin_read-returns-clause-kept
+begin_read-returns-clause-kept g m c = c.read_attribute.ensures.kept
+
+pub begin_read-returns-clause-came : goal.begin_read-returns-clause-came
+begin_read-returns-clause-came g m c = c.read_attribute.ensures.came
 
 pub begin_slow_send-returns-in-Some-clause-came : goal.begin_slow_send-returns-in-Some-clause-came
 begin_slow_send-returns-in-Some-clause-came g m c = λ S start k names size st e l a.
@@ -1974,6 +2048,33 @@ combine_integer-returns-clause-came g m c = λ S start k names size st e l a.
     let d = rw (z, w.ensures.context, sym e) at d0 in
     rw (o.left, o.store) (calls S _ start _ _ (Int c.args.m) (operator S c.args.op) (value_of w.result w.new.self.value ∷ []) c.args.at k _ _ _ _ (none_plain S (Int c.args.m) (operator S c.args.op) refl) d (on _ g1 refl))
 
+pub combine_sent-returns-then-is_left-clause-kept : goal.combine_sent-returns-then-is_left-clause-kept
+combine_sent-returns-then-is_left-clause-kept g m c = c.evaluate_sent-came.ensures.kept
+
+pub combine_sent-returns-then-is_left-clause-came : goal.combine_sent-returns-then-is_left-clause-came
+combine_sent-returns-then-is_left-clause-came g m c = λ S start k names size st e l a.
+    let w = c.evaluate_sent-came in
+    let step = RightOf (Int c.args.m) c.args.op c.args.at in
+    let come = w.ensures.came S start (Then step ∷ k) names size st e l a in
+    passes S _ start _ w.result w.new.self.value w.new.self.leave _ step k _ _ _ (sym c.is_left.ensures ∙ c.if-is_left.true) come
+
+pub combine_sent-returns-clause-kept : goal.combine_sent-returns-clause-kept
+combine_sent-returns-clause-kept g m c = c.evaluate_sent-came.ensures.kept
+
+pub combine_sent-returns-clause-came : goal.combine_sent-returns-clause-came
+combine_sent-returns-clause-came g m c = λ S start k names size st e l a.
+    let w = c.evaluate_sent-came in
+    let step = RightOf (Int c.args.m) c.args.op c.args.at in
+    let come = w.ensures.came S start (Then step ∷ k) names size st e l a in
+    let none = sym c.is_left.ensures ∙ c.if-is_left.false in
+    let g1 = given w.result w.new.self.value w.new.self.leave none come in
+    let o = c.operated_by.ensures in
+    let number = operator_number S c.args.op ∙ sym c.method_of.ensures in
+    let z : to_z w64 (of_z w64 c.args.m) ≡ c.args.m = search rules in
+    let d0 : OrMemory (outcome_of (deed w.new.self.context.program.now (Int (to_z w64 (of_z w64 c.args.m))) (operator S c.args.op) (value_of w.result w.new.self.value ∷ []) None) c.args.at) (outcome c.operated_by.result c.operated_by.new.self.value c.operated_by.new.self.leave) = o.gives (operator S c.args.op) number in
+    let d = rw (z, w.ensures.context, sym e) at d0 in
+    rw (o.left, o.store) (calls S _ start _ _ (Int c.args.m) (operator S c.args.op) (value_of w.result w.new.self.value ∷ []) c.args.at k _ _ _ _ (none_plain S (Int c.args.m) (operator S c.args.op) refl) d (on _ g1 refl))
+
 pub combine_value-returns-then-is_left-clause-came : goal.combine_value-returns-then-is_left-clause-came
 combine_value-returns-then-is_left-clause-came g m c = λ S start k names size st e l a.
     let t = c.take-receiver in
@@ -2063,6 +2164,24 @@ evaluate-returns-in-Some-clause-came g m c = λ S start k names size st e l a.
     let z : to_z w64 (of_z w64 c.in-Some.n) ≡ c.in-Some.n = search rules in
     rw z (c.in-Some.ensures S _ names size c.args.depth c.args.self.now.left start _ _ k _ l.fits len c.if-self-gt0.true c.if-depth-lt-MAX_DEPTH.true a)
 
+pub evaluate_leaf-returns-in-Some-clause-came : goal.evaluate_leaf-returns-in-Some-clause-came
+evaluate_leaf-returns-in-Some-clause-came g m c = λ S start k names size st e l a.
+    let len : length names ≤ length c.args.room.now = omega (arith, l.within, l.below, l.room) in
+    let z : to_z w64 (of_z w64 c.in-Some.n) ≡ c.in-Some.n = search rules in
+    rw z (c.in-Some.ensures S _ names size c.args.depth c.args.self.now.left start _ _ k _ l.fits len c.if-self-gt0.true c.if-depth-lt-MAX_DEPTH.true a)
+
+pub evaluate_leaf-returns-clause-kept : goal.evaluate_leaf-returns-clause-kept
+evaluate_leaf-returns-clause-kept g m c = c.evaluate_apart.ensures.kept
+
+pub evaluate_leaf-returns-clause-came : goal.evaluate_leaf-returns-clause-came
+evaluate_leaf-returns-clause-came g m c = c.evaluate_apart.ensures.came
+
+pub evaluate_apart-returns-clause-kept : goal.evaluate_apart-returns-clause-kept
+evaluate_apart-returns-clause-kept g m c = c.evaluate_call.ensures.kept
+
+pub evaluate_apart-returns-clause-came : goal.evaluate_apart-returns-clause-came
+evaluate_apart-returns-clause-came g m c = c.evaluate_call.ensures.came
+
 pub walk-returns-clause-kept : goal.walk-returns-clause-kept
 walk-returns-clause-kept g m c = c.walk_here.ensures.kept
 
@@ -2142,17 +2261,24 @@ evaluate_call-returns-else-self-gt0-clause-kept g m c = c.walk-in-Function.ensur
 pub evaluate_call-returns-else-self-gt0-clause-came : goal.evaluate_call-returns-else-self-gt0-clause-came
 evaluate_call-returns-else-self-gt0-clause-came g m c = c.walk-in-Function.ensures.came
 
-pub evaluate_call-returns-in-Send-clause-kept : goal.evaluate_call-returns-in-Send-clause-kept
-evaluate_call-returns-in-Send-clause-kept g m c = c.evaluate_operand.ensures.kept
+pub evaluate_call-returns-then-depth-lt-MAX_DEPTH-2-clause-kept : goal.evaluate_call-returns-then-depth-lt-MAX_DEPTH-2-clause-kept
+evaluate_call-returns-then-depth-lt-MAX_DEPTH-2-clause-kept g m c = c.begin_read.ensures.kept
 
-pub evaluate_call-returns-in-Send-clause-came : goal.evaluate_call-returns-in-Send-clause-came
-evaluate_call-returns-in-Send-clause-came g m c = c.evaluate_operand.ensures.came
+pub evaluate_call-returns-then-depth-lt-MAX_DEPTH-2-clause-came : goal.evaluate_call-returns-then-depth-lt-MAX_DEPTH-2-clause-came
+evaluate_call-returns-then-depth-lt-MAX_DEPTH-2-clause-came g m c = λ S start k names size st e l a.
+    left S _ start _ _ _ k _ _ _ _ (c.begin_read.ensures.came S start (Under c.args.depth ∷ k) names size st e l (counts c.if-self-gt0-2.true c.if-depth-lt-MAX_DEPTH-2.true a))
+
+pub evaluate_call-returns-else-self-gt0-2-clause-kept : goal.evaluate_call-returns-else-self-gt0-2-clause-kept
+evaluate_call-returns-else-self-gt0-2-clause-kept g m c = c.walk-in-Send.ensures.kept
+
+pub evaluate_call-returns-else-self-gt0-2-clause-came : goal.evaluate_call-returns-else-self-gt0-2-clause-came
+evaluate_call-returns-else-self-gt0-2-clause-came g m c = c.walk-in-Send.ensures.came
 
 pub evaluate_call-returns-in-Field-clause-kept : goal.evaluate_call-returns-in-Field-clause-kept
-evaluate_call-returns-in-Field-clause-kept g m c = c.evaluate_operand-in-Field.ensures.kept
+evaluate_call-returns-in-Field-clause-kept g m c = c.evaluate_operand.ensures.kept
 
 pub evaluate_call-returns-in-Field-clause-came : goal.evaluate_call-returns-in-Field-clause-came
-evaluate_call-returns-in-Field-clause-came g m c = c.evaluate_operand-in-Field.ensures.came
+evaluate_call-returns-in-Field-clause-came g m c = c.evaluate_operand.ensures.came
 
 pub evaluate_call-returns-in-Local-clause-kept : goal.evaluate_call-returns-in-Local-clause-kept
 evaluate_call-returns-in-Local-clause-kept g m c = c.evaluate_operand-in-Local.ensures.kept
@@ -2203,6 +2329,13 @@ evaluate_operand-returns-then-depth-lt-MAX_DEPTH-clause-kept g m c = c.begin_ope
 pub evaluate_operand-returns-then-depth-lt-MAX_DEPTH-clause-came : goal.evaluate_operand-returns-then-depth-lt-MAX_DEPTH-clause-came
 evaluate_operand-returns-then-depth-lt-MAX_DEPTH-clause-came g m c = λ S start k names size st e l a.
     left S _ start _ _ _ k _ _ _ _ (c.begin_operand.ensures.came S start (Under c.args.depth ∷ k) names size st e l (counts c.if-self-gt0.true c.if-depth-lt-MAX_DEPTH.true a))
+
+pub evaluate_sent-returns-then-depth-lt-MAX_DEPTH-clause-kept : goal.evaluate_sent-returns-then-depth-lt-MAX_DEPTH-clause-kept
+evaluate_sent-returns-then-depth-lt-MAX_DEPTH-clause-kept g m c = c.read_attribute.ensures.kept
+
+pub evaluate_sent-returns-then-depth-lt-MAX_DEPTH-clause-came : goal.evaluate_sent-returns-then-depth-lt-MAX_DEPTH-clause-came
+evaluate_sent-returns-then-depth-lt-MAX_DEPTH-clause-came g m c = λ S start k names size st e l a.
+    left S _ start _ _ _ k _ _ _ _ (c.read_attribute.ensures.came S start (Under c.args.depth ∷ k) names size st e l (counts c.if-self-gt0.true c.if-depth-lt-MAX_DEPTH.true a))
 
 pub begin_operand-returns-in-Field-clause-came : goal.begin_operand-returns-in-Field-clause-came
 begin_operand-returns-in-Field-clause-came g m c = λ S start k names size st e l a.
@@ -2289,15 +2422,56 @@ enter_with-returns-clause-came g m c = λ S start k names st e right le long a.
     let f = c.enter.ensures.came S start k names st e right le (omega (arith, within, len_set room base c.args.arg)) in
     f (placed (erase_method c.args.target.method.now) (me_of (Some c.args.target.object)) c.args.at k _ _ me names base room c.args.arg le within a)
 
-pub invoke-returns-in-Some-clause-came : goal.invoke-returns-in-Some-clause-came
-invoke-returns-in-Some-clause-came g m c = λ S start k names st e number le long a.
+pub enter_storing-returns-in-Some-clause-came : goal.enter_storing-returns-in-Some-clause-came
+enter_storing-returns-in-Some-clause-came g m c = λ S start k names st e right le long a.
+    c.in-Some.ensures.came S start k (scope_of (me_of c.args.self.now.context.me) names c.args.room.now) c.args.at right
+    (same a (ap (λ vs. enter S (erase_method c.args.target.method.now) (me_of (Some c.args.target.object)) (map plain vs) c.args.at k (scope_of (me_of c.args.self.now.context.me) names c.args.room.now) c.args.depth c.args.self.now.left) (sym (c.passed.ensures long))))
+
+pub enter_storing-returns-in-None-clause-kept : goal.enter_storing-returns-in-None-clause-kept
+enter_storing-returns-in-None-clause-kept g m c = rw (c.entered_writer.ensures.none c.in-None.is) at c.enter.ensures.kept
+
+pub enter_storing-returns-in-None-clause-came : goal.enter_storing-returns-in-None-clause-came
+enter_storing-returns-in-None-clause-came g m c = rw (c.entered_writer.ensures.none c.in-None.is) at c.enter.ensures.came
+
+pub enter_storing_with-returns-then-self-room-clause-came : goal.enter_storing_with-returns-then-self-room-clause-came
+enter_storing_with-returns-then-self-room-clause-came g m c = λ S start k names st e right le long a.
+    let o = c.over.ensures in
+    rw (o.left, o.store) (cut S _ start _ _ _ k _ _ _ _ o.gives a (enter_left S (erase_method c.args.target.method.now) (me_of (Some c.args.target.object)) (plain c.args.arg ∷ []) c.args.at k (scope_of (me_of c.args.self.now.context.me) names c.args.room.now) c.args.depth c.args.self.now.left))
+
+pub enter_storing_with-returns-clause-kept : goal.enter_storing_with-returns-clause-kept
+enter_storing_with-returns-clause-kept g m c = λ i q.
+    c.enter_storing.ensures.kept i q ∙ get_set c.args.room.now c.args.self.now.base i c.args.arg (λ z. omega (arith, z, q))
+
+pub enter_storing_with-returns-clause-came : goal.enter_storing_with-returns-clause-came
+enter_storing_with-returns-clause-came g m c = λ S start k names st e right le long a.
+    let base = c.args.self.now.base in
+    let room = c.args.room.now in
+    let me = me_of c.args.self.now.context.me in
+    let within : base < length room = omega (arith, c.if-self-room.false) in
+    let scope : bound names (map plain (slice_set room base c.args.arg)) ≡ bound names (map plain room) = room_beyond names room base c.args.arg le in
+    let f = c.enter_storing.ensures.came S start k names st e right le (omega (arith, within, len_set room base c.args.arg)) in
+    f (placed (erase_method c.args.target.method.now) (me_of (Some c.args.target.object)) c.args.at k _ _ me names base room c.args.arg le within a)
+
+pub invoke-returns-in-Some-entered_reader-clause-came : goal.invoke-returns-in-Some-entered_reader-clause-came
+invoke-returns-in-Some-entered_reader-clause-came g m c = λ S start k names st e number le long a.
     let t = c.in-Some.ensures.some in
     let args = map plain (take c.args.count (drop c.args.self.now.base c.args.room.now)) in
-    c.enter.ensures.came S start k names st e (t.right S st) le long
+    let r = c.in-Some-entered_reader.ensures in
+    let none : args ≡ [] = ap (λ n. map plain (take n (drop c.args.self.now.base c.args.room.now))) r.count in
+    r.came S start k (scope_of (me_of c.args.self.now.context.me) names c.args.room.now) c.args.at (t.right S st)
+    (same a (by_receiver S (plain c.args.receiver.now) (me_of (Some c.in-Some.target.object)) (text_of S c.args.name) (erase_method c.in-Some.target.method.now) args c.args.at k _ _ _ (t.finds S st) t.me
+    ∙ ap (λ xs. enter S (erase_method c.in-Some.target.method.now) (me_of (Some c.in-Some.target.object)) xs c.args.at k (scope_of (me_of c.args.self.now.context.me) names c.args.room.now) c.args.depth c.args.self.now.left) none))
+
+pub invoke-returns-in-None-entered_reader-clause-came : goal.invoke-returns-in-None-entered_reader-clause-came
+invoke-returns-in-None-entered_reader-clause-came g m c = λ S start k names st e number le long a.
+    let t = c.in-Some.ensures.some in
+    let args = map plain (take c.args.count (drop c.args.self.now.base c.args.room.now)) in
+    let f = rw (c.entered_reader.ensures.none c.in-None-entered_reader.is) at c.enter.ensures.came in
+    f S start k names st e (t.right S st) le long
     (same a (by_receiver S (plain c.args.receiver.now) (me_of (Some c.in-Some.target.object)) (text_of S c.args.name) (erase_method c.in-Some.target.method.now) args c.args.at k _ _ _ (t.finds S st) t.me))
 
-pub invoke-returns-in-Some-clause-kept : goal.invoke-returns-in-Some-clause-kept
-invoke-returns-in-Some-clause-kept g m c = c.enter.ensures.kept
+pub invoke-returns-in-None-entered_reader-clause-kept : goal.invoke-returns-in-None-entered_reader-clause-kept
+invoke-returns-in-None-entered_reader-clause-kept g m c = rw (c.entered_reader.ensures.none c.in-None-entered_reader.is) at c.enter.ensures.kept
 
 pub invoke-returns-in-None-clause-came : goal.invoke-returns-in-None-clause-came
 invoke-returns-in-None-clause-came g m c = λ S start k names st e number le long a.
@@ -2470,21 +2644,21 @@ store_with-returns-in_default-clause-came g m c = λ S start k names st e right 
     rw (o.left, o.store) (cut S _ start _ _ _ k _ _ _ _ o.gives a (enter_left S (erase_method c.args.target.method.now) (me_of (Some c.args.target.object)) (map plain (take c.args.count (drop c.args.self.now.base c.args.room.now))) c.args.at _ (scope_of (me_of c.args.self.now.context.me) names c.args.room.now) c.args.depth c.args.self.now.left))
 
 pub store_with-returns-then-is_left-clause-kept : goal.store_with-returns-then-is_left-clause-kept
-store_with-returns-then-is_left-clause-kept g m c = c.enter-came.ensures.kept
+store_with-returns-then-is_left-clause-kept g m c = c.enter_storing-came.ensures.kept
 
 pub store_with-returns-then-is_left-clause-came : goal.store_with-returns-then-is_left-clause-came
 store_with-returns-then-is_left-clause-came g m c = λ S start k names st e right le long a.
-    let y = c.enter-came in
+    let y = c.enter_storing-came in
     let step = Instead (last_value S (map plain (take c.args.count (drop c.args.self.now.base c.args.room.now)))) in
     let come = y.ensures.came S start (Then step ∷ k) names st e right le long a in
     passes S _ start _ y.result y.new.self.value y.new.self.leave _ step k _ _ _ (sym c.is_left.ensures ∙ c.if-is_left.true) come
 
 pub store_with-returns-clause-kept : goal.store_with-returns-clause-kept
-store_with-returns-clause-kept g m c = c.enter-came.ensures.kept
+store_with-returns-clause-kept g m c = c.enter_storing-came.ensures.kept
 
 pub store_with-returns-clause-came : goal.store_with-returns-clause-came
 store_with-returns-clause-came g m c = λ S start k names st e right le long a.
-    let y = c.enter-came in
+    let y = c.enter_storing-came in
     let values = map plain (take c.args.count (drop c.args.self.now.base c.args.room.now)) in
     let step = Instead (last_value S values) in
     let come = y.ensures.came S start (Then step ∷ k) names st e right le long a in
@@ -2502,7 +2676,7 @@ write_member-returns-in_default-clause-came g m c = λ name S start k names st e
     rw (o.gives, o.left, o.store) (same a (no_such S receiver (text_of S name ++ codes "=") (v ∷ []) None c.args.at (Then (Instead v) ∷ k) _ _ _ (writer_none script S st receiver c.args.writer name writes (c.writer_of.ensures.none c.in_default.is)) free))
 
 pub write_member-returns-then-is_left-clause-kept : goal.write_member-returns-then-is_left-clause-kept
-write_member-returns-then-is_left-clause-kept g m c = λ i q. c.enter_with-came.ensures.kept i (omega (arith, q, c.take-value.ensures.base))
+write_member-returns-then-is_left-clause-kept g m c = λ i q. c.enter_storing_with-came.ensures.kept i (omega (arith, q, c.take-value.ensures.base))
 
 pub write_member-returns-then-is_left-clause-came : goal.write_member-returns-then-is_left-clause-came
 write_member-returns-then-is_left-clause-came g m c = λ name S start k names st e writes free le bound_ a.
@@ -2510,7 +2684,7 @@ write_member-returns-then-is_left-clause-came g m c = λ name S start k names st
     let v = value_of c.args.came c.args.self.now.value in
     let receiver = plain c.args.receiver.now in
     let t = c.take-value in
-    let y = c.enter_with-came in
+    let y = c.enter_storing_with-came in
     let meth = c.in-Some.target.method.now in
     let to = me_of (Some c.in-Some.target.object) in
     let is = c.in-Some.ensures.some in
@@ -2521,7 +2695,7 @@ write_member-returns-then-is_left-clause-came g m c = λ name S start k names st
     passes S _ start _ y.result y.new.self.value y.new.self.leave _ (Instead v) k _ _ _ (sym c.is_left.ensures ∙ c.if-is_left.true) come
 
 pub write_member-returns-clause-kept : goal.write_member-returns-clause-kept
-write_member-returns-clause-kept g m c = λ i q. c.enter_with-came.ensures.kept i (omega (arith, q, c.take-value.ensures.base))
+write_member-returns-clause-kept g m c = λ i q. c.enter_storing_with-came.ensures.kept i (omega (arith, q, c.take-value.ensures.base))
 
 pub write_member-returns-clause-came : goal.write_member-returns-clause-came
 write_member-returns-clause-came g m c = λ name S start k names st e writes free le bound_ a.
@@ -2529,7 +2703,7 @@ write_member-returns-clause-came g m c = λ name S start k names st e writes fre
     let v = value_of c.args.came c.args.self.now.value in
     let receiver = plain c.args.receiver.now in
     let t = c.take-value in
-    let y = c.enter_with-came in
+    let y = c.enter_storing_with-came in
     let meth = c.in-Some.target.method.now in
     let to = me_of (Some c.in-Some.target.object) in
     let is = c.in-Some.ensures.some in
@@ -2818,16 +2992,16 @@ begin_new-returns-in-New-clause-came g m c = λ S start k names size st e l a.
 
 pub set_field-returns-then-is_left-clause-came : goal.set_field-returns-then-is_left-clause-came
 set_field-returns-then-is_left-clause-came g m c = λ step is S start k names size st e l a.
-    let w = c.evaluate-came in
+    let w = c.evaluate_leaf-came in
     let come = w.ensures.came S start (Then step ∷ k) names size st e l a in
     passes S _ start _ w.result w.new.self.value w.new.self.leave _ step k _ _ _ (sym c.is_left.ensures ∙ c.if-is_left.true) come
 
 pub set_field-returns-clause-kept : goal.set_field-returns-clause-kept
-set_field-returns-clause-kept g m c = λ S names size st e l i p q. c.evaluate-came.ensures.kept S names size st e l i p q
+set_field-returns-clause-kept g m c = λ S names size st e l i p q. c.evaluate_leaf-came.ensures.kept S names size st e l i p q
 
 pub set_field-returns-clause-came : goal.set_field-returns-clause-came
 set_field-returns-clause-came g m c = λ step is S start k names size st e l a.
-    let w = c.evaluate-came in
+    let w = c.evaluate_leaf-came in
     let come = w.ensures.came S start (Then step ∷ k) names size st e l a in
     let g1 = given w.result w.new.self.value w.new.self.leave (sym c.is_left.ensures ∙ c.if-is_left.false) come in
     let f = rw w.ensures.context at c.write_field.ensures.came in

@@ -44,7 +44,7 @@ abbrev pub decreases-send : goal.decreases-send
 decreases-send g l = 24 * (1001 - l.depth) + 7
 
 abbrev pub decreases-store_by : goal.decreases-store_by
-decreases-store_by g l = 24 * (1001 - l.depth) + 7
+decreases-store_by g l = 24 * (1001 - l.depth) + 8
 
 abbrev pub decreases-send_block : goal.decreases-send_block
 decreases-send_block g l = 24 * (1001 - l.depth) + 8
@@ -119,7 +119,7 @@ abbrev pub decreases-combine : goal.decreases-combine
 decreases-combine g l = 24 * (1001 - l.depth) + 6
 
 abbrev pub decreases-update_attribute : goal.decreases-update_attribute
-decreases-update_attribute g l = 24 * (1001 - l.depth) + 10
+decreases-update_attribute g l = 24 * (1001 - l.depth) + 11
 
 abbrev pub decreases-arguments : goal.decreases-arguments
 decreases-arguments g l = 24 * (1001 - l.depth) + 5
@@ -170,7 +170,7 @@ abbrev pub decreases-begin_slow_operate : goal.decreases-begin_slow_operate
 decreases-begin_slow_operate g l = 24 * (1001 - l.depth) + 12
 
 abbrev pub decreases-begin_send : goal.decreases-begin_send
-decreases-begin_send g l = 24 * (1001 - l.depth) + 10
+decreases-begin_send g l = 24 * (1001 - l.depth) + 11
 
 abbrev pub decreases-begin_function : goal.decreases-begin_function
 decreases-begin_function g l = 24 * (1001 - l.depth) + 8
@@ -193,11 +193,17 @@ decreases-operate_target g l = 24 * (1001 - l.depth) + 6
 abbrev pub decreases-begin_update_over : goal.decreases-begin_update_over
 decreases-begin_update_over g l = 24 * (1001 - l.depth) + 13
 
+abbrev pub decreases-begin_update_sent : goal.decreases-begin_update_sent
+decreases-begin_update_sent g l = 24 * (1001 - l.depth) + 13
+
 abbrev pub decreases-evaluate_operand : goal.decreases-evaluate_operand
 decreases-evaluate_operand g l = 24 * (1001 - l.depth) + 2
 
+abbrev pub decreases-evaluate_sent : goal.decreases-evaluate_sent
+decreases-evaluate_sent g l = 24 * (1001 - l.depth) + 2
+
 abbrev pub decreases-begin_operand : goal.decreases-begin_operand
-decreases-begin_operand g l = 24 * (1001 - l.depth) + 11
+decreases-begin_operand g l = 24 * (1001 - l.depth) + 12
 
 abbrev pub decreases-begin_other : goal.decreases-begin_other
 decreases-begin_other g l = 24 * (1001 - l.depth) + 16
@@ -211,17 +217,32 @@ decreases-operate_value g l = 24 * (1001 - l.depth) + 7
 abbrev pub decreases-combine_integer : goal.decreases-combine_integer
 decreases-combine_integer g l = 24 * (1001 - l.depth) + 5
 
+abbrev pub decreases-combine_sent : goal.decreases-combine_sent
+decreases-combine_sent g l = 24 * (1001 - l.depth) + 5
+
 abbrev pub decreases-combine_value : goal.decreases-combine_value
 decreases-combine_value g l = 24 * (1001 - l.depth) + 5
 
 abbrev pub decreases-evaluate : goal.decreases-evaluate
 decreases-evaluate g l = 24 * (1001 - l.depth) + 4
 
+abbrev pub decreases-evaluate_leaf : goal.decreases-evaluate_leaf
+decreases-evaluate_leaf g l = 24 * (1001 - l.depth) + 5
+
+abbrev pub decreases-evaluate_apart : goal.decreases-evaluate_apart
+decreases-evaluate_apart g l = 24 * (1001 - l.depth) + 4
+
 abbrev pub decreases-enter : goal.decreases-enter
 decreases-enter g l = 24 * (1001 - l.depth) + 5
 
+abbrev pub decreases-enter_storing : goal.decreases-enter_storing
+decreases-enter_storing g l = 24 * (1001 - l.depth) + 6
+
 abbrev pub decreases-enter_with : goal.decreases-enter_with
 decreases-enter_with g l = 24 * (1001 - l.depth) + 6
+
+abbrev pub decreases-enter_storing_with : goal.decreases-enter_storing_with
+decreases-enter_storing_with g l = 24 * (1001 - l.depth) + 7
 
 abbrev pub decreases-invoke : goal.decreases-invoke
 decreases-invoke g l = 24 * (1001 - l.depth) + 6
@@ -230,13 +251,13 @@ abbrev pub decreases-own : goal.decreases-own
 decreases-own g l = 24 * (1001 - l.depth) + 6
 
 abbrev pub decreases-store_with : goal.decreases-store_with
-decreases-store_with g l = 24 * (1001 - l.depth) + 6
+decreases-store_with g l = 24 * (1001 - l.depth) + 7
 
 abbrev pub decreases-begin_print : goal.decreases-begin_print
 decreases-begin_print g l = 24 * (1001 - l.depth) + 15
 
 abbrev pub decreases-set_field : goal.decreases-set_field
-decreases-set_field g l = 24 * (1001 - l.depth) + 5
+decreases-set_field g l = 24 * (1001 - l.depth) + 6
 
 abbrev pub decreases-update_field : goal.decreases-update_field
 decreases-update_field g l = 24 * (1001 - l.depth) + 7
@@ -248,13 +269,13 @@ abbrev pub decreases-create : goal.decreases-create
 decreases-create g l = 24 * (1001 - l.depth) + 7
 
 abbrev pub decreases-write_member : goal.decreases-write_member
-decreases-write_member g l = 24 * (1001 - l.depth) + 7
+decreases-write_member g l = 24 * (1001 - l.depth) + 8
 
 abbrev pub decreases-set_member : goal.decreases-set_member
-decreases-set_member g l = 24 * (1001 - l.depth) + 8
+decreases-set_member g l = 24 * (1001 - l.depth) + 9
 
 abbrev pub decreases-update_member : goal.decreases-update_member
-decreases-update_member g l = 24 * (1001 - l.depth) + 9
+decreases-update_member g l = 24 * (1001 - l.depth) + 10
 
 abbrev pub decreases-begin_own : goal.decreases-begin_own
 decreases-begin_own g l = 24 * (1001 - l.depth) + 7
@@ -400,7 +421,7 @@ abbrev pub decreases-operate_collection : goal.decreases-operate_collection
 decreases-operate_collection g l = 24 * (1001 - l.depth) + 6
 
 abbrev pub decreases-begin_store : goal.decreases-begin_store
-decreases-begin_store g l = 24 * (1001 - l.depth) + 8
+decreases-begin_store g l = 24 * (1001 - l.depth) + 9
 
 abbrev pub decreases-statement : goal.decreases-statement
 decreases-statement g l = 24 * (1001 - l.depth) + 2
@@ -424,7 +445,10 @@ abbrev pub decreases-begin_slow_send : goal.decreases-begin_slow_send
 decreases-begin_slow_send g l = 24 * (1001 - l.depth) + 8
 
 abbrev pub decreases-begin_read : goal.decreases-begin_read
-decreases-begin_read g l = 24 * (1001 - l.depth) + 9
+decreases-begin_read g l = 24 * (1001 - l.depth) + 10
+
+abbrev pub decreases-read_attribute : goal.decreases-read_attribute
+decreases-read_attribute g l = 24 * (1001 - l.depth) + 9
 
 abbrev pub decreases-passage : goal.decreases-passage
 decreases-passage g l = 24 * (1001 - l.depth) + 4

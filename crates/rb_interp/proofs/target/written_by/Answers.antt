@@ -1,0 +1,23 @@
+use Rattle.std.proofs.Common.{◌≡◌, ◌<◌, ◌≤◌, List, [], ◌∷◌, length, refl, sym, ap, ◌∙◌, arith}
+use Rattle.std.specs.Prelude.{slice_index_or}
+use Rattle.rb_code.specs.declared.code.Code.{Code}
+use Rattle.rb_code.specs.declared.code.Code.TheVariants as code
+use Rattle.rb_interp.proofs.target.written_by.Goals as goal
+
+-- a list of one is its first
+single : (xs ys : List Code) (x : Code) → ys ≡ xs → 1 ≤ length ys → length ys < 2 → x ≡ slice_index_or ys 0 x → xs ≡ x ∷ []
+single xs [] x e p q f = absurd (omega (arith, p))
+single xs (y ∷ []) x e p q f = sym e ∙ ap (λ c. c ∷ []) (sym f)
+single xs (y ∷ z ∷ zs) x e p q f = absurd (omega (arith, q))
+
+pub returns : goal.returns
+returns c =
+    let x = c.in-SetField in
+    let y = c.in-Local in
+    let value : x.value ≡ code.Local 0 y.field-1 y.field-2 = sym c.get.ensures ∙ (y.is ∙ ap (λ n. code.Local n y.field-1 y.field-2) c.if-slot-ne0.false) in
+    record {
+      params = sym c.len.ensures ∙ c.if-len-ne1.false;
+      name = y.field-1;
+      from = y.field-2;
+      body = single _ _ _ c.as_slice.ensures c.in-len1.len_at_least c.in-len1.len_below c.only-item.is ∙ ap (λ c. c ∷ []) (x.is ∙ ap (λ v. code.SetField x.field v x.at) value);
+    }
