@@ -1,4 +1,4 @@
-"""Times scripts of one kind of work each by several hosts, and prints ratios of processor time and the memory of each run.
+"""Times scripts of one kind of work each by several hosts, and prints ratios of processor time and of memory, and the memory of each run.
 
 The time of a host is the least user time of a few runs, since other work on the machine only adds to it. Each host must print what the
 first other host prints. It needs GNU time. Usage: walk.py [--runs N] PROGRAM [WORD..], where PROGRAM and the words run a script that is named behind them.
@@ -38,20 +38,22 @@ def mean(ratios):
 def compare(folder, words, runs, others):
     """Times the scripts of a folder, and prints a line for each and the means."""
     ratios = {name: [] for name in others}
+    shares = {name: [] for name in others}
     print(f"{folder:20}{'ours':>8}" + "".join(f"{name:>8}{'ratio':>7}" for name in others) + "   KiB")
     for script in sorted(os.listdir(os.path.join(HERE, folder))):
         path = os.path.join(HERE, folder, script)
-        ours, room, text = least([*words, path], runs)
-        line, rooms, same = f"{script:20}{ours:8.2f}", [room], True
+        ours, ours_room, text = least([*words, path], runs)
+        line, rooms, same = f"{script:20}{ours:8.2f}", [ours_room], True
         for name in others:
             seconds, room, wanted = least([name, path], runs)
             ratios[name].append(ours / seconds)
+            shares[name].append(ours_room / room)
             line += f"{seconds:8.2f}{ours / seconds:7.2f}"
             rooms.append(room)
             same = same and text == wanted
         print(line + "   " + " ".join(f"{it:,}" for it in rooms) + ("" if same else "   OTHER OUTPUT"), flush=True)
     for name in others:
-        print(f"geometric mean, of the time of {name}: {mean(ratios[name]):.2f}")
+        print(f"geometric mean, of the time of {name}: {mean(ratios[name]):.2f}, of its memory: {mean(shares[name]):.2f}")
 
 
 def main():

@@ -5,7 +5,7 @@ use Rattle.rb_tree.specs.declared.span.Span.{Span}
 use Rattle.rb_tree.specs.declared.span.NameId.{NameId}
 use Rattle.rb_tree.specs.declared.node.AssignOp.{AssignOp}
 use Rattle.rb_tree.specs.declared.node.AssignOp.TheVariants as op
-use Rattle.rb_model.specs.Values.{Value as Val, Nil, Int, To, plain}
+use Rattle.rb_model.specs.Values.{Value as Val, Nil, Int, To, plain, truthy}
 use Rattle.rb_model.specs.declared.value.Value.{Value as Held}
 use Rattle.rb_model.specs.declared.value.Value.TheVariants as held
 use Rattle.rb_model.specs.declared.fault.Fault.TheVariants.{ArgumentCount}
@@ -27,7 +27,8 @@ use Rattle.rb_code.specs.declared.code.CodePiece.{CodePiece}
 use Rattle.rb_code.specs.declared.code.CodePiece.TheVariants as part
 use Rattle.rb_code.specs.Erase.{erase}
 use Rattle.rb_code.specs.Resolved.{fits}
-use Rattle.rb_interp.specs.Outcome.{Outcome, Gave, Over, Came}
+use Rattle.rb_interp.specs.declared.came.Came.{Came as Registers}
+use Rattle.rb_interp.specs.Outcome.{Outcome, Gave, Over, Came, value_of}
 use Rattle.rb_interp.specs.Carries.{scope_of}
 
 -- whether a value is a reference to a thing
@@ -63,6 +64,10 @@ IsHeld code room v =
     (S : Script) (N : ℕ) (names : List NameId) (size depth left : ℕ) (start : State) (h : Private) (log : Log) (k : List Cont) (me : Val)
     → fits S code names size ≡ true → length names ≤ length room → 0 < left → depth < 1000
     → At S 0 N start log h (On (Eval (erase code)) k (scope_of me names room) depth left) → At S 0 N start log h (On (Give v) k (scope_of me names room) depth (left - 1))
+
+-- What came of a leaf is true exactly where its value is.
+abbrev pub IsTested : Code → List Held → Registers → Type 0
+IsTested code room came = (v : Val) × IsHeld code room v × ((w : Held) → truthy (value_of came w) ≡ truthy v)
 
 -- and this integer
 abbrev pub IsSmall : Code → List Held → ℤ → Type 0

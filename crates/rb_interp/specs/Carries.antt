@@ -4,7 +4,7 @@ use Rattle.std.specs.Prelude.{◌≡◌, ◌≤◌, ◌<◌, ℕ, Bool, true, fa
 use Rattle.std.specs.Str.{bytes_eq}
 use Rattle.rb_tree.specs.declared.span.Span.{Span}
 use Rattle.rb_tree.specs.declared.span.NameId.{NameId}
-use Rattle.rb_model.specs.Values.{Value as Val, Nil, plain}
+use Rattle.rb_model.specs.Values.{Value as Val, Nil, plain, truthy}
 use Rattle.rb_model.specs.declared.value.Ref.{Ref}
 use Rattle.rb_model.specs.declared.value.Value.{Value as Held}
 use Rattle.rb_model.specs.declared.value.Value.TheVariants as held
@@ -26,7 +26,7 @@ use Rattle.rb_code.specs.Erase.{erase}
 use Rattle.rb_code.specs.Resolved.{Fits, every, fits, has_number, is_free, is_made, is_builtin, function_of, form_text, prints}
 use Rattle.rb_code.specs.Stands.{StandsFor}
 use Rattle.rb_interp.specs.declared.came.Came.{Came as Registers}
-use Rattle.rb_interp.specs.Outcome.{Outcome, Gave, Left, Came, is_left}
+use Rattle.rb_interp.specs.Outcome.{Outcome, Gave, Left, Came, is_left, value_of}
 
 -- code that is right for these names lies in a frame of this size, which ends at the base of what is free
 pub record Lies (code : Fits) (names : List NameId) (size base end : ℕ) : Type 0 where
@@ -65,6 +65,11 @@ both a b S names size = a S names size && b S names size
 -- What comes of a statement whose value no one reads: either it is left, or it gives some value.
 abbrev pub Unread : Registers → Outcome → (Outcome → Type 0) → Type 0
 Unread r o comes = (is_left r ≡ true → comes o) × (is_left r ≡ false → (v : Val) × comes (Gave v))
+
+-- What comes of a condition, of which no one reads more than whether it is true: either it is left, or it gives some value that is true
+-- exactly where what came is.
+abbrev pub Tested : Registers → Held → Outcome → (Outcome → Type 0) → Type 0
+Tested r held o comes = (is_left r ≡ true → comes o) × (is_left r ≡ false → (v : Val) × (truthy v ≡ truthy (value_of r held)) × comes (Gave v))
 
 -- whether a loop goes on behind its condition or its body
 abbrev pub goes_on : Outcome → Bool

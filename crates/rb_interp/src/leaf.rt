@@ -1,7 +1,7 @@
 // Leaves, and operations on integers, which call nothing of the walk.
 
 ghost use Rattle.rb_tree.specs.declared.node.Program.{Program};
-ghost use Rattle.std.specs.Prelude.{◌≡◌, ◌≢◌, ◌≤◌, ℕ, List, [], ◌∷◌, length, map, slice_get, Some, None, IfSome, true, false};
+ghost use Rattle.std.specs.Prelude.{◌≡◌, ◌≢◌, ◌<◌, ◌≤◌, ℕ, List, [], ◌∷◌, length, map, slice_get, Some, None, IfSome, true, false};
 ghost use Rattle.rb_tree.specs.declared.node.Node.{out-Node};
 ghost use Rattle.rb_tree.specs.Place.{place};
 ghost use Rattle.rb_model.specs.Values.{Int, Str, plain, truthy};
@@ -14,9 +14,12 @@ ghost use Rattle.rb_builtin.specs.declared.integer.IntegerAnswer.TheVariants as 
 ghost use Rattle.rb_builtin.specs.Deeds.{answer_by_number};
 ghost use Rattle.rb_builtin.specs.Integers as integers;
 ghost use Rattle.rb_code.specs.Erase.{erase};
-ghost use Rattle.rb_interp.specs.Answers.{IsComputed, IsHeld, IsHeldAlone, IsMade, IsSmall, IsQuick, IsTwice, IsUpdated, IsUpdatedOver, IsWritten, is_thing, method_of, steps_of};
+ghost use Rattle.rb_interp.specs.Outcome.{is_left, value_of};
+ghost use Rattle.rb_interp.specs.Answers.{IsComputed, IsHeld, IsHeldAlone, IsTested, IsMade, IsSmall, IsQuick, IsTwice, IsUpdated, IsUpdatedOver, IsWritten, is_thing, method_of, steps_of};
 
+use crate::came::Came;
 use crate::slots::put;
+use crate::walker::MAX_DEPTH;
 use rb_builtin::{Builtin, IntegerAnswer, integer_operation, is_operation};
 use rb_code::{Code, CodePiece};
 use rb_model::{Ref, SharedText, Sort, Value};
@@ -31,6 +34,34 @@ pub(crate) fn is_true(value: &Value) -> bool
         Value::Nil | Value::False => false,
         _ => true,
     }
+}
+
+/// Whether a value is true, as what came.
+#[inline(always)]
+fn truth_of(value: &Value) -> Came
+    ensures left { is_left result ≡ false }
+    ensures truth { (held : Held) → truthy (value_of result held) ≡ truthy (plain value.now) }
+{
+    if is_true(value) {
+        Came::True
+    } else {
+        Came::False
+    }
+}
+
+/// Whether the value of a local is true, as what came, where a step is left for it and it does not stand too deep.
+#[inline(always)]
+pub(crate) fn tested(code: &Code, room: &[Value], left: u64, depth: u32) -> Option<Came>
+    ensures more { IfSome result (λ _. 0 < left) }
+    ensures deep { IfSome result (λ _. depth < 1000) }
+    ensures told { IfSome result (λ came. is_left came ≡ false) }
+    ensures held { IfSome result (λ came. IsTested code.now room.now came) }
+{
+    let value = local_at(code, room)?;
+    if left == 0 || depth >= MAX_DEPTH {
+        return None;
+    }
+    Some(truth_of(value))
 }
 
 /// Where a node stands.

@@ -43,7 +43,7 @@ use rb_tree::Program;
 use std::alloc::Global;
 
 /// How many nodes may be under evaluation at once.
-const MAX_DEPTH: u32 = 1000;
+pub(crate) const MAX_DEPTH: u32 = 1000;
 
 /// What a walk runs.
 #[derive(Clone, Copy)]

@@ -10,10 +10,11 @@ ghost use Rattle.rb_machine.specs.Begin.{begin_return};
 ghost use Rattle.rb_code.specs.Erase.{erase};
 ghost use Rattle.rb_code.specs.Resolved.{fits, every, if_some};
 ghost use Rattle.rb_interp.specs.Outcome.{is_left, outcome, Over};
-ghost use Rattle.rb_interp.specs.Carries.{Carries, Keeps, Unread, at_slot, both, goes_on, loop_exit, call_exit, me_of};
+ghost use Rattle.rb_interp.specs.Carries.{Carries, Keeps, Tested, Unread, at_slot, both, goes_on, loop_exit, call_exit, me_of};
 
 use super::{MAX_DEPTH, Walker};
 use crate::came::{Came, Cut, Leave, is_left};
+use crate::leaf::tested;
 use rb_code::Code;
 use rb_model::{ThreadStore, Value};
 use rb_tree::Boxed;
@@ -105,6 +106,28 @@ impl<'p, O: ThreadStore + Drop> Walker<'p, O> {
         }
     }
 
+    /// Evaluates a condition, of which no one reads more than whether it is true. Of a local nothing is copied.
+    #[cycle(walk)]
+    #[inline(always)]
+    fn test(&mut self, code: &'p Code, depth: u32, room: &mut [Value]) -> Came
+        requires unended { has_end (O.log self.old.store).entries ≡ false }
+        requires steps { self.old.left ≤ self.old.context.steps }
+        ensures counted { goes_on (outcome result self.new.value self.new.leave) ≡ true → self.new.left < self.old.left }
+        ensures base { self.new.base ≡ self.old.base }
+        ensures context { self.new.context ≡ self.old.context }
+        ensures room { length room.new ≡ length room.old }
+        ensures less { self.new.left ≤ self.old.left }
+        ensures unended { has_end (O.log self.new.store).entries ≡ false }
+        ensures kept { Keeps self.old.context.script.now self.old.context.program.now (λ S. fits S code.now) self.old.base room.old room.new }
+        ensures came { Tested result self.new.value (outcome result self.new.value self.new.leave) (Carries self.old.context.script.now self.old.context.program.now self.old.context.steps (me_of self.old.context.me) (λ S. fits S code.now) (λ S k sc d n. On (Eval (erase code.now)) k sc d n) self.old.base depth self.old.left self.new.left room.old room.new (O.log self.old.store) (O.log self.new.store) (O.private self.old.store) (O.private self.new.store)) }
+    {
+        if let Some(truth) = tested(code, room, self.left, depth) {
+            self.left -= 1;
+            return truth;
+        }
+        self.evaluate_call(code, depth, room)
+    }
+
     /// A choice between two bodies.
     #[cycle(walk)]
     #[inline(always)]
@@ -126,7 +149,7 @@ impl<'p, O: ThreadStore + Drop> Walker<'p, O> {
         ensures kept { Keeps self.old.context.script.now self.old.context.program.now (both (λ S. fits S condition.now) (both (λ S. every (map (fits S) first.now)) (λ S. every (map (fits S) second.now)))) self.old.base room.old room.new }
         ensures came { Carries self.old.context.script.now self.old.context.program.now self.old.context.steps (me_of self.old.context.me) (both (λ S. fits S condition.now) (both (λ S. every (map (fits S) first.now)) (λ S. every (map (fits S) second.now)))) (λ S k sc d n. On (Eval (erase condition.now)) (Then (Choose (map erase first.now) (map erase second.now)) ∷ k) sc d n) self.old.base depth self.old.left self.new.left room.old room.new (O.log self.old.store) (O.log self.new.store) (O.private self.old.store) (O.private self.new.store) (outcome result self.new.value self.new.leave) }
     {
-        let came = self.evaluate_call(condition, depth, room);
+        let came = self.test(condition, depth, room);
         if is_left(came) {
             return came;
         }
@@ -257,7 +280,7 @@ impl<'p, O: ThreadStore + Drop> Walker<'p, O> {
         ensures came { Carries self.old.context.script.now self.old.context.program.now self.old.context.steps (me_of self.old.context.me) (both (λ S. fits S condition.now) (λ S. every (map (fits S) body.now))) (λ S k sc d n. On (Looping (erase condition.now) (map erase body.now)) k sc d n) self.old.base depth self.old.left self.new.left room.old room.new (O.log self.old.store) (O.log self.new.store) (O.private self.old.store) (O.private self.new.store) (outcome result self.new.value self.new.leave) }
     {
         'turns: loop {
-            let came = self.evaluate_call(condition, depth, room);
+            let came = self.test(condition, depth, room);
             if is_left(came) {
                 if !self.goes_on(came) {
                     return self.out_of_loop(came);

@@ -272,48 +272,62 @@ negate-returns-else-is_true_now-clause-came g m c = λ S start k names size st e
     let t = sym (c.is_true_now.ensures none) in
     negated false (t ∙ c.if-is_true_now.false) g
 
+pub test-returns-in-Some-clause-came : goal.test-returns-in-Some-clause-came
+test-returns-in-Some-clause-came g m c =
+    let r = c.in-Some.ensures in
+    let none = r.told in
+    (λ left. absurd (cc), λ told. (r.held.0, sym (r.held.2 _), λ S start k names size st e l a. r.held.1 S _ names size c.args.depth c.args.self.now.left start _ _ k _ l.fits (omega (arith, l.within, l.below, l.room)) r.more r.deep a))
+
+pub test-returns-clause-kept : goal.test-returns-clause-kept
+test-returns-clause-kept g m c = c.evaluate_call.ensures.kept
+
+pub test-returns-clause-came : goal.test-returns-clause-came
+test-returns-clause-came g m c =
+    let w = c.evaluate_call in
+    (λ left. w.ensures.came, λ none. (value_of w.result w.new.self.value, refl, λ S start k names size st e l a. given w.result w.new.self.value w.new.self.leave none (w.ensures.came S start k names size st e l a)))
+
 pub choose-returns-then-is_left-clause-came : goal.choose-returns-then-is_left-clause-came
 choose-returns-then-is_left-clause-came g m c = λ S start k names size st e l a.
-    let w = c.evaluate_call-came in
-    let came = w.ensures.came S start (Then (Choose (map erase c.args.first.now) (map erase c.args.second.now)) ∷ k) names size st e (sub (fits S c.args.condition.now) l (fst _ _ l.fits)) a in
+    let w = c.test-came in
+    let came = w.ensures.came.0 (sym c.is_left.ensures ∙ c.if-is_left.true) S start (Then (Choose (map erase c.args.first.now) (map erase c.args.second.now)) ∷ k) names size st e (sub (fits S c.args.condition.now) l (fst _ _ l.fits)) a in
     passes S _ start _ w.result w.new.self.value w.new.self.leave _ (Choose (map erase c.args.first.now) (map erase c.args.second.now)) k _ _ _ (sym c.is_left.ensures ∙ c.if-is_left.true) came
 
 pub choose-returns-then-is_left-clause-kept : goal.choose-returns-then-is_left-clause-kept
 choose-returns-then-is_left-clause-kept g m c = λ S names size st e l i p q.
-    c.evaluate_call-came.ensures.kept S names size st e (sub (fits S c.args.condition.now) l (fst _ _ l.fits)) i p q
+    c.test-came.ensures.kept S names size st e (sub (fits S c.args.condition.now) l (fst _ _ l.fits)) i p q
 
 pub choose-returns-then-is_true_now-clause-came : goal.choose-returns-then-is_true_now-clause-came
 choose-returns-then-is_true_now-clause-came g m c = λ S start k names size st e l a.
-    let w = c.evaluate_call-came in
-    let came = w.ensures.came S start (Then (Choose (map erase c.args.first.now) (map erase c.args.second.now)) ∷ k) names size st e (sub (fits S c.args.condition.now) l (fst _ _ l.fits)) a in
+    let w = c.test-came in
     let none = sym c.is_left.ensures ∙ c.if-is_left.false in
-    let g = given w.result w.new.self.value w.new.self.leave none came in
-    let t = sym (c.is_true_now.ensures none) in
+    let some = w.ensures.came.1 none in
+    let g = some.2 S start (Then (Choose (map erase c.args.first.now) (map erase c.args.second.now)) ∷ k) names size st e (sub (fits S c.args.condition.now) l (fst _ _ l.fits)) a in
+    let t = some.1 ∙ sym (c.is_true_now.ensures none) in
     let under = moved _ _ w.ensures.base w.ensures.room (sub (every (map (fits S) c.args.first.now)) l (fst _ _ (snd _ _ l.fits))) in
     let f = rw w.ensures.context at c.body.ensures.came in
     f S start k names size st e under (chosen_first (t ∙ c.if-is_true_now.true) g)
 
 pub choose-returns-clause-came : goal.choose-returns-clause-came
 choose-returns-clause-came g m c = λ S start k names size st e l a.
-    let w = c.evaluate_call-came in
-    let came = w.ensures.came S start (Then (Choose (map erase c.args.first.now) (map erase c.args.second.now)) ∷ k) names size st e (sub (fits S c.args.condition.now) l (fst _ _ l.fits)) a in
+    let w = c.test-came in
     let none = sym c.is_left.ensures ∙ c.if-is_left.false in
-    let g = given w.result w.new.self.value w.new.self.leave none came in
-    let t = sym (c.is_true_now.ensures none) in
+    let some = w.ensures.came.1 none in
+    let g = some.2 S start (Then (Choose (map erase c.args.first.now) (map erase c.args.second.now)) ∷ k) names size st e (sub (fits S c.args.condition.now) l (fst _ _ l.fits)) a in
+    let t = some.1 ∙ sym (c.is_true_now.ensures none) in
     let under = moved _ _ w.ensures.base w.ensures.room (sub (every (map (fits S) c.args.second.now)) l (snd _ _ (snd _ _ l.fits))) in
     let f = rw w.ensures.context at c.body-2.ensures.came in
     f S start k names size st e under (chosen_second (t ∙ c.if-is_true_now.false) g)
 
 pub choose-returns-then-is_true_now-clause-kept : goal.choose-returns-then-is_true_now-clause-kept
 choose-returns-then-is_true_now-clause-kept g m c = λ S names size st e l i p q.
-    let w = c.evaluate_call-came in
+    let w = c.test-came in
     let under = moved _ _ w.ensures.base w.ensures.room (sub (every (map (fits S) c.args.first.now)) l (fst _ _ (snd _ _ l.fits))) in
     let f = rw w.ensures.context at c.body.ensures.kept in
     f S names size st e under i p (omega (arith, q, w.ensures.base)) ∙ w.ensures.kept S names size st e (sub (fits S c.args.condition.now) l (fst _ _ l.fits)) i p q
 
 pub choose-returns-clause-kept : goal.choose-returns-clause-kept
 choose-returns-clause-kept g m c = λ S names size st e l i p q.
-    let w = c.evaluate_call-came in
+    let w = c.test-came in
     let under = moved _ _ w.ensures.base w.ensures.room (sub (every (map (fits S) c.args.second.now)) l (snd _ _ (snd _ _ l.fits))) in
     let f = rw w.ensures.context at c.body-2.ensures.kept in
     f S names size st e under i p (omega (arith, q, w.ensures.base)) ∙ w.ensures.kept S names size st e (sub (fits S c.args.condition.now) l (fst _ _ l.fits)) i p q
@@ -667,10 +681,10 @@ set_local-returns-clause-came g m c = λ name step is S start k names size st e 
 pub repeat-returns-then-not-goes_on-clause-came : goal.repeat-returns-then-not-goes_on-clause-came
 repeat-returns-then-not-goes_on-clause-came g m c = λ S start k names size st e l a.
     let inv = c.turns.invariant in
-    let w = c.evaluate_call-came in
+    let w = c.test-came in
     let under = moved _ _ inv.base inv.room (sub (fits S c.args.condition.now) l (fst _ _ l.fits)) in
     let i1 = on _ (inv.came S start k names size st e l a) refl in
-    let f = rw inv.context at w.ensures.came in
+    let f = rw inv.context at (w.ensures.came.0 (sym c.is_left.ensures ∙ c.if-is_left.true)) in
     let e1 = f S start (Test (erase c.args.condition.now) (map erase c.args.body.now) ∷ k) names size st e under i1 in
     let stop = sym c.goes_on.ensures ∙ c.if-not-goes_on.true in
     rw (c.out_of_loop.ensures stop) (tested_out S _ start _ _ _ (erase c.args.condition.now) (map erase c.args.body.now) k _ _ _ stop e1)
@@ -678,27 +692,27 @@ repeat-returns-then-not-goes_on-clause-came g m c = λ S start k names size st e
 pub repeat-returns-then-not-is_true_now-clause-came : goal.repeat-returns-then-not-is_true_now-clause-came
 repeat-returns-then-not-is_true_now-clause-came g m c = λ S start k names size st e l a.
     let inv = c.turns.invariant in
-    let w = c.evaluate_call-came in
+    let w = c.test-came in
     let under = moved _ _ inv.base inv.room (sub (fits S c.args.condition.now) l (fst _ _ l.fits)) in
     let i1 = on _ (inv.came S start k names size st e l a) refl in
-    let f = rw inv.context at w.ensures.came in
-    let e1 = f S start (Test (erase c.args.condition.now) (map erase c.args.body.now) ∷ k) names size st e under i1 in
     let none = sym c.is_left.ensures ∙ c.if-is_left.false in
-    let v = given w.result w.new.self.value w.new.self.leave none e1 in
-    let t = sym (c.is_true_now.ensures none) in
+    let some = w.ensures.came.1 none in
+    let f = rw inv.context at some.2 in
+    let v = f S start (Test (erase c.args.condition.now) (map erase c.args.body.now) ∷ k) names size st e under i1 in
+    let t = some.1 ∙ sym (c.is_true_now.ensures none) in
     test_false (t ∙ c.if-not-is_true_now.true) v
 
 pub repeat-returns-then-not-goes_on-2-clause-came : goal.repeat-returns-then-not-goes_on-2-clause-came
 repeat-returns-then-not-goes_on-2-clause-came g m c = λ S start k names size st e l a.
     let inv = c.turns.invariant in
-    let w = c.evaluate_call-came in
+    let w = c.test-came in
     let under = moved _ _ inv.base inv.room (sub (fits S c.args.condition.now) l (fst _ _ l.fits)) in
     let i1 = on _ (inv.came S start k names size st e l a) refl in
-    let f = rw inv.context at w.ensures.came in
-    let e1 = f S start (Test (erase c.args.condition.now) (map erase c.args.body.now) ∷ k) names size st e under i1 in
     let none = sym c.is_left.ensures ∙ c.if-is_left.false in
-    let v = given w.result w.new.self.value w.new.self.leave none e1 in
-    let t = sym (c.is_true_now.ensures none) in
+    let some = w.ensures.came.1 none in
+    let f = rw inv.context at some.2 in
+    let v = f S start (Test (erase c.args.condition.now) (map erase c.args.body.now) ∷ k) names size st e under i1 in
+    let t = some.1 ∙ sym (c.is_true_now.ensures none) in
     let y = c.passage-came in
     let within = moved _ _ (w.ensures.base ∙ inv.base) (w.ensures.room ∙ inv.room) (sub (every (map (fits S) c.args.body.now)) l (snd _ _ l.fits)) in
     let m1 = test_true (t ∙ c.if-not-is_true_now.false) v in
@@ -709,7 +723,7 @@ repeat-returns-then-not-goes_on-2-clause-came g m c = λ S start k names size st
 
 pub repeat-turns-preserved : goal.repeat-turns-preserved
 repeat-turns-preserved g m c =
-    let w = c.evaluate_call-came.ensures in
+    let w = c.test-came.ensures in
     let old = c.turns.invariant in
     let y = c.passage-came.ensures in
     record {
@@ -720,7 +734,7 @@ repeat-turns-preserved g m c =
       unended = y.unended;
       kept = λ S names size st e l i p q.
           let inv = c.turns.invariant in
-          let w = c.evaluate_call-came in
+          let w = c.test-came in
           let under = moved _ _ inv.base inv.room (sub (fits S c.args.condition.now) l (fst _ _ l.fits)) in
           let y = c.passage-came in
           let within = moved _ _ (w.ensures.base ∙ inv.base) (w.ensures.room ∙ inv.room) (sub (every (map (fits S) c.args.body.now)) l (snd _ _ l.fits)) in
@@ -729,14 +743,14 @@ repeat-turns-preserved g m c =
           j S names size st e within i p (omega (arith, q, w.ensures.base, inv.base)) ∙ (f S names size st e under i p (omega (arith, q, inv.base)) ∙ inv.kept S names size st e l i p q);
       came = λ S start k names size st e l a.
           let inv = c.turns.invariant in
-          let w = c.evaluate_call-came in
+          let w = c.test-came in
           let under = moved _ _ inv.base inv.room (sub (fits S c.args.condition.now) l (fst _ _ l.fits)) in
           let i1 = on _ (inv.came S start k names size st e l a) refl in
-          let f = rw inv.context at w.ensures.came in
-          let e1 = f S start (Test (erase c.args.condition.now) (map erase c.args.body.now) ∷ k) names size st e under i1 in
           let none = sym c.is_left.ensures ∙ c.if-is_left.false in
-          let v = given w.result w.new.self.value w.new.self.leave none e1 in
-          let t = sym (c.is_true_now.ensures none) in
+          let some = w.ensures.came.1 none in
+          let f = rw inv.context at some.2 in
+          let v = f S start (Test (erase c.args.condition.now) (map erase c.args.body.now) ∷ k) names size st e under i1 in
+          let t = some.1 ∙ sym (c.is_true_now.ensures none) in
           let y = c.passage-came in
           let within = moved _ _ (w.ensures.base ∙ inv.base) (w.ensures.room ∙ inv.room) (sub (every (map (fits S) c.args.body.now)) l (snd _ _ l.fits)) in
           let m1 = test_true (t ∙ c.if-not-is_true_now.false) v in
@@ -749,7 +763,7 @@ repeat-turns-preserved g m c =
 
 pub repeat-turns-preserved-then-is_left : goal.repeat-turns-preserved-then-is_left
 repeat-turns-preserved-then-is_left g m c =
-    let w = c.evaluate_call-came.ensures in
+    let w = c.test-came.ensures in
     let old = c.turns.invariant in
     record {
       base = w.base ∙ old.base;
@@ -759,16 +773,16 @@ repeat-turns-preserved-then-is_left g m c =
       unended = w.unended;
       kept = λ S names size st e l i p q.
           let inv = c.turns.invariant in
-          let w = c.evaluate_call-came in
+          let w = c.test-came in
           let under = moved _ _ inv.base inv.room (sub (fits S c.args.condition.now) l (fst _ _ l.fits)) in
           let f = rw inv.context at w.ensures.kept in
           f S names size st e under i p (omega (arith, q, inv.base)) ∙ inv.kept S names size st e l i p q;
       came = λ S start k names size st e l a.
           let inv = c.turns.invariant in
-          let w = c.evaluate_call-came in
+          let w = c.test-came in
           let under = moved _ _ inv.base inv.room (sub (fits S c.args.condition.now) l (fst _ _ l.fits)) in
           let i1 = on _ (inv.came S start k names size st e l a) refl in
-          let f = rw inv.context at w.ensures.came in
+          let f = rw inv.context at (w.ensures.came.0 (sym c.is_left.ensures ∙ c.if-is_left.true)) in
           let e1 = f S start (Test (erase c.args.condition.now) (map erase c.args.body.now) ∷ k) names size st e under i1 in
           let z = gone w.result w.new.self.value w.new.self.leave (sym c.is_left.ensures ∙ c.if-is_left.true) in
           tested_again S _ start _ w.new.self.leave w.new.self.value _ (erase c.args.condition.now) (map erase c.args.body.now) k _ _ _ (ap goes_on (sym z) ∙ (sym c.goes_on.ensures ∙ c.if-not-goes_on.false)) (comes S _ start _ _ _ _ _ _ _ _ (sym z) e1);

@@ -226,6 +226,9 @@ decreases-combine_value g l = 24 * (1001 - l.depth) + 5
 abbrev pub decreases-evaluate : goal.decreases-evaluate
 decreases-evaluate g l = 24 * (1001 - l.depth) + 4
 
+abbrev pub decreases-test : goal.decreases-test
+decreases-test g l = 24 * (1001 - l.depth) + 4
+
 abbrev pub decreases-evaluate_leaf : goal.decreases-evaluate_leaf
 decreases-evaluate_leaf g l = 24 * (1001 - l.depth) + 5
 
