@@ -97,10 +97,7 @@ pub element_told : (own : Private) (method : Option Builtin) (first : Code) (ste
 element_told own method first steps_first second steps_second room thing None given unnamed e = tt
 element_told own method first steps_first second steps_second room thing (Some v) given unnamed e = record { thing = thing; given = given; unnamed = unnamed; told = e }
 
--- what is computed is given, and a leaf gives what it holds
-pub given_computed : (c : Code) (room : List Held) (own : Private) (steps : ℕ) (n : ℤ) → IsComputed steps c room n → IsGiven steps c room own (Int n)
-given_computed c room own steps n h = λ S N names size d left start log k me f len more deep a. h S N names size d left start own log k me f len more deep a
-
+-- a leaf gives what it holds
 pub given_held : (c : Code) (room : List Held) (own : Private) (v : Val) (is_over : Bool) → is_over ≡ false → IsHeld c room v → IsGiven (steps_of is_over) c room own v
 given_held c room own v is_over e h = λ S N names size d left start log k me f len more deep a.
     let some : 0 < left = omega (arith, more) in
@@ -110,15 +107,12 @@ given_held c room own v is_over e h = λ S N names size d left start log k me f 
 -- an operand that is an operation over two leaves, and one that is a leaf
 pub computed_made : (c : Code) (room : List Held) (r : Option ℤ) (is_over : Bool) → is_over ≡ true → IfSome r (λ n. IsMade c room n) → IfSome r (λ n. IsComputed (steps_of is_over) c room n)
 computed_made c room None is_over e h = tt
-computed_made c room (Some n) is_over e h = λ S N names size d left start own log k me f len more deep a.
+computed_made c room (Some n) is_over e h = λ own S N names size d left start log k me f len more deep a.
     rw e (h S N names size d left start own log k me f len more deep a)
 
 pub computed_small : (c : Code) (room : List Held) (r : Option ℤ) (is_over : Bool) → is_over ≡ false → IfSome r (λ n. IsSmall c room n) → IfSome r (λ n. IsComputed (steps_of is_over) c room n)
 computed_small c room None is_over e h = tt
-computed_small c room (Some n) is_over e h = λ S N names size d left start own log k me f len more deep a.
-    let some : 0 < left = omega (arith, more) in
-    let within : d < 1000 = omega (arith, deep) in
-    rw e (h S N names size d left start own log k me f len some within a)
+computed_small c room (Some n) is_over e h = λ own. given_held c room own (Int n) is_over e h
 
 -- the value of what is told
 pub told_value : (r : Option Val) → is_some r ≡ true → (v : Val) × (r ≡ Some v)
@@ -216,6 +210,6 @@ row_given c method name first second at room own rows index (Some row) e asked l
     let b = begins _ _ inside _ _ _ (shows-operate c method name first second at e) (counts begun within a) in
     let e1 = leaf S N names size (d + 1) (left - 1) start own log (Then (ReceiverOf (text_of S name) (erase second ∷ []) None at) ∷ inside) me fl len next below b in
     let e2 = small S N names size (d + 1) (left - 1 - 1) start own log (Then (Argument (OnReceiver (me_of (Some rows)) (text_of S name) None) [] [] at) ∷ inside) me fr len last below (on _ (on _ e1 refl) refl) in
-    let is_told : IsToldOf own rows method (Int index) (me_of (Some row)) = record { act = At index; asked = λ program text e. asked program text index e; there = there.0.0; gives = there.0.1; stays = stays } in
+    let is_told : IsToldOf own rows method (Int index) (me_of (Some row)) = record { act = At index; asked = asked index; there = there.0.0; gives = there.0.1; stays = stays } in
     let come = asks_thing S N start log own inside (scope_of me names room) (d + 1) (left - 1 - 1 - 1) method name at rows (Int index) (me_of (Some row)) number unnamed is_told e2 in
     rw thrice (leaves S N start own log (Gave (me_of (Some row))) k (scope_of me names room) d (d + 1) (left - 1 - 1 - 1) come)

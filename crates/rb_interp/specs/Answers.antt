@@ -94,19 +94,16 @@ IsMade code room n =
 abbrev pub steps_of : Bool → ℕ
 steps_of is_over = if is_over then 3 else 1
 
--- an operand gives this integer in so many steps, at most three, which leave the scope as it is
-abbrev pub IsComputed : ℕ → Code → List Held → ℤ → Type 0
-IsComputed steps code room n =
-    (S : Script) (N : ℕ) (names : List NameId) (size depth left : ℕ) (start : State) (h : Private) (log : Log) (k : List Cont) (me : Val)
-    → fits S code names size ≡ true → length names ≤ length room → 2 < left → depth < 999
-    → At S 0 N start log h (On (Eval (erase code)) k (scope_of me names room) depth left) → At S 0 N start log h (On (Give (Int n)) k (scope_of me names room) depth (left - steps))
-
 -- a node gives this value in so many steps, at most three, which leave the scope and the private things as they are
 abbrev pub IsGiven : ℕ → Code → List Held → Private → Val → Type 0
 IsGiven steps code room own v =
     (S : Script) (N : ℕ) (names : List NameId) (size depth left : ℕ) (start : State) (log : Log) (k : List Cont) (me : Val)
     → fits S code names size ≡ true → length names ≤ length room → 2 < left → depth < 999
     → At S 0 N start log own (On (Eval (erase code)) k (scope_of me names room) depth left) → At S 0 N start log own (On (Give v) k (scope_of me names room) depth (left - steps))
+
+-- an operand gives this integer so, whatever the private things are
+abbrev pub IsComputed : ℕ → Code → List Held → ℤ → Type 0
+IsComputed steps code room n = (own : Private) → IsGiven steps code room own (Int n)
 
 -- an operation over such an integer and a leaf gives this answer in four steps, which leave the scope as it is
 abbrev pub IsTwice : Option Builtin → (left right : Code) → List Held → Answer → Type 0

@@ -26,8 +26,7 @@ IsAsking thing method arg act =
 
 -- a method asks an array for its element at an index
 abbrev pub IsElement : Ref → Option Builtin → Type 0
-IsElement array method =
-    (program : Program) (name : List ℕ) (index : ℤ) → builtin_of name ≡ method → deed program (To (thing_of array)) name (Int index ∷ []) None ≡ Asks (thing_of array) (At index) None
+IsElement array method = (index : ℤ) → IsAsking array method (Int index) (At index)
 
 -- a method gives a hash's key a value
 abbrev pub IsKeyPut : Ref → Option Builtin → Val → Type 0

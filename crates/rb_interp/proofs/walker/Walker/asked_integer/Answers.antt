@@ -5,7 +5,7 @@ pub returns-then-is_element-clause-came : goal.returns-then-is_element-clause-ca
 returns-then-is_element-clause-came g c =
     let z : to_z w64 (of_z w64 c.args.index) ≡ c.args.index = search rules in
     λ name e S start k sc p a.
-    let asked = c.is_element.ensures c.if-is_element.true c.args.self.now.context.program.now name c.args.index e in
+    let asked = c.is_element.ensures c.if-is_element.true c.args.index c.args.self.now.context.program.now name e in
     let y = c.element.ensures in
     rw y.left ((rw z at y.came) S start k sc c.args.depth (rw asked at a))
 

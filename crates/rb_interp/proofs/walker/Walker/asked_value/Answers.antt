@@ -10,7 +10,7 @@ returns-in-Some-clause-came g c =
     let z : to_z w64 (of_z w64 c.in-Some.index) ≡ c.in-Some.index = search rules in
     λ name e S start k sc p a.
     let q = c.in-Some.ensures in
-    let asked = q.asked c.args.self.now.context.program.now name c.in-Some.index e in
+    let asked = q.asked c.in-Some.index c.args.self.now.context.program.now name e in
     let y = c.element.ensures in
     rw y.left ((rw z at y.came) S start k sc c.args.depth (rw asked at (rw q.index at a)))
 

@@ -1,7 +1,7 @@
 use Rattle.std.proofs.Common.{◌≡◌, to_z, of_z, w64, rules}
 use Rattle.rb_model.specs.Values.{Int, plain}
 use Rattle.rb_interp.specs.Answers.{steps_of}
-use Rattle.rb_interp.proofs.Immediates.{given_computed, given_held, told_by}
+use Rattle.rb_interp.proofs.Immediates.{given_held, told_by}
 use Rattle.rb_interp.proofs.walker.Walker.value_of_key.Goals as goal
 
 pub returns-in-Some : goal.returns-in-Some
@@ -9,7 +9,7 @@ returns-in-Some g c =
     let z : to_z w64 (of_z w64 c.in-Some.n) ≡ c.in-Some.n = search rules in
     let own = g.O.ThreadStore.private c.args.self.now.store in
     let told = rw z at c.key_told.ensures in
-    told_by own c.args.hash c.args.method c.args.key.now (steps_of c.args.is_over) c.args.room.now (Int c.in-Some.n) _ (given_computed c.args.key.now c.args.room.now own _ c.in-Some.n c.in-Some.ensures) told
+    told_by own c.args.hash c.args.method c.args.key.now (steps_of c.args.is_over) c.args.room.now (Int c.in-Some.n) _ (c.in-Some.ensures own) told
 
 pub returns-in-Some-local_at : goal.returns-in-Some-local_at
 returns-in-Some-local_at g c =
