@@ -1,5 +1,5 @@
 -- What arrays and hashes are asked at once is what the table of methods says.
-use Rattle.std.proofs.Common.{◌≡◌, ◌∙◌, ℕ, List, Option, Some, None, sym}
+use Rattle.std.proofs.Common.{◌≡◌, ◌∙◌, List, Option, Some, None, sym}
 use Rattle.std.specs.Option.{IfSome}
 use Rattle.rb_tree.specs.declared.node.Program.{Program}
 use Rattle.rb_model.specs.Values.{Value as Val, To}

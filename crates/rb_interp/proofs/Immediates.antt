@@ -1,9 +1,8 @@
 -- Immediate values that things answer at once.
 use Rattle.std.proofs.Common.{◌≡◌, ◌∙◌, ◌<◌, ◌≤◌, ◌+◌, ◌-◌, ℕ, Bool, true, false, List, [], ◌∷◌, length, Option, Some, None, refl, sym, ap, arith}
-use Rattle.std.specs.Prelude.{ℤ, IfSome, is_some, if◌then◌else◌}
+use Rattle.std.specs.Prelude.{ℤ, IfSome, is_some}
 use Rattle.rb_tree.specs.declared.span.NameId.{NameId}
 use Rattle.rb_model.specs.declared.immediate.Immediate.{Immediate}
-use Rattle.rb_model.specs.declared.immediate.Immediate.TheVariants as immediate
 use Rattle.rb_model.specs.declared.value.Ref.{Ref}
 use Rattle.rb_model.specs.declared.value.Value.{Value as Held}
 use Rattle.rb_model.specs.Values.{Value as Val, Reference, Nil, False, True, Int, Sym, Str, To}

@@ -1,6 +1,6 @@
 -- Calls by names that neither the top level nor a method that prints has.
 use Rattle.std.proofs.Common.{◌≡◌, ℕ, Bool, true, false, cond, List, Option, Some, None, refl, sym, ap, ◌∙◌}
-use Rattle.std.specs.Prelude.{not, ◌&&◌, ◌||◌, is_none, position, slice_get, codes}
+use Rattle.std.specs.Prelude.{not, ◌&&◌, ◌||◌, is_none, slice_get, codes}
 use Rattle.std.specs.Option.{option_and_then}
 use Rattle.std.specs.Str.{bytes_eq}
 use Rattle.rb_tree.specs.declared.span.Span.{Span}
@@ -9,7 +9,7 @@ use Rattle.rb_model.specs.declared.fault.Fault.TheVariants.{NoMethod}
 use Rattle.rb_model.specs.Values.{Value as Val}
 use Rattle.rb_machine.specs.Scopes.{Script, Scope, text_of}
 use Rattle.rb_machine.specs.Control.{Cont}
-use Rattle.rb_machine.specs.Call.{call_by_name, own, top_level, named, print, raised}
+use Rattle.rb_machine.specs.Call.{call_by_name, own, top_level, named, raised}
 use Rattle.rb_code.specs.Resolved.{Fits, function_of, has_name, prints}
 use Rattle.rb_code.proofs.Dispatched.{find_by_position}
 use Rattle.rb_interp.specs.Carries.{unnamed}

@@ -1,21 +1,19 @@
 -- What is asked of things, and new objects, beside the machine.
-use Rattle.std.proofs.Common.{◌≡◌, ℕ, Bool, true, false, List, [], ◌∷◌, ◌++◌, length, Option, Some, None, refl, sym, ap, ◌∙◌, subst, arith}
-use Rattle.std.specs.Prelude.{is_some, ◌&&◌, codes}
+use Rattle.std.proofs.Common.{◌≡◌, ℕ, true, List, [], ◌∷◌, length, Option, Some, None, refl, sym, ap, ◌∙◌, subst, arith}
+use Rattle.std.specs.Prelude.{is_some, codes}
 use Rattle.std.specs.Option.{option_map, option_and_then}
 use Rattle.rb_tree.specs.declared.span.Span.{Span}
 use Rattle.rb_tree.specs.declared.span.NameId.{NameId}
 use Rattle.rb_tree.specs.declared.node.Method.{Method}
 use Rattle.rb_model.specs.declared.value.Ref.{Ref}
-use Rattle.rb_model.specs.declared.value.Id.{Id}
 use Rattle.rb_model.specs.declared.value.Sort.TheVariants as sort
 use Rattle.rb_model.specs.declared.act.Reply.{Reply as Answered}
 use Rattle.rb_model.specs.declared.fault.Fault.TheVariants.{ArgumentCount}
 use Rattle.rb_model.specs.Values.{Value as Val, To, Reference}
 use Rattle.rb_model.specs.Acts.{Act, Reply, SetField}
-use Rattle.rb_model.specs.Acts as reply
 use Rattle.rb_model.specs.Doing.{said}
-use Rattle.rb_model.specs.Things.{Thing, Object, becomes, gives}
-use Rattle.rb_model.specs.Private.{Private, Gives, Becomes, held, acted, entered, next_id}
+use Rattle.rb_model.specs.Things.{Object, gives}
+use Rattle.rb_model.specs.Private.{Private, Gives, Becomes, held, entered, next_id}
 use Rattle.rb_model.specs.Log.{Log}
 use Rattle.rb_machine.specs.Scopes.{Script, Scope}
 use Rattle.rb_machine.specs.Control.{State, On, Cont, Then, Give, Step, Instead, Creating}
@@ -24,13 +22,12 @@ use Rattle.rb_machine.specs.Move.{answered, left_in}
 use Rattle.rb_machine.specs.Follows.{At, acts, makes}
 use Rattle.rb_code.specs.declared.scripted.CodeMethod.{CodeMethod}
 use Rattle.rb_code.specs.declared.scripted.CodeScript.{CodeScript}
-use Rattle.rb_code.specs.Dispatch.{method_at, method_number}
+use Rattle.rb_code.specs.Dispatch.{method_at}
 use Rattle.rb_code.specs.Layout.{is_at}
 use Rattle.rb_code.specs.Erase.{erase_method}
-use Rattle.rb_code.specs.Resolved.{is_made, same_place, method_fits}
+use Rattle.rb_code.specs.Resolved.{is_made, method_fits}
 use Rattle.rb_code.specs.Stands.{StandsFor}
 use Rattle.rb_code.proofs.Dispatched.{first_is, at_fits}
-use Rattle.rb_interp.specs.Outcome.{Outcome, Gave, Came}
 use Rattle.rb_interp.specs.Carries.{me_of}
 use Rattle.rb_interp.specs.Objects.{Fields, plainly, updating}
 use Rattle.rb_interp.proofs.Lists.{fst, snd, eq_test}

@@ -3,7 +3,7 @@ use Rattle.std.proofs.Common.{◌≡◌, ℕ, ◌+◌, ◌≤◌, Bool, true, fa
 use Rattle.std.proofs.lemmas.Bool.Decides.{nat_tests}
 use Rattle.std.proofs.lemmas.Slice.Eq.{bytes_eq-Decides}
 use Rattle.std.proofs.lemmas.List.Elements.{All-from_recursion}
-use Rattle.std.specs.Prelude.{All, is_none, not, ◌&&◌, ◌||◌, position, find, nat_lt, nat_le, codes}
+use Rattle.std.specs.Prelude.{All, is_none, not, ◌&&◌, ◌||◌, position, find, nat_lt}
 use Rattle.std.specs.Str.{bytes_eq}
 use Rattle.std.specs.List.{position_or_len, list_any, AllByRecursion}
 use Rattle.rb_tree.specs.declared.span.Span.{Span}

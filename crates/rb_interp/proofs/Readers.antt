@@ -3,7 +3,7 @@ use Rattle.std.proofs.Common.{◌≡◌, ℕ, suc, ◌+◌, ◌-◌, ◌<◌, �
 use Rattle.std.specs.Prelude.{nat_eq}
 use Rattle.rb_tree.specs.declared.span.Span.{Span}
 use Rattle.rb_tree.specs.declared.span.NameId.{NameId}
-use Rattle.rb_tree.specs.declared.node.Node.{Node, out-Node}
+use Rattle.rb_tree.specs.declared.node.Node.{Node}
 use Rattle.rb_tree.specs.declared.node.Node.TheOpen as node
 use Rattle.rb_tree.specs.declared.node.Param.{Param}
 use Rattle.rb_model.specs.declared.fault.Fault.TheVariants.{ArgumentCount}
@@ -14,7 +14,7 @@ use Rattle.rb_model.specs.Ends as ending
 use Rattle.rb_model.specs.Log.{Log}
 use Rattle.rb_model.specs.Private.{Private}
 use Rattle.rb_machine.specs.Scopes.{Script, Scope, look, text_of, fresh}
-use Rattle.rb_machine.specs.Control.{State, On, Cont, Then, Under, Frame, Rest, Eval, Give, FieldTo, Following, Passing, OnReceiver, ReceiverOf}
+use Rattle.rb_machine.specs.Control.{State, On, Cont, Then, Under, Frame, Rest, Eval, Give, FieldTo, Following, ReceiverOf}
 use Rattle.rb_machine.specs.Call.{ask_of, enter, raised}
 use Rattle.rb_machine.specs.Follows.{At}
 use Rattle.rb_code.specs.declared.code.Code.{Code}

@@ -1,10 +1,10 @@
 -- Iterations of blocks over arrays and hashes, and calls that come to them.
-use Rattle.std.proofs.Common.{◌≡◌, ℕ, zero, suc, ◌+◌, ◌-◌, ◌<◌, ◌≤◌, Bool, true, false, cond, List, [], ◌∷◌, ◌++◌, length, map, drop, take, Some, refl, sym, ap, ◌∙◌, subst, arith}
+use Rattle.std.proofs.Common.{◌≡◌, ℕ, zero, suc, ◌+◌, ◌-◌, ◌<◌, ◌≤◌, true, false, cond, List, [], ◌∷◌, ◌++◌, length, map, drop, take, Some, refl, sym, ap, ◌∙◌, subst, arith}
 use Rattle.std.specs.Prelude.{pos, slice_get, slice_set}
 use Rattle.rb_tree.specs.declared.span.Span.{Span}
 use Rattle.rb_tree.specs.declared.span.NameId.{NameId}
 use Rattle.rb_tree.specs.declared.node.Block.{Block}
-use Rattle.rb_model.specs.Values.{Value as Val, Nil, Int, Reference, To, plain}
+use Rattle.rb_model.specs.Values.{Value as Val, Nil, Reference, plain}
 use Rattle.rb_model.specs.declared.value.Value.{Value as Held}
 use Rattle.rb_model.specs.declared.value.Value.TheVariants as held
 use Rattle.rb_model.specs.Doing.{pair}
@@ -15,13 +15,13 @@ use Rattle.rb_model.specs.Ends as ending
 use Rattle.rb_model.specs.Log.{Log}
 use Rattle.rb_model.specs.Private.{Private}
 use Rattle.rb_machine.specs.Scopes.{Script, Scope, Locals, fresh, with_locals}
-use Rattle.rb_machine.specs.Control.{State, On, Cont, Then, Turn, Give, Leave as Leaving, Following, Turning, Turns, Counting, Walking, EachPair, Walk, ForEach, ElementBelow, WithElement, Break, Next, Return}
+use Rattle.rb_machine.specs.Control.{State, On, Cont, Then, Turn, Give, Following, Turning, Turns, Walking, EachPair, Walk, ForEach, ElementBelow, WithElement, Break, Next, Return}
 use Rattle.rb_machine.specs.Call.{ask, ended}
 use Rattle.rb_machine.specs.Call as call
 use Rattle.rb_machine.specs.Give.{back}
 use Rattle.rb_machine.specs.Methods.{Answer, Loops}
 use Rattle.rb_machine.specs.Move.{Go, answered, used, left_in}
-use Rattle.rb_machine.specs.Turns.{start_turn, turned, walked, holding, given, finish, is_below, next_element}
+use Rattle.rb_machine.specs.Turns.{start_turn, turned, walked, holding, given, finish, is_below}
 use Rattle.rb_machine.specs.Follows.{At}
 use Rattle.rb_builtin.specs.declared.deed.Pass.{Pass}
 use Rattle.rb_builtin.specs.declared.deed.Pass.TheVariants as pass
@@ -32,11 +32,10 @@ use Rattle.rb_code.specs.Erase.{erase, erase_block}
 use Rattle.rb_code.specs.Resolved.{block_fits}
 use Rattle.rb_code.proofs.Erasing.{erase_block-parts}
 use Rattle.rb_code.proofs.Slots.{bound_append, bound_fresh}
-use Rattle.rb_interp.specs.declared.came.Came.TheVariants as came
 use Rattle.rb_interp.specs.declared.came.Leave.{Leave}
 use Rattle.rb_interp.specs.declared.rounds.Iterations.{Iterations}
 use Rattle.rb_interp.specs.declared.rounds.Iterations.TheVariants as iterations
-use Rattle.rb_interp.specs.Outcome.{Outcome, Gave, Left, Over, Came, outcome}
+use Rattle.rb_interp.specs.Outcome.{Outcome, Gave, Left, Over, Came}
 use Rattle.rb_interp.specs.Carries.{Lies, scope_of, goes_on}
 use Rattle.rb_interp.specs.Walks.{Counts, OpensBy, slot_value, value_on, walking, second_value}
 use Rattle.rb_interp.proofs.Lists.{len_map, len_set, get_map, get_set, get_set_same, get_drop}

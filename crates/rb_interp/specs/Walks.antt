@@ -1,10 +1,10 @@
 -- What a call with a block comes to before an iteration, and what its iterations make.
-use Rattle.std.specs.Prelude.{◌≡◌, ◌+ℤ◌, pos, ℕ, ℤ, true, false, List, [], ◌∷◌, length, slice_get, Option, Some}
+use Rattle.std.specs.Prelude.{◌≡◌, ◌+ℤ◌, pos, ℕ, ℤ, true, false, List, ◌∷◌, length, slice_get, Option, Some}
 use Rattle.rb_tree.specs.declared.span.Span.{Span}
 use Rattle.rb_tree.specs.declared.span.NameId.{NameId}
 use Rattle.rb_tree.specs.declared.node.Block.{Block}
 use Rattle.rb_tree.specs.declared.node.Program.{Program}
-use Rattle.rb_model.specs.Values.{Value as Val, Nil, Int, Reference, or_nil}
+use Rattle.rb_model.specs.Values.{Value as Val, Nil, Int, or_nil}
 use Rattle.rb_model.specs.declared.value.Ref.{Ref}
 use Rattle.rb_model.specs.declared.value.Value.{Value as Held}
 use Rattle.rb_model.specs.Log.{Log}

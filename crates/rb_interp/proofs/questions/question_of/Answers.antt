@@ -1,4 +1,4 @@
-use Rattle.std.proofs.Common.{◌≡◌, ◌∙◌, Some, refl, ap, map}
+use Rattle.std.proofs.Common.{◌∙◌, Some, refl, ap}
 use Rattle.rb_model.specs.Values.{plain}
 use Rattle.rb_builtin.specs.declared.builtin.Builtin.TheVariants as builtin
 use Rattle.rb_interp.proofs.AskedBy.{asked_by}

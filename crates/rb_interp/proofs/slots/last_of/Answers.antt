@@ -1,4 +1,4 @@
-use Rattle.std.proofs.Common.{◌≡◌, ap, sym, ◌∙◌}
+use Rattle.std.proofs.Common.{◌∙◌}
 use Rattle.rb_interp.proofs.Lists.{last_is}
 use Rattle.rb_interp.proofs.slots.last_of.Goals as goal
 

@@ -1,4 +1,4 @@
-use Rattle.std.proofs.Common.{◌≡◌, ◌+◌, ◌<◌, ◌≤◌, length, arith}
+use Rattle.std.proofs.Common.{◌+◌, ◌≤◌, length, arith}
 use Rattle.std.specs.Prelude.{slice_set}
 use Rattle.rb_model.specs.Values.{plain}
 use Rattle.rb_interp.proofs.Walks.{opens_none, opens_one, opens_alone, opens_two, stays_below, stays_above}

@@ -1,6 +1,5 @@
-use Rattle.std.proofs.Common.{◌≡◌, ℕ, ◌<◌, ◌≤◌, List, [], ◌∷◌, length, map, refl, sym, ap, ◌∙◌, arith}
+use Rattle.std.proofs.Common.{◌≡◌, ◌<◌, ◌≤◌, List, [], ◌∷◌, length, map, refl, sym, ap, ◌∙◌, arith}
 use Rattle.std.specs.Prelude.{slice_index_or}
-use Rattle.rb_tree.specs.declared.node.Node.{Node}
 use Rattle.rb_code.specs.declared.code.Code.{Code}
 use Rattle.rb_code.specs.Erase.{erase}
 use Rattle.rb_code.proofs.Showing.{shows-field}

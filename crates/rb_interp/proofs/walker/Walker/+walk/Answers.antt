@@ -4,7 +4,7 @@ use Rattle.rb_tree.specs.declared.node.Node.{out-Node}
 use Rattle.rb_interp.specs.Answers.{OrMemory, outcome_of}
 use Rattle.rb_interp.specs.Carries.{numbered, goes_on, plainly, updating, scope_of, written_by, printing, me_of}
 use Rattle.rb_code.proofs.Slots.{slot_within}
-use Rattle.std.proofs.Common.{rules, to_z, of_z, w64, ◌≡◌, ap, sym, ◌∙◌, refl, ℕ, List, [], ◌∷◌, ◌++◌, take, drop, map, length, ◌+◌, ◌-◌, ◌<◌, ◌≤◌, Some, None, true, false, arith}
+use Rattle.std.proofs.Common.{rules, to_z, of_z, w64, ◌≡◌, ap, sym, ◌∙◌, refl, [], ◌∷◌, ◌++◌, take, drop, map, length, ◌+◌, ◌-◌, ◌<◌, ◌≤◌, Some, None, true, false, arith}
 use Rattle.std.proofs.lemmas.List.{drop_all}
 use Rattle.std.specs.Prelude.{codes, pos, ◌+ℤ◌, ◌≤ℤ◌, slice_get, slice_set}
 use Rattle.rb_model.specs.Values.{Nil, Int, plain}
@@ -17,9 +17,9 @@ use Rattle.rb_interp.specs.Outcome.{Gave, is_left, value_of, outcome}
 use Rattle.rb_interp.proofs.Moves.{gives, test_true, test_false, on, same, begins, follows, counts, too_many, too_deep, left}
 use Rattle.rb_interp.proofs.Immediates.{reads_element, told_value}
 use Rattle.rb_interp.specs.Answers.{wrote}
-use Rattle.rb_interp.proofs.Lists.{at_end, in_front, two_items, no_items, none_behind, never, two, fst, snd, next_item, len_set, len_map, len_args, get_set, fst_two, nothing, front, there}
+use Rattle.rb_interp.proofs.Lists.{at_end, in_front, two_items, no_items, none_behind, never, two, fst, snd, next_item, len_set, len_map, len_args, get_set, nothing, front, there}
 use Rattle.rb_interp.proofs.Rooms.{args_fit, sub, moved, every_item, lies, frame_back, read_room, room_beyond}
-use Rattle.rb_interp.proofs.Outcomes.{stopped_left, again_unread, statements_end, gave, given, comes, passes, gone, again, again_out, tested_again, tested_out, called, turn_too_many, turns_end}
+use Rattle.rb_interp.proofs.Outcomes.{stopped_left, again_unread, statements_end, gave, given, comes, passes, gone, again_out, tested_again, tested_out, called, turn_too_many, turns_end}
 use Rattle.rb_interp.proofs.Steps.{and_goes, and_stops, or_goes, or_stops, negated, chosen_first, chosen_second, assigned, kept_write}
 use Rattle.rb_machine.specs.Scopes.{text_of}
 use Rattle.rb_builtin.specs.Names.{builtin_of}
@@ -37,7 +37,7 @@ use Rattle.rb_machine.specs.Begin.{begin_return}
 use Rattle.rb_interp.proofs.Pieces.{piece_code, shows_text, shows_code, joining, joins_code, text_long, text_joins, whole_text, too_long, not_long, asks_piece}
 use Rattle.std.proofs.lemmas.Int.{ints, to_z-of_z}
 use Rattle.rb_code.specs.Layout.{bound}
-use Rattle.rb_machine.specs.Control.{ForEach, EachPair, Walking}
+use Rattle.rb_machine.specs.Control.{ForEach, Walking}
 use Rattle.rb_machine.specs.Turns.{holding}
 use Rattle.rb_machine.specs.Methods.{LoopsOver, EachPairOf}
 use Rattle.rb_model.specs.Values.{To}
@@ -45,7 +45,7 @@ use Rattle.rb_model.specs.Doing.{pair}
 use Rattle.rb_builtin.specs.Deeds.{thing_of, walk_of}
 use Rattle.rb_interp.specs.Walks.{walking}
 use Rattle.rb_interp.proofs.Walks.{over_stops, no_step, start_left, begun_at, iteration_opens, iteration_goes, element_begins, element_ends, pair_begins, pairs_end, copied_left, no_pairs, block_comes, still_within, up_to_end}
-use Rattle.std.proofs.Common.{suc, subst}
+use Rattle.std.proofs.Common.{suc}
 use Rattle.rb_interp.proofs.Turns.{some_left, none_left, last_done, ends_within, deeper, opens, closes, closes_out, cut, answers_block, block_turns, takes_is}
 use Rattle.rb_machine.specs.Methods.{deed}
 use Rattle.rb_interp.proofs.Elements.{calls_builtin, stores_builtin, writes_element, built_from, parts_are}
@@ -58,7 +58,6 @@ use Rattle.rb_interp.proofs.Objects.{fielded_by, created, created_from, initiali
 use Rattle.rb_interp.specs.Objects.{plainly as fielded, updating as field_updated}
 use Rattle.rb_interp.proofs.walker.Walker.+walk.Goals.{text-in-Text+in_default, text-in-Code+else-is_left+else-is_left-2+in_default-add_value}
 use Rattle.rb_interp.proofs.Endings.{quietly}
-use Rattle.rb_interp.specs.declared.came.Came.TheVariants as came
 use Rattle.rb_render.specs.Forms.{style_of}
 use Rattle.rb_model.specs.declared.value.Value.TheVariants as held
 use Rattle.rb_model.specs.Ends as ending

@@ -8,7 +8,6 @@ use Rattle.rb_code.specs.Erase.{erase, erase_block, erase_piece}
 use Rattle.rb_code.specs.Resolved.{fits, piece_fits, block_fits, every}
 use Rattle.rb_machine.specs.Texts.{max_bytes}
 use Rattle.rb_render.specs.Forms.{style_of}
-use Rattle.rb_interp.specs.Outcome.{is_left, value_of}
 use Rattle.rb_interp.specs.Texts.{WritesOn}
 use Rattle.rb_interp.specs.Walks.{WalksOn}
 use Rattle.std.specs.Vec.Iter.{into_iter_items}

@@ -1,4 +1,4 @@
-use Rattle.std.proofs.Common.{◌∷◌, ◌∙◌, true, false, sym, ap}
+use Rattle.std.proofs.Common.{◌∷◌, ◌∙◌, sym, ap}
 use Rattle.std.specs.Prelude.{Err}
 use Rattle.rb_model.specs.Values.{To}
 use Rattle.rb_machine.specs.Control.{Then, WriteBehind, Inspecting}

@@ -1,4 +1,4 @@
-use Rattle.std.proofs.Common.{◌≡◌, Bool, true, false, refl, arith}
+use Rattle.std.proofs.Common.{refl, arith}
 use Rattle.rb_model.specs.declared.fault.Fault.TheVariants.{TooDeep}
 use Rattle.rb_model.specs.Ends as ending
 use Rattle.rb_builtin.specs.Deeds.{thing_of}

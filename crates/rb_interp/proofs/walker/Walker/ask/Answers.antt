@@ -1,4 +1,4 @@
-use Rattle.std.proofs.Common.{◌≡◌, refl, sym}
+use Rattle.std.proofs.Common.{refl, sym}
 use Rattle.rb_model.specs.Doing.{doing}
 use Rattle.rb_interp.proofs.Objects.{asked, there_is}
 use Rattle.rb_interp.proofs.walker.Walker.ask.Goals as goal

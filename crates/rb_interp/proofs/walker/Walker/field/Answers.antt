@@ -1,4 +1,3 @@
-use Rattle.std.proofs.Common.{◌≡◌, refl}
 use Rattle.rb_interp.proofs.walker.Walker.field.Goals as goal
 
 pub returns-in-None-clause-came : goal.returns-in-None-clause-came

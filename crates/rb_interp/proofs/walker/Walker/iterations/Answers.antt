@@ -1,4 +1,4 @@
-use Rattle.std.proofs.Common.{◌≡◌, subst}
+use Rattle.std.proofs.Common.{subst}
 use Rattle.rb_machine.specs.Methods.{Answer}
 use Rattle.rb_interp.specs.Walks.{OpensBy}
 use Rattle.rb_interp.proofs.Turns.{block_cut}

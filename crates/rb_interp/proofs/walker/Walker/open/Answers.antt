@@ -1,4 +1,4 @@
-use Rattle.std.proofs.Common.{◌≡◌, Bool, true, false, refl, ap}
+use Rattle.std.proofs.Common.{refl, ap}
 use Rattle.std.specs.Prelude.{Err}
 use Rattle.rb_model.specs.Ends as ending
 use Rattle.rb_model.specs.Doing.{said}

@@ -1,4 +1,3 @@
-use Rattle.std.proofs.Common.{◌≡◌}
 use Rattle.rb_builtin.specs.Deeds.{turns_of}
 use Rattle.rb_interp.proofs.Turns.{block_cut}
 use Rattle.rb_interp.proofs.Walks.{counted}

@@ -1,4 +1,4 @@
-use Rattle.std.proofs.Common.{◌≡◌, refl}
+use Rattle.std.proofs.Common.{refl}
 use Rattle.rb_interp.proofs.walker.Walker.own_target.Goals as goal
 
 pub returns-in-None-clause-none : goal.returns-in-None-clause-none

@@ -1,4 +1,4 @@
-use Rattle.std.proofs.Common.{◌≡◌, ◌∷◌, ◌∙◌, to_z, of_z, w64, rules, refl, sym, ap}
+use Rattle.std.proofs.Common.{◌≡◌, ◌∷◌, ◌∙◌, to_z, of_z, w64, rules, refl, sym}
 use Rattle.rb_model.specs.Values.{plain}
 use Rattle.rb_machine.specs.Control.{Then, Instead}
 use Rattle.rb_interp.proofs.Moves.{on}

@@ -1,4 +1,4 @@
-use Rattle.std.proofs.Common.{◌≡◌, ◌∷◌, ◌∙◌, to_z, of_z, w64, rules, refl, ap}
+use Rattle.std.proofs.Common.{◌≡◌, ◌∷◌, to_z, of_z, w64, rules, refl, ap}
 use Rattle.rb_model.specs.Acts.{Put}
 use Rattle.rb_model.specs.Acts as reply
 use Rattle.rb_machine.specs.Call.{ask}

@@ -1,4 +1,4 @@
-use Rattle.std.proofs.Common.{◌≡◌, ◌∷◌, ◌∙◌, refl, sym, ap}
+use Rattle.std.proofs.Common.{◌∷◌, ◌∙◌, refl, sym, ap}
 use Rattle.rb_machine.specs.Control.{Then, Instead}
 use Rattle.rb_interp.specs.Outcome.{value_of}
 use Rattle.rb_interp.proofs.Moves.{on}

@@ -1,4 +1,4 @@
-use Rattle.std.proofs.Common.{◌≡◌, to_z, of_z, w64, rules, sym}
+use Rattle.std.proofs.Common.{◌≡◌, to_z, of_z, w64, rules}
 use Rattle.rb_interp.specs.Outcome.{value_of}
 use Rattle.rb_interp.proofs.walker.Walker.stored.Goals as goal
 

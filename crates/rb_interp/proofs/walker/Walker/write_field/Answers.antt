@@ -1,4 +1,4 @@
-use Rattle.std.proofs.Common.{◌≡◌, refl, ap, rules, to_z, of_z, w64}
+use Rattle.std.proofs.Common.{◌≡◌, ap, rules, to_z, of_z, w64}
 use Rattle.rb_model.specs.Values.{Int}
 use Rattle.rb_interp.specs.Outcome.{value_of}
 use Rattle.rb_interp.proofs.walker.Walker.write_field.Goals as goal
