@@ -14,9 +14,9 @@ end
 
 values = []
 seed = 42
-8000.times do
+11_000.times do
   seed = (seed * 1103 + 12345) % 65521
   values << seed
 end
 sort(values)
-puts values.first, values[4000], values.last
+puts values.first, values[5500], values.last

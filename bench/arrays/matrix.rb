@@ -29,7 +29,7 @@ def product(left, right)
   rows
 end
 
-made = product(matrix(300, 3), matrix(300, 7))
+made = product(matrix(360, 3), matrix(360, 7))
 total = 0
 made.each do |row|
   row.each { |value| total += value }

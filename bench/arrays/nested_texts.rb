@@ -4,4 +4,4 @@ def nested(depth, seed)
   [nested(depth - 1, seed + 1), "depth", depth, nested(depth - 1, seed + 2)]
 end
 
-50.times { |i| p nested(12, i) }
+100.times { |i| p nested(12, i) }

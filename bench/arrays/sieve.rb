@@ -1,7 +1,7 @@
 # The primes below a limit, by crossing out.
 limit = 2_000_000
 count = 0
-4.times do
+8.times do
   crossed = Array.new(limit, false)
   count = 0
   n = 2

@@ -2,7 +2,7 @@
 words = []
 2000.times { |i| words << "word#{i * 7919 % 1009}" }
 counts = {}
-2500.times do
+5000.times do
   words.each do |word|
     counts[word] = (counts[word] || 0) + 1
   end

@@ -15,7 +15,7 @@ end
 
 counter = Counter.new
 i = 0
-while i < 6_000_000
+while i < 20_000_000
   counter.add(i % 3)
   i += 1
 end

@@ -11,7 +11,7 @@ end
 list = nil
 100_000.times { |i| list = Cell.new(i, list) }
 sum = 0
-60.times do
+300.times do
   cell = list
   while cell
     sum += cell.value

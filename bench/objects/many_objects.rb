@@ -12,7 +12,7 @@ end
 
 sum = 0
 i = 0
-while i < 2_000_000
+while i < 6_000_000
   sum += Pair.new(i, 1).sum % 7
   i += 1
 end

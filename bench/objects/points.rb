@@ -14,7 +14,7 @@ end
 
 at = Point.new(0, 0)
 step = Point.new(1, 2)
-1_500_000.times do |i|
+5_000_000.times do |i|
   at = at.plus(step)
   at.x += 1
   at.y = at.y - i % 2

@@ -1,7 +1,7 @@
 # Texts that are built and compared.
 same = 0
 size = 0
-400_000.times do |i|
+1_200_000.times do |i|
   left = "item #{i % 10}: " + "total"
   right = "item #{i % 7}: total"
   same += 1 if left == right

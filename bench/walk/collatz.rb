@@ -15,7 +15,7 @@ end
 
 best = 0
 longest = 0
-1.upto(120_000) do |start|
+1.upto(300_000) do |start|
   count = length_of(start)
   if count > longest
     longest = count

@@ -7,4 +7,4 @@ def fib(n)
   end
 end
 
-puts fib(33)
+puts fib(36)

@@ -1,6 +1,6 @@
 # Blocks in blocks over locals of outside.
 sum = 0
-300.times do |a|
+700.times do |a|
   200.times do |b|
     sum += a * b
     200.times do |c|

@@ -16,7 +16,7 @@ second = "another text"
 found = 0
 size = 0
 i = 0
-while i < 4_000_000
+while i < 9_000_000
   best = longer(first, second)
   found += 1 if is_name(best, "another text")
   size += best.length

@@ -14,7 +14,7 @@ sum = 0
 n = 0
 while true
   n += 1
-  break if n > 300_000
+  break if n > 700_000
   next if n != 2 && n % 2 == 0
   if prime?(n) && !(n % 10 == 7)
     found += 1

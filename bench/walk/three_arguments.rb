@@ -5,7 +5,7 @@ end
 
 i = 0
 sum = 0
-while i < 10_000_000
+while i < 25_000_000
   sum = mix(i, sum, 3) % 1_000_003
   i += 1
 end

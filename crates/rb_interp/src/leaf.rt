@@ -53,7 +53,7 @@ fn truth_of(value: &Value) -> Came
 #[inline(always)]
 pub(crate) fn tested(code: &Code, room: &[Value], left: u64, depth: u32) -> Option<Came>
     ensures more { IfSome result (λ _. 0 < left) }
-    ensures deep { IfSome result (λ _. depth < 1000) }
+    ensures deep { IfSome result (λ _. depth < MAX_DEPTH) }
     ensures told { IfSome result (λ came. is_left came ≡ false) }
     ensures held { IfSome result (λ came. IsTested code.now room.now came) }
 {

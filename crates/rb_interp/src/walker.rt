@@ -149,7 +149,7 @@ impl<'p, O: ThreadStore + Drop> Walker<'p, O> {
         self.evaluate_call(code, depth, room)
     }
 
-    /// The same where it is seldom another: what else it is stands apart.
+    /// Evaluates a node that is a leaf most of the time. What else it is is evaluated apart, so that little stands here.
     #[cycle(walk)]
     #[inline(always)]
     fn evaluate_leaf(&mut self, code: &'p Code, depth: u32, room: &mut [Value]) -> Came
