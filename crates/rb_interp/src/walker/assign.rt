@@ -161,35 +161,6 @@ impl<'p, O: ThreadStore + Drop> Walker<'p, O> {
         self.operated_by(method_of(op), m, came, at)
     }
 
-    /// The same where the value is a call with a receiver.
-    #[cycle(walk)]
-    #[inline(always)]
-    pub(super) fn combine_sent(
-        &mut self,
-        m: i64,
-        op: AssignOp,
-        value: &'p Code,
-        at: Span,
-        depth: u32,
-        room: &mut [Value],
-    ) -> Came
-        requires unended { has_end (O.log self.old.store).entries ≡ false }
-        requires steps { self.old.left ≤ self.old.context.steps }
-        ensures base { self.new.base ≡ self.old.base }
-        ensures context { self.new.context ≡ self.old.context }
-        ensures room { length room.new ≡ length room.old }
-        ensures less { self.new.left ≤ self.old.left }
-        ensures unended { has_end (O.log self.new.store).entries ≡ false }
-        ensures kept { Keeps self.old.context.script.now self.old.context.program.now (λ S. fits S value.now) self.old.base room.old room.new }
-        ensures came { Carries self.old.context.script.now self.old.context.program.now self.old.context.steps (me_of self.old.context.me) (λ S. fits S value.now) (λ S k sc d n. On (Eval (erase value.now)) (Then (RightOf (Int m) op at) ∷ k) sc d n) self.old.base depth self.old.left self.new.left room.old room.new (O.log self.old.store) (O.log self.new.store) (O.private self.old.store) (O.private self.new.store) (outcome result self.new.value self.new.leave) }
-    {
-        let came = self.evaluate_sent(value, depth, room);
-        if is_left(came) {
-            return came;
-        }
-        self.operated_by(method_of(op), m, came, at)
-    }
-
     /// What the operator of an assignment makes of any value that its target has.
     #[cycle(walk)]
     #[inline(never)]

@@ -14,7 +14,7 @@ use super::{MAX_DEPTH, Walker};
 use crate::came::{Came, Cut, Leave, is_left};
 use crate::leaf::{
     held_alone, held_at, integer_at, is_combining, is_deep, is_object_at, is_operate, is_send,
-    local_at, quick, quick_update, update_over,
+    local_at, method_of, quick, quick_update, update_over,
 };
 use crate::target::{local_collection, local_target, reader_of};
 use rb_builtin::Builtin;
@@ -127,7 +127,11 @@ impl<'p, O: ThreadStore + Drop> Walker<'p, O> {
             Code::UpdateLocal(slot, _, op, value, at) => {
                 if is_combining(*op) {
                     if let Some(m) = integer_at(room, *slot) {
-                        let made = self.combine_sent(m, *op, value.get(), *at, depth, room);
+                        let came = self.evaluate_sent(value.get(), depth, room);
+                        if is_left(came) {
+                            return came;
+                        }
+                        let made = self.operated_by(method_of(*op), m, came, *at);
                         if is_left(made) {
                             return made;
                         }

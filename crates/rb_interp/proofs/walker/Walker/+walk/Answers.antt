@@ -1656,7 +1656,7 @@ begin_update_sent-returns-then-is_left-clause-kept g m c = λ S names size st e 
     let x = c.in-UpdateLocal in
     let s = sym (ap (λ d. fits S d names size) x.is ∙ fits-update_local S names size x.slot x.field-1 x.op x.value x.at) ∙ l.fits in
     let right : fits S c.get.result.now names size ≡ true = rw c.get.ensures (snd _ _ s) in
-    c.combine_sent-made.ensures.kept S names size st e (sub _ l right) i p q
+    c.evaluate_sent-came.ensures.kept S names size st e (sub _ l right) i p q
 
 pub begin_update_sent-returns-then-is_left-clause-came : goal.begin_update_sent-returns-then-is_left-clause-came
 begin_update_sent-returns-then-is_left-clause-came g m c = λ S start k names size st e l a.
@@ -1667,13 +1667,47 @@ begin_update_sent-returns-then-is_left-clause-came g m c = λ S start k names si
     let b = same (begins _ _ k _ _ _ (shows-update_local c.args.code.now x.slot x.field-1 x.op x.value x.at x.is) a) (target_local S x.field-1 x.op (erase x.value) x.at k (scope_of (me_of c.args.self.now.context.me) names c.args.room.now) c.args.depth c.args.self.now.left) in
     let is = c.is_combining.ensures in
     let t = c.if-is_combining.true in
+    let waits = Then (WriteTo (OfLocal x.field-1) x.at) ∷ k in
+    let step = RightOf (Int c.in-Some.m) x.op x.at in
     let g1 = gives (Int c.in-Some.m) (read_room x.field-1 names c.args.room.now x.slot (held.Int c.in-Some.m) len (fst _ _ s) c.in-Some.ensures) (rw c.get.ensures b) in
     let g2 = operates S _ start _ (Int c.in-Some.m) (OfLocal x.field-1) x.op (erase c.get.result.now) x.at (is.or_else t) (is.and_then t) g1 in
-    let y = c.combine_sent-made in
+    let w = c.evaluate_sent-came in
+    let e1 = w.ensures.came S start (Then step ∷ waits) names size st e (sub _ l right) g2 in
+    let gone = sym c.is_left.ensures ∙ c.if-is_left.true in
+    passes S _ start _ w.result w.new.self.value w.new.self.leave _ (WriteTo (OfLocal x.field-1) x.at) k _ _ _ gone
+    (passes S _ start _ w.result w.new.self.value w.new.self.leave _ step waits _ _ _ gone e1)
+
+pub begin_update_sent-returns-then-is_left-2-clause-kept : goal.begin_update_sent-returns-then-is_left-2-clause-kept
+begin_update_sent-returns-then-is_left-2-clause-kept g m c = λ S names size st e l i p q.
+    let x = c.in-UpdateLocal in
+    let s = sym (ap (λ d. fits S d names size) x.is ∙ fits-update_local S names size x.slot x.field-1 x.op x.value x.at) ∙ l.fits in
+    let right : fits S c.get.result.now names size ≡ true = rw c.get.ensures (snd _ _ s) in
+    c.evaluate_sent-came.ensures.kept S names size st e (sub _ l right) i p q
+
+pub begin_update_sent-returns-then-is_left-2-clause-came : goal.begin_update_sent-returns-then-is_left-2-clause-came
+begin_update_sent-returns-then-is_left-2-clause-came g m c = λ S start k names size st e l a.
+    let x = c.in-UpdateLocal in
+    let s = sym (ap (λ d. fits S d names size) x.is ∙ fits-update_local S names size x.slot x.field-1 x.op x.value x.at) ∙ l.fits in
+    let right : fits S c.get.result.now names size ≡ true = rw c.get.ensures (snd _ _ s) in
+    let len : length names ≤ length c.args.room.now = omega (arith, l.within, l.below, l.room) in
+    let b = same (begins _ _ k _ _ _ (shows-update_local c.args.code.now x.slot x.field-1 x.op x.value x.at x.is) a) (target_local S x.field-1 x.op (erase x.value) x.at k (scope_of (me_of c.args.self.now.context.me) names c.args.room.now) c.args.depth c.args.self.now.left) in
+    let is = c.is_combining.ensures in
+    let t = c.if-is_combining.true in
+    let waits = Then (WriteTo (OfLocal x.field-1) x.at) ∷ k in
+    let step = RightOf (Int c.in-Some.m) x.op x.at in
+    let g1 = gives (Int c.in-Some.m) (read_room x.field-1 names c.args.room.now x.slot (held.Int c.in-Some.m) len (fst _ _ s) c.in-Some.ensures) (rw c.get.ensures b) in
+    let g2 = operates S _ start _ (Int c.in-Some.m) (OfLocal x.field-1) x.op (erase c.get.result.now) x.at (is.or_else t) (is.and_then t) g1 in
+    let w = c.evaluate_sent-came in
+    let e1 = w.ensures.came S start (Then step ∷ waits) names size st e (sub _ l right) g2 in
+    let v1 = given w.result w.new.self.value w.new.self.leave (sym c.is_left.ensures ∙ c.if-is_left.false) e1 in
+    let o = c.operated_by-made.ensures in
+    let number = operator_number S x.op ∙ sym c.method_of.ensures in
     let z : to_z w64 (of_z w64 c.in-Some.m) ≡ c.in-Some.m = search rules in
-    let f = rw z at y.ensures.came in
-    let e2 = f S start (Then (WriteTo (OfLocal x.field-1) x.at) ∷ k) names size st e (sub _ l right) g2 in
-    passes S _ start _ y.result y.new.self.value y.new.self.leave _ (WriteTo (OfLocal x.field-1) x.at) k _ _ _ (sym c.is_left.ensures ∙ c.if-is_left.true) e2
+    let y = c.operated_by-made in
+    let d0 : OrMemory (outcome_of (deed w.new.self.context.program.now (Int (to_z w64 (of_z w64 c.in-Some.m))) (operator S x.op) (value_of w.result w.new.self.value ∷ []) None) x.at) (outcome y.result y.new.self.value y.new.self.leave) = o.gives (operator S x.op) number in
+    let d = rw (z, w.ensures.context, sym e) at d0 in
+    let e2 = (calls S _ start _ _ (Int c.in-Some.m) (operator S x.op) (value_of w.result w.new.self.value ∷ []) x.at waits _ _ _ _ (none_plain S (Int c.in-Some.m) (operator S x.op) refl) d (on _ v1 refl)) in
+    rw (o.left, o.store) (passes S _ start _ y.result y.new.self.value y.new.self.leave _ (WriteTo (OfLocal x.field-1) x.at) k _ _ _ (sym c.is_left-in-Some.ensures ∙ c.if-is_left-2.true) e2)
 
 pub begin_update_sent-returns-in-Some-clause-kept : goal.begin_update_sent-returns-in-Some-clause-kept
 begin_update_sent-returns-in-Some-clause-kept g m c = λ S names size st e l i p q.
@@ -1681,7 +1715,7 @@ begin_update_sent-returns-in-Some-clause-kept g m c = λ S names size st e l i p
     let s = sym (ap (λ d. fits S d names size) x.is ∙ fits-update_local S names size x.slot x.field-1 x.op x.value x.at) ∙ l.fits in
     let right : fits S c.get.result.now names size ≡ true = rw c.get.ensures (snd _ _ s) in
     let within = slot_within x.field-1 names x.slot (fst _ _ s) in
-    kept_write x.slot i _ _ _ _ (λ z. omega (arith, z, within, l.within, p)) c.write.ensures.written ∙ c.combine_sent-made.ensures.kept S names size st e (sub _ l right) i p q
+    kept_write x.slot i _ _ _ _ (λ z. omega (arith, z, within, l.within, p)) c.write.ensures.written ∙ c.evaluate_sent-came.ensures.kept S names size st e (sub _ l right) i p q
 
 pub begin_update_sent-returns-in-Some-clause-came : goal.begin_update_sent-returns-in-Some-clause-came
 begin_update_sent-returns-in-Some-clause-came g m c = λ S start k names size st e l a.
@@ -1692,15 +1726,23 @@ begin_update_sent-returns-in-Some-clause-came g m c = λ S start k names size st
     let b = same (begins _ _ k _ _ _ (shows-update_local c.args.code.now x.slot x.field-1 x.op x.value x.at x.is) a) (target_local S x.field-1 x.op (erase x.value) x.at k (scope_of (me_of c.args.self.now.context.me) names c.args.room.now) c.args.depth c.args.self.now.left) in
     let is = c.is_combining.ensures in
     let t = c.if-is_combining.true in
+    let waits = Then (WriteTo (OfLocal x.field-1) x.at) ∷ k in
+    let step = RightOf (Int c.in-Some.m) x.op x.at in
     let g1 = gives (Int c.in-Some.m) (read_room x.field-1 names c.args.room.now x.slot (held.Int c.in-Some.m) len (fst _ _ s) c.in-Some.ensures) (rw c.get.ensures b) in
     let g2 = operates S _ start _ (Int c.in-Some.m) (OfLocal x.field-1) x.op (erase c.get.result.now) x.at (is.or_else t) (is.and_then t) g1 in
-    let y = c.combine_sent-made in
+    let w = c.evaluate_sent-came in
+    let e1 = w.ensures.came S start (Then step ∷ waits) names size st e (sub _ l right) g2 in
+    let v1 = given w.result w.new.self.value w.new.self.leave (sym c.is_left.ensures ∙ c.if-is_left.false) e1 in
+    let o = c.operated_by-made.ensures in
+    let number = operator_number S x.op ∙ sym c.method_of.ensures in
     let z : to_z w64 (of_z w64 c.in-Some.m) ≡ c.in-Some.m = search rules in
-    let f = rw z at y.ensures.came in
-    let e2 = f S start (Then (WriteTo (OfLocal x.field-1) x.at) ∷ k) names size st e (sub _ l right) g2 in
-    let g3 = given y.result y.new.self.value y.new.self.leave (sym c.is_left.ensures ∙ c.if-is_left.false) e2 in
-    let after : length names ≤ length y.new.room = omega (arith, len, y.ensures.room) in
-    rw (c.write.ensures.left, c.write.ensures.store) (assigned x.field-1 (WriteTo (OfLocal x.field-1) x.at) names x.slot y.new.room c.write.new.room (value_of y.result y.new.self.value) _ _ (updating x.at) after (fst _ _ s) c.write.ensures.written g3)
+    let y = c.operated_by-made in
+    let d0 : OrMemory (outcome_of (deed w.new.self.context.program.now (Int (to_z w64 (of_z w64 c.in-Some.m))) (operator S x.op) (value_of w.result w.new.self.value ∷ []) None) x.at) (outcome y.result y.new.self.value y.new.self.leave) = o.gives (operator S x.op) number in
+    let d = rw (z, w.ensures.context, sym e) at d0 in
+    let e2 = (calls S _ start _ _ (Int c.in-Some.m) (operator S x.op) (value_of w.result w.new.self.value ∷ []) x.at waits _ _ _ _ (none_plain S (Int c.in-Some.m) (operator S x.op) refl) d (on _ v1 refl)) in
+    let g3 = given y.result y.new.self.value y.new.self.leave (sym c.is_left-in-Some.ensures ∙ c.if-is_left-2.false) e2 in
+    let after : length names ≤ length w.new.room = omega (arith, len, w.ensures.room) in
+    rw (c.write.ensures.left, c.write.ensures.store, o.left, o.store) (assigned x.field-1 (WriteTo (OfLocal x.field-1) x.at) names x.slot w.new.room c.write.new.room (value_of y.result y.new.self.value) _ _ (updating x.at) after (fst _ _ s) c.write.ensures.written g3)
 
 pub begin_operate-returns-in-Some-clause-came : goal.begin_operate-returns-in-Some-clause-came
 begin_operate-returns-in-Some-clause-came g m c = λ S start k names size st e l a.
@@ -2050,33 +2092,6 @@ combine_integer-returns-clause-kept g m c = c.evaluate-came.ensures.kept
 pub combine_integer-returns-clause-came : goal.combine_integer-returns-clause-came
 combine_integer-returns-clause-came g m c = λ S start k names size st e l a.
     let w = c.evaluate-came in
-    let step = RightOf (Int c.args.m) c.args.op c.args.at in
-    let come = w.ensures.came S start (Then step ∷ k) names size st e l a in
-    let none = sym c.is_left.ensures ∙ c.if-is_left.false in
-    let g1 = given w.result w.new.self.value w.new.self.leave none come in
-    let o = c.operated_by.ensures in
-    let number = operator_number S c.args.op ∙ sym c.method_of.ensures in
-    let z : to_z w64 (of_z w64 c.args.m) ≡ c.args.m = search rules in
-    let d0 : OrMemory (outcome_of (deed w.new.self.context.program.now (Int (to_z w64 (of_z w64 c.args.m))) (operator S c.args.op) (value_of w.result w.new.self.value ∷ []) None) c.args.at) (outcome c.operated_by.result c.operated_by.new.self.value c.operated_by.new.self.leave) = o.gives (operator S c.args.op) number in
-    let d = rw (z, w.ensures.context, sym e) at d0 in
-    rw (o.left, o.store) (calls S _ start _ _ (Int c.args.m) (operator S c.args.op) (value_of w.result w.new.self.value ∷ []) c.args.at k _ _ _ _ (none_plain S (Int c.args.m) (operator S c.args.op) refl) d (on _ g1 refl))
-
-pub combine_sent-returns-then-is_left-clause-kept : goal.combine_sent-returns-then-is_left-clause-kept
-combine_sent-returns-then-is_left-clause-kept g m c = c.evaluate_sent-came.ensures.kept
-
-pub combine_sent-returns-then-is_left-clause-came : goal.combine_sent-returns-then-is_left-clause-came
-combine_sent-returns-then-is_left-clause-came g m c = λ S start k names size st e l a.
-    let w = c.evaluate_sent-came in
-    let step = RightOf (Int c.args.m) c.args.op c.args.at in
-    let come = w.ensures.came S start (Then step ∷ k) names size st e l a in
-    passes S _ start _ w.result w.new.self.value w.new.self.leave _ step k _ _ _ (sym c.is_left.ensures ∙ c.if-is_left.true) come
-
-pub combine_sent-returns-clause-kept : goal.combine_sent-returns-clause-kept
-combine_sent-returns-clause-kept g m c = c.evaluate_sent-came.ensures.kept
-
-pub combine_sent-returns-clause-came : goal.combine_sent-returns-clause-came
-combine_sent-returns-clause-came g m c = λ S start k names size st e l a.
-    let w = c.evaluate_sent-came in
     let step = RightOf (Int c.args.m) c.args.op c.args.at in
     let come = w.ensures.came S start (Then step ∷ k) names size st e l a in
     let none = sym c.is_left.ensures ∙ c.if-is_left.false in

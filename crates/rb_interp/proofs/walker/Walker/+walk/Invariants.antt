@@ -216,9 +216,6 @@ decreases-operate_value g l = 24 * (1001 - l.depth) + 7
 abbrev pub decreases-combine_integer : goal.decreases-combine_integer
 decreases-combine_integer g l = 24 * (1001 - l.depth) + 5
 
-abbrev pub decreases-combine_sent : goal.decreases-combine_sent
-decreases-combine_sent g l = 24 * (1001 - l.depth) + 5
-
 abbrev pub decreases-combine_value : goal.decreases-combine_value
 decreases-combine_value g l = 24 * (1001 - l.depth) + 5
 
