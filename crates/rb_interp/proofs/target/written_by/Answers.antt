@@ -1,14 +1,7 @@
-use Rattle.std.proofs.Common.{◌≡◌, ◌<◌, ◌≤◌, List, [], ◌∷◌, length, sym, ap, ◌∙◌, arith}
-use Rattle.std.specs.Prelude.{slice_index_or}
-use Rattle.rb_code.specs.declared.code.Code.{Code}
+use Rattle.std.proofs.Common.{◌≡◌, [], ◌∷◌, sym, ap, ◌∙◌}
 use Rattle.rb_code.specs.declared.code.Code.TheVariants as code
+use Rattle.rb_interp.proofs.Singles.{single}
 use Rattle.rb_interp.proofs.target.written_by.Goals as goal
-
--- a list of one is its first
-single : (xs ys : List Code) (x : Code) → ys ≡ xs → 1 ≤ length ys → length ys < 2 → x ≡ slice_index_or ys 0 x → xs ≡ x ∷ []
-single xs [] x e p q f = absurd (omega (arith, p))
-single xs (y ∷ []) x e p q f = sym e ∙ ap (λ c. c ∷ []) (sym f)
-single xs (y ∷ z ∷ zs) x e p q f = absurd (omega (arith, q))
 
 pub returns : goal.returns
 returns c =
