@@ -49,6 +49,15 @@ found_is slots name zero = refl
 found_is slots name (suc n) =
     found_by slots n ((slot_at slots n).name.0 == name.0) (found_below slots name n) (place_below slots name.0 n) (found_is slots name n)
 
+-- what holds there is what the slot of that place holds
+pub found_at : (slots : List Slot) (name : NameId) (n place : ℕ) (slot : Slot) → Some place ≡ place_below slots name.0 n → slot_at slots place ≡ slot
+    → Some (record { 0 = place }, slot.kind) ≡ found_below slots name n
+found_at slots name n place slot is read =
+    ap (λ (s : Slot). Some (record { 0 = place }, s.kind)) (sym read) ∙ ap (option_map (with_kind slots)) is ∙ sym (found_is slots name n)
+
+pub found_nowhere : (slots : List Slot) (name : NameId) (n : ℕ) → None ≡ place_below slots name.0 n → None ≡ found_below slots name n
+found_nowhere slots name n is = ap (option_map (with_kind slots)) is ∙ sym (found_is slots name n)
+
 -- a place below n that has the name, with no newer one of it below n
 pub record IsNewest (slots : List Slot) (name n place : ℕ) : Type 0 where
   pub below : place < n
@@ -119,9 +128,8 @@ steps (Some place) = suc place
 
 module _ (slots : List Slot) (name : NameId) (places : ℕ) where
   -- where nothing leads on, nothing is found
-  pub leads_nowhere : (at : Option ℕ) → at ≡ None → Leads slots name.0 places at → None ≡ found_below slots name places
-  leads_nowhere at e leads =
-      sym (found_is slots name places ∙ ap (option_map (with_kind slots)) (none_below slots name.0 leads.bound places (sym leads.is ∙ e) leads.above))
+  pub leads_nowhere : (at : Option ℕ) → at ≡ None → Leads slots name.0 places at → None ≡ place_below slots name.0 places
+  leads_nowhere at e leads = sym (none_below slots name.0 leads.bound places (sym leads.is ∙ e) leads.above)
 
   module _ (at : Option ℕ) (place : ℕ) (e : at ≡ Some place) (leads : Leads slots name.0 places at) where
     is : IsNewest slots name.0 leads.bound place
@@ -131,10 +139,8 @@ module _ (slots : List Slot) (name : NameId) (places : ℕ) where
     leads_within = omega (arith, is.below, leads.within)
 
     -- a place below the bound is the one
-    pub leads_here : (slot : Slot) → slot_at slots place ≡ slot → place < places → Some (record { 0 = place }, slot.kind) ≡ found_below slots name places
-    leads_here slot read lt =
-        ap (λ (s : Slot). Some (record { 0 = place }, s.kind)) (sym read)
-        ∙ sym (found_is slots name places ∙ ap (option_map (with_kind slots)) (is.newest places lt leads.above))
+    pub leads_here : place < places → Some place ≡ place_below slots name.0 places
+    leads_here lt = sym (is.newest places lt leads.above)
 
     -- a place behind it leads on by its link
     pub leads_on : (found : ℕ → Option ℕ) (links : List (Option ℕ)) (link : Option ℕ) → IsIndexed slots found links → link ≡ get_or links place link

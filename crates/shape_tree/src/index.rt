@@ -1,11 +1,10 @@
 // Where the names of a long table stand.
 
-ghost use Rattle.std.specs.Prelude.{◌≡◌, ◌≤◌, ◌++◌, [], ◌∷◌, length, IfOk, OnOk, OnErr};
-ghost use Rattle.shape_tree.specs.Indexes.{Gains, HasIndex, IsIndex, StaysIndex};
-ghost use Rattle.shape_tree.specs.Slots.{found_below};
+ghost use Rattle.std.specs.Prelude.{◌≡◌, ◌<◌, ◌≤◌, ◌++◌, [], ◌∷◌, length, IfSome, IfOk, OnOk, OnErr};
+ghost use Rattle.shape_tree.specs.Indexes.{Gains, HasIndex, IsIndex, StaysIndex, place_below};
 
 use crate::table::Slot;
-use shape_core::{Kind, NameId, Place};
+use shape_core::NameId;
 use std::alloc::{AllocError, Global};
 use std::collections::HashMap;
 
@@ -46,17 +45,20 @@ impl Index {
         Ok(())
     }
 
-    /// The newest of the first places that was given to the name.
+    /// The newest of the first places that was given to the name. A place alone is answered in registers.
     #[inline(never)]
-    pub fn find(&self, slots: &[Slot], places: usize, name: NameId) -> Option<(Place, Kind)>
+    pub fn find(&self, slots: &[Slot], places: usize, name: NameId) -> Option<usize>
         requires index { IsIndex slots.now self.now }
         requires within { places ≤ length slots.now }
-        ensures { result ≡ found_below slots.now name places }
+        ensures newest { result ≡ place_below slots.now name.0 places }
+        ensures below { IfSome result (λ place. place < places) }
     {
+        // The slots say which index it is, and are not read.
+        let _ = slots;
         let mut at = self.newest.get(&name.0).copied();
         while let Some(place) = at {
             if place < places {
-                return Some((Place(place as u64), slots[place].kind));
+                return Some(place);
             }
             at = self.earlier[place];
         }

@@ -103,7 +103,10 @@ impl Table {
         ensures { result ≡ found_below self.now name places }
     {
         match &self.index {
-            Some(index) if places > SHORT => index.find(&self.slots, places, name),
+            Some(index) if places > SHORT => {
+                let place = index.find(&self.slots, places, name)?;
+                Some((Place(place as u64), self.slots[place].kind))
+            }
             _ => newest(&self.slots, places, name),
         }
     }

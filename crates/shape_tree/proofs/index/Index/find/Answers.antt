@@ -1,13 +1,10 @@
 use Rattle.std.proofs.Common.{arith, ◌∙◌, length}
-use Rattle.std.proofs.lemmas.List.{get_or_default}
 use Rattle.shape_tree.proofs.Indexed.{leads_nowhere, leads_within, leads_here, leads_on, steps_on}
 use Rattle.shape_tree.proofs.index.Index.find.Goals as goal
 
-pub returns-then-place-places : goal.returns-then-place-places
-returns-then-place-places c =
-    let within = leads_within c.args.slots.now c.args.name c.args.places c.loop-at.at c.in-Some.place c.in-Some.is c.loop-at.invariant in
-    leads_here c.args.slots.now c.args.name c.args.places c.loop-at.at c.in-Some.place c.in-Some.is c.loop-at.invariant _
-    (get_or_default c.args.slots.now c.in-Some.place _ _ within) c.if-place-places.true
+pub returns-then-place-places-clause-newest : goal.returns-then-place-places-clause-newest
+returns-then-place-places-clause-newest c =
+    leads_here c.args.slots.now c.args.name c.args.places c.loop-at.at c.in-Some.place c.in-Some.is c.loop-at.invariant c.if-place-places.true
 
 pub index-at-requires : goal.index-at-requires
 index-at-requires c =
@@ -31,8 +28,5 @@ loop-at-init c = record {
   is = c.copied-at.ensures ∙ c.get.ensures.value ∙ c.requires.index.newest c.args.name.0;
 }
 
-pub bounds-slots-place : goal.bounds-slots-place
-bounds-slots-place c = leads_within c.args.slots.now c.args.name c.args.places c.loop-at.at c.in-Some.place c.in-Some.is c.loop-at.invariant
-
-pub returns : goal.returns
-returns c = leads_nowhere c.args.slots.now c.args.name c.args.places c.loop-at.at c.in_default.is c.loop-at.invariant
+pub returns-clause-newest : goal.returns-clause-newest
+returns-clause-newest c = leads_nowhere c.args.slots.now c.args.name c.args.places c.loop-at.at c.in_default.is c.loop-at.invariant
