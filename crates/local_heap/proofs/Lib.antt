@@ -15,3 +15,4 @@ pub mod Callers
 pub mod Walking
 pub mod Agreeing
 pub mod Reading
+pub mod Adding

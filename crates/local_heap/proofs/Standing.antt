@@ -5,6 +5,7 @@ use Rattle.std.specs.Option.{option_map}
 use Rattle.std.proofs.lemmas.Bool.Decides.{nat_tests}
 use Rattle.std.proofs.lemmas.List.{map_push, map-set, set-get_or}
 use Rattle.std.proofs.lemmas.Option.{slice_get_read}
+use Rattle.rb_tree.specs.declared.span.NameId.{NameId}
 use Rattle.rb_model.specs.declared.act.Reply.{Reply as Answered}
 use Rattle.rb_model.specs.declared.act.Reply.TheVariants as answered
 use Rattle.rb_model.specs.declared.value.Id.{Id}
@@ -465,7 +466,7 @@ module _ (thread : ℕ) (shapes : List Shape) (cells : List Cell) (h : Private) 
 
   module _ (id : Id) (found : Option Cell) (is_found : found ≡ cell_at thread cells id) where
     -- what is held there is what the cell has
-    held_there : held h id ≡ option_and_then (still shapes home) found
+    pub held_there : held h id ≡ option_and_then (still shapes home) found
     held_there =
         ap (λ (g : Private). held g id) (sym is)
         ∙ by (id.thread == thread) (slice_get cells id.serial) (map_there (still shapes home) cells id.serial)
@@ -640,7 +641,20 @@ module _ (thread : ℕ) (shapes : List Shape) (cells : List Cell) (h : Private) 
             (λ v list told at later now does. done_cells id (list_here list at) c read c' (listed list) later (ap contents at) now (Put i v) was_done does)
         or_not false not_done = by c refl (subst (λ d. CellPuts d c i value c') not_done puts)
 
-  -- a read of an element or of a key, and a count, leave the heap as it was
+  -- a read of a field, of an element or of a key, and a count, leave the heap as it was
+  pub fields_only : (id : Id) (name : NameId) → Becomes h id (GetField name) h
+  fields_only id name x e = idle id (GetField name) x e (by x) (shaped (shape_held h id))
+    where
+      by : (t : Thing) → becomes t (GetField name) ≡ t
+      by (thing.Object c fs) = refl
+      by (thing.Elements vs) = refl
+      by (thing.Pairs ps) = refl
+      by (thing.Mutex o) = refl
+
+      shaped : (s : Option Shape) → option_map (shape_behind (GetField name)) s ≡ s
+      shaped None = refl
+      shaped (Some shape) = refl
+
   pub reads_only : (id : Id) (i : ℤ) → Becomes h id (At i) h
   reads_only id i x e = idle id (At i) x e (by x) (shape_stays (At i) refl (shape_held h id))
     where

@@ -1,5 +1,5 @@
 -- The fields of an object: its path, and what stands at its places.
-use Rattle.std.specs.Prelude.{◌≡◌, ℕ, Bool, true, false, List, [], ◌∷◌, map, Option, Some, None}
+use Rattle.std.specs.Prelude.{◌≡◌, ℕ, ℤ, Bool, true, false, List, [], ◌∷◌, map, Option, Some, None}
 use Rattle.std.specs.Option.{option_map}
 use Rattle.rb_tree.specs.declared.span.NameId.{NameId}
 use Rattle.rb_model.specs.Values.{Value as Val, Nil, Int}
@@ -10,7 +10,7 @@ use Rattle.shape_core.specs.declared.edge.Edge.{Edge}
 use Rattle.shape_core.specs.declared.edge.Edge.TheVariants.{Add, Widen, Share}
 use Rattle.shape_core.specs.declared.facts.Place.{Place}
 use Rattle.shape_core.specs.Path.{Path, find_on, kind_on, names_on}
-use Rattle.local_heap.specs.Words.{integer_of, any_of}
+use Rattle.local_heap.specs.Words.{IsSum, integer_of, any_of}
 use Rattle.local_heap.specs.Slots.{Home, Standing, IsWord, meaning}
 
 -- the name that an edge adds, if it adds one
@@ -37,6 +37,15 @@ wide_in path name = option_map is_any (kind_on path name)
 abbrev pub field_found : Home → (ℕ → Standing) → NameId → Option (Place × Kind) → Field
 field_found home slots name None = record { name = name; value = Nil; wide = false }
 field_found home slots name (Some found) = record { name = name; value = value_by home found.1 (slots found.0.0); wide = is_any found.1 }
+
+-- The sum of an integer and the field of a name, by where it was found. There is none but where its place holds integers alone.
+abbrev pub IsSumBy : Kind → Standing → ℤ → Option ℤ → Type 0
+IsSumBy IntLoc slot n sum = IsSum slot.word n sum
+IsSumBy AnyLoc slot n sum = sum ≡ None
+
+abbrev pub IsSumFound : (ℕ → Standing) → Option (Place × Kind) → ℤ → Option ℤ → Type 0
+IsSumFound slots None n sum = sum ≡ None
+IsSumFound slots (Some found) n sum = IsSumBy found.1 (slots found.0.0) n sum
 
 abbrev pub field_of : Home → Path → (ℕ → Standing) → NameId → Field
 field_of home path slots name = field_found home slots name (find_on path name)

@@ -1,5 +1,5 @@
 -- What the words of places stand for, as functions of the word.
-use Rattle.std.specs.Prelude.{ℕ, suc, ◌-◌, ◌^◌, ◌/◌, ◌%◌, ◌==◌, nat_lt, if◌then◌else◌, ℤ, pos, negsuc}
+use Rattle.std.specs.Prelude.{ℕ, suc, ◌-◌, ◌^◌, ◌/◌, ◌%◌, ◌==◌, nat_lt, if◌then◌else◌, ℤ, ◌+ℤ◌, pos, negsuc, Option, SomeIff, FitsSigned}
 use Rattle.std.specs.Int.{cast_signed, w64}
 use Rattle.typed_location.specs.declared.general_place.Any.{Any}
 use Rattle.typed_location.specs.declared.general_place.Any.TheVariants.{Nil, False, True, Small, Sym, Text, Boxed, Thing}
@@ -7,6 +7,10 @@ use Rattle.typed_location.specs.declared.general_place.Any.TheVariants.{Nil, Fal
 -- the integer in a place for integers alone
 abbrev pub integer_of : ℕ → ℤ
 integer_of word = cast_signed w64 word
+
+-- the sum of that integer and another, which is there exactly where it has 64 bits
+abbrev pub IsSum : ℕ → ℤ → Option ℤ → Type 0
+IsSum word n sum = SomeIff sum (FitsSigned w64 (integer_of word +ℤ n)) (integer_of word +ℤ n)
 
 -- the integer with this two's complement of 61 bits
 abbrev pub small_of : ℕ → ℤ

@@ -91,6 +91,7 @@ impl<S: ShapeStore> LocalHeap<S> {
     }
 
     /// Makes a thing, under the next number.
+    #[inline(always)]
     pub fn make(&mut self, make: Make) -> Result<Ref, AllocError>
         ensures id { IfOk result (λ thing. thing.id ≡ next_id self.old) }
         ensures sort { IfOk result (λ thing. thing.sort ≡ sort_of make) }

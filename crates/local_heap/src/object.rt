@@ -1,19 +1,19 @@
 // One object over a shape store.
 
-ghost use Rattle.std.specs.Prelude.{◌≡◌, ◌<◌, ◌++◌, ◌∷◌, [], length, map, Some, None, IfOk, OnOk, OnErr, true, false};
+ghost use Rattle.std.specs.Prelude.{◌≡◌, ◌<◌, ◌++◌, ◌∷◌, [], length, map, Some, None, IfSome, IfOk, OnOk, OnErr, true, false};
 ghost use Rattle.rb_model.specs.Acts.{Done};
 ghost use Rattle.rb_model.specs.Doing.{said};
-ghost use Rattle.rb_model.specs.Values.{plain};
+ghost use Rattle.rb_model.specs.Values.{Int, plain};
 ghost use Rattle.rb_model.specs.Things.{is_integer};
 ghost use Rattle.shape_core.specs.Path.{MayFollow, find_on};
 ghost use Rattle.shape_core.specs.Shape.{Gains, Has, child_of, path_at, shape_at};
 ghost use Rattle.typed_location.specs.Word.{twos_complement};
 ghost use Rattle.local_heap.specs.Memory.{is_kept, write_wants};
-ghost use Rattle.local_heap.specs.Slots.{Puts};
-ghost use Rattle.local_heap.specs.Fields.{wide_in};
+ghost use Rattle.local_heap.specs.Slots.{Puts, slot_at};
+ghost use Rattle.local_heap.specs.Fields.{IsSumFound, wide_in};
 ghost use Rattle.local_heap.specs.Cells.{IsObject, Written, Unwritten};
 
-use crate::row::{Words, set_word, settle};
+use crate::row::{Words, add_to_word, set_word, settle};
 use crate::slot::{Slot, Whose, slot_for};
 use rb_model::{Reply, Value};
 use rb_tree::NameId;
@@ -48,6 +48,20 @@ impl Object {
     {
         self.write(shapes, name, value, whose)?;
         Ok(Reply::Done)
+    }
+
+    /// Adds an integer to a field, where its place holds integers alone and the sum is one. Else nothing is done. Answers the sum.
+    #[inline(always)]
+    pub fn add_to_field<S: ShapeStore>(&mut self, shapes: &S, name: NameId, n: i64) -> Option<i64>
+        requires { IsObject (S.shapes shapes.now) self.old }
+        ensures sum { IsSumFound (slot_at self.old) (find_on (path_at (S.shapes shapes.now) self.old.shape) name) n result }
+        ensures written { IfSome result (λ sum. Written (S.shapes shapes.now) self.old name (Int sum) Whose.Others (S.shapes shapes.now) self.new) }
+        ensures kept { result ≡ None → self.new ≡ self.old }
+    {
+        match shapes.find(self.shape, name) {
+            Some((place, Kind::IntLoc)) => add_to_word(&mut self.words, place.0 as usize, n),
+            _ => None,
+        }
     }
 
     /// Gives a field a value.

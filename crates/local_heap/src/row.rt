@@ -1,12 +1,15 @@
 // The values of an object that words have no room for, by place, and its words.
 
-ghost use Rattle.std.specs.Prelude.{◌≡◌, ◌≢◌, ◌<◌, ◌≤◌, length, map, set, IfOk, OnOk, OnErr, true};
+ghost use Rattle.std.specs.Prelude.{◌≡◌, ◌≢◌, ◌<◌, ◌≤◌, length, map, set, slice_index, None, IfSome, IfOk, OnOk, OnErr, true};
 ghost use Rattle.rb_model.specs.Values.{is_text, plain, Nil};
+ghost use Rattle.typed_location.specs.Word.{twos_complement};
+ghost use Rattle.local_heap.specs.Words.{IsSum};
 ghost use Rattle.local_heap.specs.Slots.{Puts, Alike, whole_at};
 
 use rb_model::Value;
 use smallvec::SmallVec;
 use std::alloc::AllocError;
+use typed_location::{from_int_word, to_int_word};
 
 /// The words of an object. Few lie in the object itself.
 pub type Words = SmallVec<u64, 3>;
@@ -19,6 +22,19 @@ pub fn set_word(words: &mut Words, at: usize, word: u64)
     if let Some(place) = words.get_mut(at) {
         *place = word;
     }
+}
+
+/// Adds an integer to the one whose word a place has, where the sum is an integer. Else nothing is done. Answers the sum.
+#[inline(always)]
+pub fn add_to_word(words: &mut Words, at: usize, n: i64) -> Option<i64>
+    requires { at < length words.old.items }
+    ensures sum { IsSum (slice_index words.old.items at) n result }
+    ensures written { IfSome result (λ sum. words.new.items ≡ set words.old.items at (twos_complement 64 sum)) }
+    ensures kept { result ≡ None → words.new ≡ words.old }
+{
+    let sum = from_int_word(words[at]).checked_add(n)?;
+    set_word(words, at, to_int_word(sum));
+    Some(sum)
 }
 
 /// Gives a place of a row a value. A row has nil at all places behind its last, so that nil needs no room.

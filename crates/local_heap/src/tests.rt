@@ -8,6 +8,7 @@ ghost use Rattle.rb_model.specs.Private.{held};
 mod deeds;
 mod hashes;
 mod lists;
+mod sums;
 
 use crate::LocalHeap;
 use crate::row::settle;

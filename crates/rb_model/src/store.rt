@@ -1,8 +1,8 @@
 // What one thread works on.
 
-ghost use Rattle.std.specs.Prelude.{◌≡◌, ◌≤◌, true, false, ℕ, is_some, IsSome, IfSome, IfOk, OnOk, OnErr};
-ghost use Rattle.rb_model.specs.Values.{plain};
-ghost use Rattle.rb_model.specs.Acts.{At, KGet, Put};
+ghost use Rattle.std.specs.Prelude.{◌≡◌, ◌≤◌, ◌-ℤ◌, None, true, false, ℕ, is_some, IsSome, IfSome, IfOk, OnOk, OnErr};
+ghost use Rattle.rb_model.specs.Values.{Int, plain};
+ghost use Rattle.rb_model.specs.Acts.{At, GetField, KGet, Put, SetField};
 ghost use Rattle.rb_model.specs.Acts as answer;
 ghost use Rattle.rb_model.specs.Doing.{doing, said, made, sort_of};
 ghost use Rattle.rb_model.specs.Immediates.{told_answer, list_answered, reference, value_told};
@@ -14,6 +14,7 @@ use crate::act::{Act, Make, Reply};
 use crate::call::{Answer, Call};
 use crate::immediate::Immediate;
 use crate::value::{Id, Ref, Value};
+use rb_tree::NameId;
 use std::alloc::AllocError;
 
 /// Where one thread prints and ends.
@@ -90,6 +91,17 @@ pub trait ThreadStore {
         ensures private { result ≡ true → IfSome (value_told value) (λ v. Becomes (private self.old) id (Put index v) (private self.new)) }
         ensures told { result ≡ true → is_some (value_told value) ≡ true }
         ensures kept { result ≡ false → private self.new ≡ private self.old }
+        ensures log { log self.new ≡ log self.old };
+
+    /// Adds an integer to a field of an object that is private here, where its place holds integers alone and the sum is one. Else nothing is
+    /// done. Answers the sum.
+    fn add_to_field(&mut self, id: Id, name: NameId, n: i64) -> Option<i64>
+        ensures there { IfSome result (λ sum. is_some (held (private self.old) id) ≡ true) }
+        ensures gave { IfSome result (λ sum. Gives (private self.old) id (GetField name) (answer.Value (Int (sum -ℤ n)))) }
+        ensures read { Becomes (private self.old) id (GetField name) (private self.old) }
+        ensures gives { IfSome result (λ sum. Gives (private self.old) id (SetField name (Int sum)) answer.Done) }
+        ensures private { IfSome result (λ sum. Becomes (private self.old) id (SetField name (Int sum)) (private self.new)) }
+        ensures none { result ≡ None → private self.new ≡ private self.old }
         ensures log { log self.new ≡ log self.old };
 
     /// Does what is asked of a thing that is private here.

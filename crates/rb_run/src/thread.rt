@@ -1,8 +1,8 @@
 // What the main thread works on.
 
-ghost use Rattle.std.specs.Prelude.{◌≡◌, is_some, IsSome, IfSome, IfOk, OnOk, OnErr, true, false};
-ghost use Rattle.rb_model.specs.Values.{plain};
-ghost use Rattle.rb_model.specs.Acts.{At, KGet, Put};
+ghost use Rattle.std.specs.Prelude.{◌≡◌, ◌-ℤ◌, None, is_some, IsSome, IfSome, IfOk, OnOk, OnErr, true, false};
+ghost use Rattle.rb_model.specs.Values.{Int, plain};
+ghost use Rattle.rb_model.specs.Acts.{At, GetField, KGet, Put, SetField};
 ghost use Rattle.rb_model.specs.Acts as answer;
 ghost use Rattle.rb_model.specs.Doing.{doing, said, made, sort_of};
 ghost use Rattle.rb_model.specs.Immediates.{list_answered, reference, told_answer, value_told};
@@ -12,6 +12,7 @@ ghost use Rattle.rb_model.specs.Log.{Answers, is_sure, has_end, asked};
 
 use local_heap::LocalHeap;
 use rb_model::{Act, Answer, Call, Id, Immediate, Make, OneStore, Ref, Reply, ThreadStore, Value};
+use rb_tree::NameId;
 use shape_tree::ShapeStore;
 use std::alloc::AllocError;
 
@@ -100,6 +101,19 @@ impl<O: OneStore, S: ShapeStore> ThreadStore for MainThread<O, S> {
         ensures log { O.log self.new.calls ≡ O.log self.old.calls }
     {
         self.things.put_immediate(id, index, value)
+    }
+
+    #[inline(always)]
+    fn add_to_field(&mut self, id: Id, name: NameId, n: i64) -> Option<i64>
+        ensures there { IfSome result (λ sum. is_some (held self.old.things id) ≡ true) }
+        ensures gave { IfSome result (λ sum. Gives self.old.things id (GetField name) (answer.Value (Int (sum -ℤ n)))) }
+        ensures read { Becomes self.old.things id (GetField name) self.old.things }
+        ensures gives { IfSome result (λ sum. Gives self.old.things id (SetField name (Int sum)) answer.Done) }
+        ensures private { IfSome result (λ sum. Becomes self.old.things id (SetField name (Int sum)) self.new.things) }
+        ensures none { result ≡ None → self.new.things ≡ self.old.things }
+        ensures log { O.log self.new.calls ≡ O.log self.old.calls }
+    {
+        self.things.add_to_field(id, name, n)
     }
 
     #[inline(always)]

@@ -1,8 +1,8 @@
-// Reads of lists and hashes, and a write, that look up nothing but the thing.
+// Reads of lists and hashes, and writes, that look up nothing but the thing and its shape.
 
-ghost use Rattle.std.specs.Prelude.{◌≡◌, is_some, pos, true, false, IfSome, IfOk, OnErr};
+ghost use Rattle.std.specs.Prelude.{◌≡◌, ◌-ℤ◌, None, is_some, pos, true, false, IfSome, IfOk, OnErr};
 ghost use Rattle.rb_model.specs.Values.{Int, plain};
-ghost use Rattle.rb_model.specs.Acts.{At, KGet, Len, Put};
+ghost use Rattle.rb_model.specs.Acts.{At, GetField, KGet, Len, Put, SetField};
 ghost use Rattle.rb_model.specs.Acts as answer;
 ghost use Rattle.rb_model.specs.Immediates.{list_answered, reference, told_answer, value_told};
 ghost use Rattle.std.specs.Option.{option_map};
@@ -11,7 +11,9 @@ ghost use Rattle.local_heap.specs.Memory.{MayWant};
 ghost use Rattle.local_heap.specs.Contents.{has_length, is_list};
 
 use super::LocalHeap;
+use crate::cells::Cell;
 use rb_model::{Id, Immediate, Ref, Value};
+use rb_tree::NameId;
 use shape_core::ShapeStore;
 use std::alloc::AllocError;
 
@@ -84,6 +86,30 @@ impl<S: ShapeStore> LocalHeap<S> {
             return false;
         }
         self.cells.items[at].put_immediate(index, value)
+    }
+
+    /// Adds an integer to a field of an object that is private here, where its place holds integers alone and the sum is one. Else nothing is
+    /// done. Answers the sum. Nothing is allocated.
+    #[inline(always)]
+    pub fn add_to_field(&mut self, id: Id, name: NameId, n: i64) -> Option<i64>
+        ensures there { IfSome result (λ sum. is_some (held self.old id) ≡ true) }
+        ensures gave { IfSome result (λ sum. Gives self.old id (GetField name) (answer.Value (Int (sum -ℤ n)))) }
+        ensures read { Becomes self.old id (GetField name) self.old }
+        ensures gives { IfSome result (λ sum. Gives self.old id (SetField name (Int sum)) answer.Done) }
+        ensures private { IfSome result (λ sum. Becomes self.old id (SetField name (Int sum)) self.new) }
+        ensures none { result ≡ None → self.new ≡ self.old }
+    {
+        if self.cells.thread != id.thread {
+            return None;
+        }
+        let at = id.serial as usize;
+        if at >= self.cells.items.len() {
+            return None;
+        }
+        match &mut self.cells.items[at] {
+            Cell::Object(object) => object.add_to_field(&self.shapes, name, n),
+            _ => None,
+        }
     }
 
     /// How many elements a list has, or how many pairs a hash, that is private here; `None` where the id is of no such thing.
