@@ -1,13 +1,16 @@
 -- Methods that only read or write an instance variable.
-use Rattle.std.proofs.Common.{◌≡◌, ℕ, suc, ◌+◌, ◌-◌, ◌<◌, ◌≤◌, true, cond, List, [], ◌∷◌, length, map, Some, None, refl, sym, ap, ◌∙◌, subst, arith}
-use Rattle.std.specs.Prelude.{nat_eq}
+use Rattle.std.proofs.Common.{◌≡◌, ℕ, suc, ◌+◌, ◌-◌, ◌<◌, ◌≤◌, true, cond, List, [], ◌∷◌, length, map, Option, Some, None, Result, Ok, Err, refl, sym, ap, ◌∙◌, subst, arith}
+use Rattle.std.specs.Prelude.{nat_eq, IsSomeAnd, IfErr}
 use Rattle.rb_tree.specs.declared.span.Span.{Span}
 use Rattle.rb_tree.specs.declared.span.NameId.{NameId}
 use Rattle.rb_tree.specs.declared.node.Node.{Node}
 use Rattle.rb_tree.specs.declared.node.Node.TheOpen as node
 use Rattle.rb_tree.specs.declared.node.Param.{Param}
 use Rattle.rb_model.specs.declared.fault.Fault.TheVariants.{ArgumentCount}
-use Rattle.rb_model.specs.Values.{Value as Val, Nil}
+use Rattle.rb_model.specs.Values.{Value as Val, Nil, plain}
+use Rattle.rb_model.specs.declared.value.Ref.{Ref}
+use Rattle.rb_model.specs.declared.value.Sort.TheVariants as sort
+use Rattle.rb_model.specs.declared.value.Value.TheVariants as held
 use Rattle.rb_model.specs.declared.value.Value.{Value as Held}
 use Rattle.rb_model.specs.Acts.{GetField}
 use Rattle.rb_model.specs.Ends as ending
@@ -20,23 +23,45 @@ use Rattle.rb_machine.specs.Follows.{At}
 use Rattle.rb_code.specs.declared.code.Code.{Code}
 use Rattle.rb_code.specs.declared.code.Code.TheVariants as code
 use Rattle.rb_code.specs.declared.scripted.CodeMethod.{CodeMethod}
+use Rattle.rb_code.specs.declared.scripted.CodeScript.{CodeScript}
+use Rattle.rb_code.specs.Dispatch.{method_by}
 use Rattle.rb_code.specs.Erase.{erase, erase_method}
 use Rattle.rb_code.specs.Layout.{bound, has_slot}
 use Rattle.rb_code.specs.Resolved.{every, fits, method_fits}
 use Rattle.rb_code.proofs.Slots.{read_slot}
-use Rattle.rb_code.proofs.Showing.{shows-local, shows-set_field}
-use Rattle.rb_code.proofs.Fitting.{fits-local, fits-set_field}
-use Rattle.rb_interp.specs.Outcome.{Outcome, Gave, Left, Over, Came}
+use Rattle.rb_code.proofs.Showing.{shows-local, shows-send, shows-set_field}
+use Rattle.rb_code.proofs.Fitting.{fits-local, fits-send, fits-set_field}
+use Rattle.rb_builtin.specs.declared.builtin.Builtin.{Builtin}
+use Rattle.rb_interp.specs.declared.came.Came.{Came as Registers}
+use Rattle.rb_interp.specs.declared.came.Leave.{Leave}
+use Rattle.rb_interp.specs.Outcome.{Outcome, Gave, Left, Over, Came, IsOver, fetched, outcome}
 use Rattle.rb_interp.specs.Carries.{scope_of, call_exit}
 use Rattle.rb_interp.specs.Answers.{IsHeld}
 use Rattle.rb_interp.specs.Methods.{method_for}
 use Rattle.rb_interp.specs.Objects.{Asks, WritesField, plainly}
-use Rattle.rb_interp.specs.Readers.{Reads, Writes}
+use Rattle.rb_interp.specs.Readers.{IsReader, Reads, Writes}
 use Rattle.rb_interp.proofs.Lists.{fst, snd}
 use Rattle.rb_interp.proofs.Objects.{fielded_by}
 use Rattle.rb_interp.proofs.Moves.{on, same, begins, counts, gives, left}
 use Rattle.rb_interp.proofs.Frames.{by_receiver}
 use Rattle.rb_interp.proofs.Outcomes.{called}
+use Rattle.rb_interp.proofs.Targets.{target_is}
+
+-- the reader that the table has for a name is the one that it finds for an object
+pub reader_is : (c : CodeScript) (object : Ref) (class : ℕ) (name field : NameId) (place : Span) → object.sort ≡ sort.Object class
+    → IsSomeAnd (method_by c name class) (λ m. Reads m field place) → IsReader c (plain (held.Ref object)) name object field place
+reader_is c object class name field place e is = by (method_by c name class) refl is
+  where
+    by : (o : Option CodeMethod) → method_by c name class ≡ o → IsSomeAnd o (λ m. Reads m field place) → IsReader c (plain (held.Ref object)) name object field place
+    by None f none = absurd none
+    by (Some m) f reads =
+        let t = target_is c object class name m e f in
+        record {
+          method = m;
+          me = t.me;
+          finds = t.finds;
+          reads = reads;
+        }
 
 module _ (S : Script) (N : ℕ) (start : State) (h : Private) where
   -- a value behind which no statement stands is the body's
@@ -89,6 +114,28 @@ module _ (S : Script) (N : ℕ) (start : State) (h h' : Private) where
       let e2 = same (on _ (on _ e1 refl) refl) (by_receiver S v to (text_of S name) (erase_method m) [] at k sc d (n - 1) finds object) in
       let asked : Asks N to (GetField field) place (n - 1 - 1) l h h' o = rw twice asks in
       rw twice at (enters_reader l k sc d (n - 1) to m field place at o r (omega (arith, more)) deep asked e2)
+
+  -- and where the code that sends it is evaluated
+  pub evaluates_reader : (l : Log) (k : List Cont) (me : Val) (names : List NameId) (size d n : ℕ) (room : List Held) (c : Code) (method : Option Builtin) (name : NameId) (receiver : Code) (args : List Code) (at : Span) (v to : Val) (m : CodeMethod) (field : NameId) (place : Span) (o : Outcome)
+      → c ≡ code.Send method name receiver args at → args ≡ []
+      → v ≡ to → method_for S v name ≡ Some (erase_method m) → Reads m field place → fits S c names size ≡ true → length names ≤ length room → 2 < n → d < 999
+      → IsHeld receiver room v → Asks N to (GetField field) place (n - 3) l h h' o → call_exit o ≡ o
+      → At S 0 N start l h (On (Eval (erase c)) k (scope_of me names room) d n)
+      → Came S N start l h' o k (scope_of me names room) d (n - 3)
+  evaluates_reader l k me names size d n room c method name receiver args at v to m field place o is none object finds r f len more deep held asks exit a =
+      let sc = scope_of me names room in
+      let s = sym (ap (λ d. fits S d names size) is ∙ fits-send S names size method name receiver args at) ∙ f in
+      let b = begins _ _ (Under d ∷ k) _ _ _ (shows-send c method name receiver args at is) (counts (omega (arith, more)) (omega (arith, deep)) a) in
+      let sent = same b (ap (λ args. On (Eval (erase receiver)) (Then (ReceiverOf (text_of S name) (map erase args) None at) ∷ Under d ∷ k) sc (d + 1) (n - 1)) none) in
+      let three : n - 1 - 2 ≡ n - 3 = omega arith in
+      let asked : Asks N to (GetField field) place (n - 1 - 2) l h h' o = rw three asks in
+      let come = sends_reader l (Under d ∷ k) me names size (d + 1) (n - 1) room name receiver at v to m field place o object finds r (fst _ _ (snd _ _ s)) len (omega (arith, more)) (omega (arith, deep)) held asked sent in
+      left S N start h' l o k sc d (d + 1) (n - 3) (rw (three, exit) at come)
+
+-- what is fetched is what a call gives
+pub fetched_exit : (r : Result Held Registers) (v : Held) (l : Leave) → IfErr r (λ c. IsOver (outcome c v l)) → call_exit (fetched r v l) ≡ fetched r v l
+fetched_exit (Ok x) v l over = refl
+fetched_exit (Err c) v l over = ap call_exit over.1 ∙ sym over.1
 
 -- nil in each slot
 abbrev nils : List NameId → List Val

@@ -13,3 +13,4 @@ pub mod Answers
 pub mod Elements
 pub mod Ending
 pub mod Questions
+pub mod Dispatch

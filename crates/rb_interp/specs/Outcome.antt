@@ -1,5 +1,5 @@
 -- How a part of a script comes out, and where the machine then stands.
-use Rattle.std.specs.Prelude.{◌≡◌, ℕ, Bool, true, false, List, []}
+use Rattle.std.specs.Prelude.{◌≡◌, ℕ, Bool, true, false, List, [], Result, Ok, Err}
 use Rattle.rb_model.specs.Values.{Value as Val, Nil, False, True, Int, plain}
 use Rattle.rb_model.specs.declared.value.Value.{Value as Held}
 use Rattle.rb_model.specs.Ends.{End, over}
@@ -55,6 +55,15 @@ left_by (leave.Over e) v = Over (over e)
 abbrev pub outcome : Registers → Held → Leave → Outcome
 outcome came.Left v l = left_by l v
 outcome c v l = Gave (value_of c v)
+
+-- what comes of a value that no one keeps, or of what came instead
+abbrev pub fetched : Result Held Registers → Held → Leave → Outcome
+fetched (Ok value) v l = Gave (plain value)
+fetched (Err c) v l = outcome c v l
+
+-- the thread has ended
+abbrev pub IsOver : Outcome → Type 0
+IsOver o = (e : End) × (o ≡ Over e)
 
 -- Where the machine of the main thread then stands: it gives the value, it leaves, or it has ended; a cut by memory stands somewhere on
 -- the way to the next want, and a refused print in place of that print.

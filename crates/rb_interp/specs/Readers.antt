@@ -49,6 +49,14 @@ SendsTo script program N me receiver method name at depth left left' room log lo
     → At S 0 N start log own (On (Eval (erase receiver)) (Then (ReceiverOf (text_of S name) [] None at) ∷ k) (scope_of me names room) depth left)
     → Came S N start log' own' o k (scope_of me names room) depth left'
 
+-- From where code is evaluated, the machine comes to the outcome, and no slot is another.
+abbrev pub EvaluatesTo : CodeScript → Program → ℕ → Val → Code → (depth left left' : ℕ) → List Held → (log log' : Log) → (own own' : Private) → Outcome → Type 0
+EvaluatesTo script program N me code depth left left' room log log' own own' o =
+    (S : Script) (start : State) (k : List Cont) (names : List NameId) (size : ℕ)
+    → StandsFor script S → S.program ≡ program → fits S code names size ≡ true → length names ≤ length room
+    → At S 0 N start log own (On (Eval (erase code)) k (scope_of me names room) depth left)
+    → Came S N start log' own' o k (scope_of me names room) depth left'
+
 -- a method with one parameter gives it to this variable at this place, and does nothing else
 pub record Writes (m : CodeMethod) (field : NameId) (place : Span) : Type 0 where
   pub params : length m.params ≡ 1

@@ -9,8 +9,8 @@ ghost use Rattle.rb_interp.specs.Answers.{is_thing};
 ghost use Rattle.rb_interp.specs.Texts.{IsAsked, IsUnasked, WritesBy, is_asking, is_text};
 ghost use Rattle.rb_interp.specs.Lines.{IsLined, IsUnlined};
 
+use crate::dispatch::Methods;
 use crate::target::{Target, target_of};
-use rb_code::CodeScript;
 use rb_model::{Ref, Sort, Value};
 use rb_render::{Form, Style};
 use rb_tree::Program;
@@ -18,7 +18,7 @@ use rb_tree::Program;
 /// The method that a value is asked for its text: `to_s` of its class, where that has no parameters.
 pub(crate) fn asked_of<'p>(
     program: &Program,
-    script: &'p CodeScript,
+    script: &Methods<'p>,
     value: &Value,
 ) -> Option<Target<'p>>
     ensures some { IfSome result (λ t. IsAsked script.now program.now (plain value.now) t.object t.method.now) }

@@ -4,6 +4,7 @@
 mod asked;
 mod bytes;
 mod came;
+mod dispatch;
 mod ending;
 mod gathering;
 mod leaf;

@@ -5,6 +5,7 @@ ghost use Rattle.rb_model.specs.Values.{Int, plain};
 ghost use Rattle.rb_model.specs.declared.value.Value.TheVariants as held;
 ghost use Rattle.rb_machine.specs.Scopes.{Script};
 ghost use Rattle.rb_machine.specs.Call.{last_value};
+ghost use Rattle.rb_interp.specs.Answers.{Passed};
 ghost use Rattle.rb_interp.specs.Slots.{first_of_block};
 ghost use Rattle.rb_interp.specs.Walks.{slot_value};
 
@@ -35,6 +36,15 @@ pub(crate) fn put(room: &mut [Value], slot: usize, n: i64)
         Value::Int(cell) => *cell = n,
         cell => *cell = Value::Int(n),
     }
+}
+
+/// Puts a value into a slot.
+#[inline(always)]
+pub(crate) fn place(room: &mut [Value], slot: usize, value: Value)
+    requires { slot < length room.old }
+    ensures { Passed slot (plain value) room.old room.new }
+{
+    room[slot] = value;
 }
 
 /// The slots of a block at the start of an iteration: the first has a value where the block takes one, the others nil.

@@ -2,13 +2,15 @@
 
 ghost use Rattle.std.specs.Prelude.{◌≡◌, IfSome, Some, None};
 ghost use Rattle.rb_model.specs.Values.{plain};
+ghost use Rattle.rb_code.specs.declared.scripted.CodeScript.{CodeScript};
 ghost use Rattle.rb_interp.specs.Methods.{IsTarget, HasNone, HasNoMethods, IsWriter, HasNoWriter};
 ghost use Rattle.rb_interp.specs.Readers.{Reads, IsReader, Writes};
 ghost use Rattle.rb_interp.specs.Answers.{IsHeld};
 ghost use Rattle.rb_interp.specs.Carries.{me_of};
 
+use crate::dispatch::Methods;
 use crate::leaf::local_at;
-use rb_code::{Code, CodeMethod, CodeScript};
+use rb_code::{Code, CodeMethod};
 use rb_model::{Ref, Sort, Value};
 use rb_tree::{NameId, Span};
 
@@ -22,7 +24,7 @@ pub(crate) struct Target<'p> {
 /// The method of its class that a name finds for a value.
 #[inline(always)]
 pub(crate) fn target_of<'p>(
-    script: &'p CodeScript,
+    script: &Methods<'p>,
     receiver: &Value,
     name: NameId,
 ) -> Option<Target<'p>>
@@ -45,7 +47,7 @@ pub(crate) fn target_of<'p>(
 /// The method of its class that a name finds for the object that a local has.
 #[inline(always)]
 pub(crate) fn local_target<'p>(
-    script: &'p CodeScript,
+    script: &Methods<'p>,
     code: &Code,
     name: NameId,
     room: &[Value],
@@ -76,7 +78,7 @@ pub(crate) fn local_collection(code: &Code, room: &[Value]) -> Option<Ref>
 /// The method of its class that the name of a writer finds for a value, where there is such a name.
 #[inline(always)]
 pub(crate) fn writer_of<'p>(
-    script: &'p CodeScript,
+    script: &Methods<'p>,
     receiver: &Value,
     writer: Option<NameId>,
 ) -> Option<Target<'p>>
@@ -113,13 +115,18 @@ pub(crate) fn read_by(method: &CodeMethod) -> Option<(NameId, Span)>
 
 /// What the method reads that a name finds for a value, where it does nothing else.
 #[inline(always)]
-pub(crate) fn reader_of(script: &CodeScript, receiver: &Value, name: NameId) -> Option<Reader>
+pub(crate) fn reader_of(script: &Methods<'_>, receiver: &Value, name: NameId) -> Option<Reader>
     ensures { IfSome result (λ reader. IsReader script.now (plain receiver.now) name reader.object reader.field reader.at) }
 {
-    let target = target_of(script, receiver, name)?;
-    let (field, at) = read_by(target.method)?;
+    let Value::Ref(object) = receiver else {
+        return None;
+    };
+    let Sort::Object(class) = object.sort else {
+        return None;
+    };
+    let (field, at) = script.reads(name, class)?;
     Some(Reader {
-        object: target.object,
+        object: *object,
         field,
         at,
     })

@@ -33,6 +33,7 @@ mod values;
 mod walks;
 
 use crate::came::{Came, Cut, Leave, immediate, is_told};
+use crate::dispatch::Methods;
 use crate::ending::{close, end_of};
 use crate::leaf::{is_operate, place_of, quick, quick_twice, small, steps_of};
 use crate::slots::clear;
@@ -60,7 +61,7 @@ pub struct Context<'p> {
 struct Running<'p> {
     alloc: Global,
     program: &'p Program,
-    script: &'p CodeScript,
+    script: &'p Methods<'p>,
     steps: u64,
     /// None at the top level and in its methods.
     me: Option<Ref>,
@@ -376,7 +377,7 @@ impl<'p, O: ThreadStore + Drop> Walker<'p, O> {
             → At S 0 self.old.context.steps start (O.log self.old.store) (O.private self.old.store) (On (Following Nil S.program.main) k (record { me = Nil; locals = fresh S.main_names [] }) 0 self.old.left)
             → Comes S self.old.context.steps start (O.log self.new.store) (O.private self.new.store) (outcome result self.new.value self.new.leave) k (scope_of Nil S.main_names room.new) 0 self.new.left }
     {
-        let script = self.context.script;
+        let script = self.context.script.script();
         let size = script.main_size as usize;
         if size > room.len() {
             return self.over(Cut::Memory);
@@ -404,16 +405,35 @@ pub fn run_main<'p, O: ThreadStore + Drop>(
         script,
         steps,
     } = context;
+    let methods = Methods::of(alloc, script);
+    run_by(alloc, program, &methods, steps, store, room)
+}
+
+/// The same with the table of the methods of the script.
+fn run_by<O: ThreadStore + Drop>(
+    alloc: Global,
+    program: &Program,
+    methods: &Methods,
+    steps: u64,
+    store: O,
+    room: &mut [Value],
+) -> (O, End)
+    requires begun { O.log store ≡ log.fresh }
+    requires made { O.private store ≡ bare 0 }
+    ensures follows { (S : Script) → StandsFor methods.now S → S.program ≡ program.now → Follows S 0 steps (opening S steps) (O.log result.0) (over result.1) (O.private result.0) }
+    ensures refused { (S : Script) → StandsFor methods.now S → S.program ≡ program.now → over result.1 ≡ Sink → (before : List log.Refusal) × (r : log.Refusal) × ((O.log result.0).refusals ≡ before ++ r ∷ []) }
+    ensures never_full { (S : Script) → StandsFor methods.now S → S.program ≡ program.now → (used asked : ℕ) → over result.1 ≡ Full used asked → ⊥ }
+{
     let mut walker = Walker {
         context: Running {
             alloc,
             program,
-            script,
+            script: methods,
             steps,
             me: None,
         },
         store,
-        base: script.main_size as usize,
+        base: methods.script().main_size as usize,
         left: steps,
         value: Value::Nil,
         leave: Leave::Break,

@@ -15,7 +15,7 @@ ghost use Rattle.rb_code.specs.Resolved.{fits};
 ghost use Rattle.rb_interp.specs.Outcome.{is_left, value_of, outcome};
 ghost use Rattle.rb_interp.specs.Carries.{Carries, Keeps, both, at_slot, attribute, written_by, Assigns, me_of};
 ghost use Rattle.rb_interp.specs.Methods.{Writing};
-ghost use Rattle.rb_interp.specs.Answers.{OrMemory, outcome_of};
+ghost use Rattle.rb_interp.specs.Answers.{OrMemory, method_of, outcome_of};
 
 use super::Walker;
 use crate::came::{Came, Cut, is_left};
@@ -216,6 +216,33 @@ impl<'p, O: ThreadStore + Drop> Walker<'p, O> {
             },
             _ => self.operated_any(method, m, came, at),
         }
+    }
+
+    /// The same by the operator of an assignment, which is most often a sum.
+    #[inline(always)]
+    pub(super) fn operated_with(&mut self, op: AssignOp, m: i64, came: Came, at: Span) -> Came
+        ensures gives { (name : List ℕ) → builtin_of name ≡ method_of op → OrMemory (outcome_of (deed self.old.context.program.now (Int m) name (value_of came self.old.value ∷ []) None) at) (outcome result self.new.value self.new.leave) }
+        ensures base { self.new.base ≡ self.old.base }
+        ensures left { self.new.left ≡ self.old.left }
+        ensures context { self.new.context ≡ self.old.context }
+        ensures store { self.new.store ≡ self.old.store }
+    {
+        match op {
+            AssignOp::Plus => self.operated_by(Some(Builtin::Plus), m, came, at),
+            _ => self.operated_apart(method_of(op), m, came, at),
+        }
+    }
+
+    /// The same of any method, apart.
+    #[inline(never)]
+    fn operated_apart(&mut self, method: Option<Builtin>, m: i64, came: Came, at: Span) -> Came
+        ensures gives { (name : List ℕ) → builtin_of name ≡ method → OrMemory (outcome_of (deed self.old.context.program.now (Int m) name (value_of came self.old.value ∷ []) None) at) (outcome result self.new.value self.new.leave) }
+        ensures base { self.new.base ≡ self.old.base }
+        ensures left { self.new.left ≡ self.old.left }
+        ensures context { self.new.context ≡ self.old.context }
+        ensures store { self.new.store ≡ self.old.store }
+    {
+        self.operated_by(method, m, came, at)
     }
 
     /// Any call of a method of an integer with one argument that came.

@@ -1,14 +1,14 @@
 // The starts of nodes whose steps are counted.
 
-ghost use Rattle.std.specs.Prelude.{◌≡◌, ◌≤◌, false, [], length, None, IfSome};
+ghost use Rattle.std.specs.Prelude.{◌≡◌, ◌≤◌, false, [], length, None, IfSome, IfErr};
 ghost use Rattle.rb_tree.specs.declared.node.Node.{out-Node};
 ghost use Rattle.rb_model.specs.Log.{has_end};
 ghost use Rattle.rb_machine.specs.Begin.{begin};
 ghost use Rattle.rb_code.specs.Erase.{erase};
 ghost use Rattle.rb_code.specs.Resolved.{fits};
-ghost use Rattle.rb_interp.specs.Outcome.{outcome};
+ghost use Rattle.rb_interp.specs.Outcome.{IsOver, fetched, outcome};
 ghost use Rattle.rb_interp.specs.Carries.{Carries, Keeps, me_of};
-ghost use Rattle.rb_interp.specs.Readers.{SendsTo};
+ghost use Rattle.rb_interp.specs.Readers.{EvaluatesTo, SendsTo};
 
 use super::{MAX_DEPTH, Walker};
 use crate::came::{Came, Cut, Leave, is_left};
@@ -131,7 +131,7 @@ impl<'p, O: ThreadStore + Drop> Walker<'p, O> {
                         if is_left(came) {
                             return came;
                         }
-                        let made = self.operated_by(method_of(*op), m, came, *at);
+                        let made = self.operated_with(*op, m, came, *at);
                         if is_left(made) {
                             return made;
                         }
@@ -308,6 +308,38 @@ impl<'p, O: ThreadStore + Drop> Walker<'p, O> {
         self.left -= 2;
         let came = self.ask(reader.object, Act::GetField(reader.field), reader.at);
         Some(self.out_of_call(came))
+    }
+
+    /// The value of a call without arguments of a method that only reads an instance variable of a local's object; the walker does not keep
+    /// it. Of other code nothing is done.
+    #[inline(always)]
+    pub(super) fn sent_value(
+        &mut self,
+        code: &Code,
+        depth: u32,
+        room: &[Value],
+    ) -> Option<Result<Value, Came>>
+        requires unended { has_end (O.log self.old.store).entries ≡ false }
+        ensures none { result ≡ None → self.new ≡ self.old }
+        ensures base { self.new.base ≡ self.old.base }
+        ensures context { self.new.context ≡ self.old.context }
+        ensures less { self.new.left ≤ self.old.left }
+        ensures log { O.log self.new.store ≡ O.log self.old.store }
+        ensures over { IfSome result (λ sent. IfErr sent (λ came. IsOver (outcome came self.new.value self.new.leave))) }
+        ensures came { IfSome result (λ sent. EvaluatesTo self.old.context.script.now self.old.context.program.now self.old.context.steps (me_of self.old.context.me) code.now depth self.old.left self.new.left room.now (O.log self.old.store) (O.log self.new.store) (O.private self.old.store) (O.private self.new.store) (fetched sent self.new.value self.new.leave)) }
+    {
+        let Code::Send(_, name, receiver, args, _) = code else {
+            return None;
+        };
+        if !args.is_empty() {
+            return None;
+        }
+        if self.left < 3 || depth >= MAX_DEPTH - 1 {
+            return None;
+        }
+        let reader = reader_of(self.context.script, local_at(receiver.get(), room)?, *name)?;
+        self.left -= 3;
+        Some(self.fetch(reader.object, Act::GetField(reader.field), reader.at))
     }
 
     /// What comes of a method that is sent without arguments, where the receiver is a local that holds no thing. Else nothing is done.
@@ -557,7 +589,7 @@ impl<'p, O: ThreadStore + Drop> Walker<'p, O> {
         }
     }
 
-    /// An assignment with an operator to an instance variable.
+    /// An assignment with an operator to an instance variable. A sum of integers is done at once.
     #[cycle(walk)]
     #[inline(never)]
     pub(super) fn begin_update_field(
@@ -578,7 +610,11 @@ impl<'p, O: ThreadStore + Drop> Walker<'p, O> {
     {
         match code {
             Code::UpdateField(name, op, value, at) => {
-                self.update_field(*name, *op, value.get(), *at, depth, room)
+                let value = value.get();
+                match self.added(*name, *op, value, depth, room) {
+                    Some(sum) => Came::Int(sum),
+                    None => self.update_field(*name, *op, value, *at, depth, room),
+                }
             }
             _ => self.over(Cut::Memory),
         }

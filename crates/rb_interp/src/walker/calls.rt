@@ -463,7 +463,7 @@ impl<'p, O: ThreadStore + Drop> Walker<'p, O> {
         ensures kept { Keeps self.old.context.script.now self.old.context.program.now (called number name (λ S. every (map (fits S) args.now))) self.old.base room.old room.new }
         ensures came { Carries self.old.context.script.now self.old.context.program.now self.old.context.steps (me_of self.old.context.me) (called number name (λ S. every (map (fits S) args.now))) (λ S k sc d n. On (Passing (ByName name) [] (map erase args.now) at) k sc d n) self.old.base depth self.old.left self.new.left room.old room.new (O.log self.old.store) (O.log self.new.store) (O.private self.old.store) (O.private self.new.store) (outcome result self.new.value self.new.leave) }
     {
-        let script = self.context.script;
+        let script = self.context.script.script();
         let Some(method) = script.functions.get(number as usize) else {
             return self.over(Cut::Memory);
         };

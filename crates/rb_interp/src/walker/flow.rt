@@ -15,6 +15,7 @@ ghost use Rattle.rb_interp.specs.Carries.{Carries, Keeps, Tested, Unread, at_slo
 use super::{MAX_DEPTH, Walker};
 use crate::came::{Came, Cut, Leave, is_left};
 use crate::leaf::tested;
+use crate::slots::place;
 use rb_code::Code;
 use rb_model::{ThreadStore, Value};
 use rb_tree::Boxed;
@@ -234,10 +235,37 @@ impl<'p, O: ThreadStore + Drop> Walker<'p, O> {
         }
     }
 
-    /// An assignment to a local, which is not given on.
+    /// An assignment to a local, which is not given on. What an attribute of a local's object has goes into the slot at once.
     #[cycle(walk)]
     #[inline(never)]
     fn keep_local(&mut self, slot: u32, value: &'p Code, depth: u32, room: &mut [Value]) -> Came
+        requires unended { has_end (O.log self.old.store).entries ≡ false }
+        requires steps { self.old.left ≤ self.old.context.steps }
+        ensures base { self.new.base ≡ self.old.base }
+        ensures context { self.new.context ≡ self.old.context }
+        ensures room { length room.new ≡ length room.old }
+        ensures less { self.new.left ≤ self.old.left }
+        ensures unended { has_end (O.log self.new.store).entries ≡ false }
+        ensures kept { (name : NameId) → Keeps self.old.context.script.now self.old.context.program.now (at_slot slot name (λ S. fits S value.now)) self.old.base room.old room.new }
+        ensures came { (name : NameId) → Unread result (outcome result self.new.value self.new.leave) (Carries self.old.context.script.now self.old.context.program.now self.old.context.steps (me_of self.old.context.me) (at_slot slot name (λ S. fits S value.now)) (λ S k sc d n. On (Eval (erase value.now)) (Then (AssignTo name) ∷ k) sc d n) self.old.base depth self.old.left self.new.left room.old room.new (O.log self.old.store) (O.log self.new.store) (O.private self.old.store) (O.private self.new.store)) }
+    {
+        if slot as usize >= room.len() {
+            return self.keep_any(slot, value, depth, room);
+        }
+        match self.sent_value(value, depth, room) {
+            Some(Ok(sent)) => {
+                place(room, slot as usize, sent);
+                Came::Nil
+            }
+            Some(Err(came)) => came,
+            None => self.keep_any(slot, value, depth, room),
+        }
+    }
+
+    /// The same of any value.
+    #[cycle(walk)]
+    #[inline(never)]
+    fn keep_any(&mut self, slot: u32, value: &'p Code, depth: u32, room: &mut [Value]) -> Came
         requires unended { has_end (O.log self.old.store).entries ≡ false }
         requires steps { self.old.left ≤ self.old.context.steps }
         ensures base { self.new.base ≡ self.old.base }

@@ -1,6 +1,6 @@
 // Objects: `self`, instance variables and new objects.
 
-ghost use Rattle.std.specs.Prelude.{◌≡◌, ◌≤◌, ◌<◌, ℕ, false, List, [], ◌∷◌, length, map, slice_get, Some, None};
+ghost use Rattle.std.specs.Prelude.{◌≡◌, ◌≤◌, ◌<◌, ℕ, false, List, [], ◌∷◌, length, map, slice_get, Some, None, IfErr, IfSome};
 ghost use Rattle.rb_model.specs.Values.{Int, plain};
 ghost use Rattle.rb_model.specs.Log.{has_end};
 ghost use Rattle.rb_model.specs.Doing.{doing};
@@ -9,12 +9,13 @@ ghost use Rattle.rb_machine.specs.Control.{On, Then, Step, Eval, Passing, Creati
 ghost use Rattle.rb_machine.specs.Call.{read_place};
 ghost use Rattle.rb_code.specs.Erase.{erase};
 ghost use Rattle.rb_code.specs.Resolved.{fits, every};
-ghost use Rattle.rb_interp.specs.Outcome.{Gave, is_left, value_of, outcome};
+ghost use Rattle.rb_interp.specs.Outcome.{Gave, IsOver, fetched, is_left, value_of, outcome};
 ghost use Rattle.rb_interp.specs.Carries.{Carries, Keeps, made_by, me_of};
-ghost use Rattle.rb_interp.specs.Objects.{Asks, Fields, Creates, WritesField};
+ghost use Rattle.rb_interp.specs.Objects.{Asks, Fields, Creates, UpdatesField, WritesField};
 
-use super::Walker;
+use super::{MAX_DEPTH, Walker};
 use crate::came::{Came, Cut, immediate, is_left, is_told};
+use crate::leaf::small;
 use rb_code::Code;
 use rb_model::{Act, Fault, Make, Ref, Reply, Sort, ThreadStore, Value};
 use rb_tree::{AssignOp, NameId, Span};
@@ -30,7 +31,7 @@ impl<'p, O: ThreadStore + Drop> Walker<'p, O> {
     {
         match self.context.me {
             None => Came::Nil,
-            Some(object) => self.give(Value::Ref(object)),
+            Some(object) => self.give_thing(object),
         }
     }
 
@@ -54,6 +55,31 @@ impl<'p, O: ThreadStore + Drop> Walker<'p, O> {
             Ok(Reply::Pairs(_)) => Came::Nil,
             Ok(Reply::Failed(fault)) => self.raise(fault, at),
             Err(_) => self.over(Cut::Memory),
+        }
+    }
+
+    /// Asks a thing for a value, which the walker does not keep. Where none comes the thread ends.
+    // It stands beside `ask`, since a value that goes from one to the other takes more instructions than one that is kept where it comes.
+    #[inline(always)]
+    pub(super) fn fetch(&mut self, thing: Ref, act: Act, at: Span) -> Result<Value, Came>
+        requires unended { has_end (O.log self.old.store).entries ≡ false }
+        ensures base { self.new.base ≡ self.old.base }
+        ensures left { self.new.left ≡ self.old.left }
+        ensures context { self.new.context ≡ self.old.context }
+        ensures log { O.log self.new.store ≡ O.log self.old.store }
+        ensures over { IfErr result (λ came. IsOver (outcome came self.new.value self.new.leave)) }
+        ensures came { Asks self.old.context.steps (me_of (Some thing)) (doing act) at self.old.left (O.log self.old.store) (O.private self.old.store) (O.private self.new.store) (fetched result self.new.value self.new.leave) }
+    {
+        if !self.store.holds(thing.id) {
+            return Err(self.over(Cut::Memory));
+        }
+        match self.store.apply(thing.id, act) {
+            Ok(Reply::Value(value)) => Ok(value),
+            Ok(Reply::Done) => Ok(Value::Nil),
+            Ok(Reply::Elements(_)) => Ok(Value::Nil),
+            Ok(Reply::Pairs(_)) => Ok(Value::Nil),
+            Ok(Reply::Failed(fault)) => Err(self.raise(fault, at)),
+            Err(_) => Err(self.over(Cut::Memory)),
         }
     }
 
@@ -219,9 +245,40 @@ impl<'p, O: ThreadStore + Drop> Walker<'p, O> {
         self.write_field(name, came, at)
     }
 
+    /// The sum that an instance variable of `self` gets, where it holds integers alone and a leaf that is one is added. Else nothing is done.
+    #[inline(always)]
+    pub(super) fn added(
+        &mut self,
+        name: NameId,
+        op: AssignOp,
+        value: &Code,
+        depth: u32,
+        room: &[Value],
+    ) -> Option<i64>
+        ensures still { result ≡ None → self.new.left ≡ self.old.left }
+        ensures kept { result ≡ None → O.private self.new.store ≡ O.private self.old.store }
+        ensures base { self.new.base ≡ self.old.base }
+        ensures context { self.new.context ≡ self.old.context }
+        ensures less { self.new.left ≤ self.old.left }
+        ensures log { O.log self.new.store ≡ O.log self.old.store }
+        ensures came { IfSome result (λ sum. UpdatesField self.old.context.script.now self.old.context.steps (me_of self.old.context.me) name op value.now depth self.old.left self.new.left room.now (O.log self.old.store) (O.private self.old.store) (O.private self.new.store) (Int sum)) }
+    {
+        let AssignOp::Plus = op else {
+            return None;
+        };
+        if self.left == 0 || depth >= MAX_DEPTH {
+            return None;
+        }
+        let object = self.context.me?;
+        let n = small(value, room)?;
+        let sum = self.store.add_to_field(object.id, name, n)?;
+        self.left -= 1;
+        Some(sum)
+    }
+
     /// An assignment with an operator to an instance variable.
     #[cycle(walk)]
-    #[inline(always)]
+    #[inline(never)]
     pub(super) fn update_field(
         &mut self,
         name: NameId,
@@ -329,15 +386,15 @@ impl<'p, O: ThreadStore + Drop> Walker<'p, O> {
             if count > 0 {
                 return self.raise(Fault::ArgumentCount, at);
             }
-            return self.give(Value::Ref(object));
+            return self.give_thing(object);
         };
-        let Some(method) = self.context.script.method_at(class, number) else {
+        let Some(method) = self.context.script.script().method_at(class, number) else {
             return self.over(Cut::Memory);
         };
         let came = self.enter(method, Some(object), count, at, depth, room);
         if is_left(came) {
             return came;
         }
-        self.give(Value::Ref(object))
+        self.give_thing(object)
     }
 }

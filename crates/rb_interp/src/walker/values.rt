@@ -272,7 +272,10 @@ impl<'p, O: ThreadStore + Drop> Walker<'p, O> {
         ensures store { self.new.store ≡ self.old.store }
     {
         match came {
-            Came::Other => mem::swap(&mut room[slot], &mut self.value),
+            Came::Other => match &self.value {
+                Value::Ref(thing) => room[slot] = Value::Ref(*thing),
+                _ => mem::swap(&mut room[slot], &mut self.value),
+            },
             _ => room[slot] = self.take(came),
         }
     }

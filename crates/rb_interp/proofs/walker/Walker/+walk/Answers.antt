@@ -559,22 +559,64 @@ statement-returns-in_default-clause-came g m c =
     let w = c.walk_here-in_default in
     (λ gone. w.ensures.came, λ none. (value_of w.result w.new.self.value, λ S start k names size st e l a. given w.result w.new.self.value w.new.self.leave none (w.ensures.came S start k names size st e l a)))
 
-pub keep_local-returns-then-is_left-clause-kept : goal.keep_local-returns-then-is_left-clause-kept
-keep_local-returns-then-is_left-clause-kept g m c = λ name S names size st e l i p q. c.evaluate_call-came.ensures.kept S names size st e (sub (fits S c.args.value.now) l (snd _ _ l.fits)) i p q
+pub keep_local-returns-then-slot-room-clause-kept : goal.keep_local-returns-then-slot-room-clause-kept
+keep_local-returns-then-slot-room-clause-kept g m c = c.keep_any.ensures.kept
 
-pub keep_local-returns-then-is_left-clause-came : goal.keep_local-returns-then-is_left-clause-came
-keep_local-returns-then-is_left-clause-came g m c = λ name.
+pub keep_local-returns-then-slot-room-clause-came : goal.keep_local-returns-then-slot-room-clause-came
+keep_local-returns-then-slot-room-clause-came g m c = c.keep_any.ensures.came
+
+pub keep_local-returns-in-Some-Ok-clause-kept : goal.keep_local-returns-in-Some-Ok-clause-kept
+keep_local-returns-in-Some-Ok-clause-kept g m c = λ name S names size st e l i p q.
+    let t = c.place.ensures in
+    let s = slot_within name names c.args.slot (fst _ _ l.fits) in
+    kept_write c.args.slot i _ _ _ _ (λ z. omega (arith, z, s, l.within, p)) (wrote t.0 t.1 t.2)
+
+pub keep_local-returns-in-Some-Ok-clause-came : goal.keep_local-returns-in-Some-Ok-clause-came
+keep_local-returns-in-Some-Ok-clause-came g m c = λ name.
+    let t = c.place.ensures in
+    let w = c.sent_value in
+    only_came _ refl (
+      plain c.in-Some-Ok.sent,
+      λ S start k names size st e l a.
+          let len : length names ≤ length c.args.room.now = omega (arith, l.within, l.below, l.room) in
+          let come = c.in-Some-Ok.ensures.came S start (Then (AssignTo name) ∷ k) names size st e (snd _ _ l.fits) len a in
+          let v = rw c.in-Some-Ok.field-0-is at come in
+          assigned name (AssignTo name) names c.args.slot c.args.room.now c.place.new.room (plain c.in-Some-Ok.sent) _ _ plainly len (fst _ _ l.fits) (wrote t.0 t.1 t.2) v,
+    )
+
+pub keep_local-returns-in-Some-Err-clause-came : goal.keep_local-returns-in-Some-Err-clause-came
+keep_local-returns-in-Some-Err-clause-came g m c = λ name.
+    let w = c.sent_value in
+    let over = rw c.in-Some-Err.field-0-is at c.in-Some-Err.ensures.over in
+    let gone = over_left c.in-Some-Err.came w.new.self.value w.new.self.leave over.0 over.1 in
+    only_left _ gone (λ S start k names size st e l a.
+    let len : length names ≤ length c.args.room.now = omega (arith, l.within, l.below, l.room) in
+    let fetch = c.in-Some-Err.ensures.came S start (Then (AssignTo name) ∷ k) names size st e (snd _ _ l.fits) len a in
+    let come = rw c.in-Some-Err.field-0-is at fetch in
+    passes S _ start _ c.in-Some-Err.came w.new.self.value w.new.self.leave _ (AssignTo name) k _ _ _ gone come)
+
+pub keep_local-returns-in-None-clause-kept : goal.keep_local-returns-in-None-clause-kept
+keep_local-returns-in-None-clause-kept g m c = rw (c.sent_value.ensures.none c.in-None.is) at c.keep_any-in-None.ensures.kept
+
+pub keep_local-returns-in-None-clause-came : goal.keep_local-returns-in-None-clause-came
+keep_local-returns-in-None-clause-came g m c = rw (c.sent_value.ensures.none c.in-None.is) at c.keep_any-in-None.ensures.came
+
+pub keep_any-returns-then-is_left-clause-kept : goal.keep_any-returns-then-is_left-clause-kept
+keep_any-returns-then-is_left-clause-kept g m c = λ name S names size st e l i p q. c.evaluate_call-came.ensures.kept S names size st e (sub (fits S c.args.value.now) l (snd _ _ l.fits)) i p q
+
+pub keep_any-returns-then-is_left-clause-came : goal.keep_any-returns-then-is_left-clause-came
+keep_any-returns-then-is_left-clause-came g m c = λ name.
     let w = c.evaluate_call-came in
     let gone = sym c.is_left.ensures ∙ c.if-is_left.true in
     only_left _ gone (λ S start k names size st e l a.
     let came = w.ensures.came S start (Then (AssignTo name) ∷ k) names size st e (sub (fits S c.args.value.now) l (snd _ _ l.fits)) a in
     passes S _ start _ w.result w.new.self.value w.new.self.leave _ (AssignTo name) k _ _ _ gone came)
 
-pub keep_local-returns-then-slot-room-clause-kept : goal.keep_local-returns-then-slot-room-clause-kept
-keep_local-returns-then-slot-room-clause-kept g m c = λ name S names size st e l i p q. c.evaluate_call-came.ensures.kept S names size st e (sub (fits S c.args.value.now) l (snd _ _ l.fits)) i p q
+pub keep_any-returns-then-slot-room-clause-kept : goal.keep_any-returns-then-slot-room-clause-kept
+keep_any-returns-then-slot-room-clause-kept g m c = λ name S names size st e l i p q. c.evaluate_call-came.ensures.kept S names size st e (sub (fits S c.args.value.now) l (snd _ _ l.fits)) i p q
 
-pub keep_local-returns-then-slot-room-clause-came : goal.keep_local-returns-then-slot-room-clause-came
-keep_local-returns-then-slot-room-clause-came g m c = λ name.
+pub keep_any-returns-then-slot-room-clause-came : goal.keep_any-returns-then-slot-room-clause-came
+keep_any-returns-then-slot-room-clause-came g m c = λ name.
     let w = c.evaluate_call-came in
     let o = c.over.ensures in
     only_left _ (over_left c.over.result c.over.new.self.value c.over.new.self.leave _ o.gives) (λ S start k names size st e l a.
@@ -582,15 +624,15 @@ keep_local-returns-then-slot-room-clause-came g m c = λ name.
     let v = given w.result w.new.self.value w.new.self.leave (sym c.is_left.ensures ∙ c.if-is_left.false) came in
     rw (o.gives, o.left, o.store) (_, v, refl))
 
-pub keep_local-returns-clause-kept : goal.keep_local-returns-clause-kept
-keep_local-returns-clause-kept g m c = λ name S names size st e l i p q.
+pub keep_any-returns-clause-kept : goal.keep_any-returns-clause-kept
+keep_any-returns-clause-kept g m c = λ name S names size st e l i p q.
     let w = c.evaluate_call-came in
     let t = c.move_to.ensures.passed in
     let s = slot_within name names c.args.slot (fst _ _ l.fits) in
     kept_write c.args.slot i _ _ _ _ (λ z. omega (arith, z, s, l.within, p)) (wrote t.0 t.1 t.2) ∙ w.ensures.kept S names size st e (sub (fits S c.args.value.now) l (snd _ _ l.fits)) i p q
 
-pub keep_local-returns-clause-came : goal.keep_local-returns-clause-came
-keep_local-returns-clause-came g m c = λ name.
+pub keep_any-returns-clause-came : goal.keep_any-returns-clause-came
+keep_any-returns-clause-came g m c = λ name.
     let w = c.evaluate_call-came in
     let t = c.move_to.ensures.passed in
     only_came _ refl (
@@ -1700,10 +1742,10 @@ begin_update_sent-returns-then-is_left-2-clause-came g m c = λ S start k names 
     let w = c.evaluate_sent-came in
     let e1 = w.ensures.came S start (Then step ∷ waits) names size st e (sub _ l right) g2 in
     let v1 = given w.result w.new.self.value w.new.self.leave (sym c.is_left.ensures ∙ c.if-is_left.false) e1 in
-    let o = c.operated_by-made.ensures in
-    let number = operator_number S x.op ∙ sym c.method_of.ensures in
+    let o = c.operated_with-made.ensures in
+    let number = operator_number S x.op in
     let z : to_z w64 (of_z w64 c.in-Some.m) ≡ c.in-Some.m = search rules in
-    let y = c.operated_by-made in
+    let y = c.operated_with-made in
     let d0 : OrMemory (outcome_of (deed w.new.self.context.program.now (Int (to_z w64 (of_z w64 c.in-Some.m))) (operator S x.op) (value_of w.result w.new.self.value ∷ []) None) x.at) (outcome y.result y.new.self.value y.new.self.leave) = o.gives (operator S x.op) number in
     let d = rw (z, w.ensures.context, sym e) at d0 in
     let e2 = (calls S _ start _ _ (Int c.in-Some.m) (operator S x.op) (value_of w.result w.new.self.value ∷ []) x.at waits _ _ _ _ (none_plain S (Int c.in-Some.m) (operator S x.op) refl) d (on _ v1 refl)) in
@@ -1733,10 +1775,10 @@ begin_update_sent-returns-in-Some-clause-came g m c = λ S start k names size st
     let w = c.evaluate_sent-came in
     let e1 = w.ensures.came S start (Then step ∷ waits) names size st e (sub _ l right) g2 in
     let v1 = given w.result w.new.self.value w.new.self.leave (sym c.is_left.ensures ∙ c.if-is_left.false) e1 in
-    let o = c.operated_by-made.ensures in
-    let number = operator_number S x.op ∙ sym c.method_of.ensures in
+    let o = c.operated_with-made.ensures in
+    let number = operator_number S x.op in
     let z : to_z w64 (of_z w64 c.in-Some.m) ≡ c.in-Some.m = search rules in
-    let y = c.operated_by-made in
+    let y = c.operated_with-made in
     let d0 : OrMemory (outcome_of (deed w.new.self.context.program.now (Int (to_z w64 (of_z w64 c.in-Some.m))) (operator S x.op) (value_of w.result w.new.self.value ∷ []) None) x.at) (outcome y.result y.new.self.value y.new.self.leave) = o.gives (operator S x.op) number in
     let d = rw (z, w.ensures.context, sym e) at d0 in
     let e2 = (calls S _ start _ _ (Int c.in-Some.m) (operator S x.op) (value_of w.result w.new.self.value ∷ []) x.at waits _ _ _ _ (none_plain S (Int c.in-Some.m) (operator S x.op) refl) d (on _ v1 refl)) in
@@ -2567,7 +2609,8 @@ function-returns-clause-came g m c = λ S start k names size st e l a.
     let base = c.args.self.now.base in
     let script = c.args.self.now.context.script.now in
     let meth = c.in-Some.method.now in
-    let found = sym c.in-Some.ensures.value in
+    let held = sym c.in-Some.ensures.value in
+    let found = rw c.script-script.ensures at held in
     let long : base + count ≤ length y.new.room = omega (arith, y.ensures.base none, y.ensures.fits l.room) in
     let args = map plain (take count (drop base y.new.room)) in
     let entered = same (on _ (both.1 none) refl) (by_number S script c.args.number c.args.name meth args c.args.at k _ _ _ st (c.requires.alone S st) (fst _ _ l.fits) found) in
@@ -2993,18 +3036,30 @@ begin_set_field-returns-in-SetField-clause-came g m c = λ S start k names size 
     let s = sym (ap (λ d. fits S d names size) x.is ∙ fits-set_field S names size x.name x.value x.at) ∙ l.fits in
     c.set_field.ensures.came (FieldTo x.name x.at) fielded S start k names size st e (sub _ l (rw c.get.ensures s)) (rw c.get.ensures (begins _ _ k _ _ _ (shows-set_field c.args.code.now x.name x.value x.at x.is) a))
 
-pub begin_update_field-returns-in-UpdateField-clause-kept : goal.begin_update_field-returns-in-UpdateField-clause-kept
-begin_update_field-returns-in-UpdateField-clause-kept g m c = λ S names size st e l i p q.
+pub begin_update_field-returns-in-Some-clause-came : goal.begin_update_field-returns-in-Some-clause-came
+begin_update_field-returns-in-Some-clause-came g m c = λ S start k names size st e l a.
     let x = c.in-UpdateField in
     let s = sym (ap (λ d. fits S d names size) x.is ∙ fits-update_field S names size x.name x.op x.value x.at) ∙ l.fits in
-    c.update_field.ensures.kept S names size st e (sub _ l (rw c.get.ensures s)) i p q
+    let len : length names ≤ length c.args.room.now = omega (arith, l.within, l.below, l.room) in
+    let b = same (begins _ _ k _ _ _ (shows-update_field c.args.code.now x.name x.op x.value x.at x.is) a) (target_field S x.name x.op (erase x.value) x.at k (scope_of (me_of c.args.self.now.context.me) names c.args.room.now) c.args.depth c.args.self.now.left) in
+    let z : to_z w64 (of_z w64 c.in-Some.sum) ≡ c.in-Some.sum = search rules in
+    rw (z, c.added.ensures.log) (c.in-Some.ensures.came S start k names size x.at st (rw c.get-value.ensures s) len (rw c.get-value.ensures b))
 
-pub begin_update_field-returns-in-UpdateField-clause-came : goal.begin_update_field-returns-in-UpdateField-clause-came
-begin_update_field-returns-in-UpdateField-clause-came g m c = λ S start k names size st e l a.
+pub begin_update_field-returns-in-None-clause-kept : goal.begin_update_field-returns-in-None-clause-kept
+begin_update_field-returns-in-None-clause-kept g m c = λ S names size st e l i p q.
+    let x = c.in-UpdateField in
+    let s = sym (ap (λ d. fits S d names size) x.is ∙ fits-update_field S names size x.name x.op x.value x.at) ∙ l.fits in
+    let f = rw (c.added.ensures.context, c.added.ensures.base) at c.update_field.ensures.kept in
+    f S names size st e (sub _ l (rw c.get-value.ensures s)) i p q
+
+pub begin_update_field-returns-in-None-clause-came : goal.begin_update_field-returns-in-None-clause-came
+begin_update_field-returns-in-None-clause-came g m c = λ S start k names size st e l a.
     let x = c.in-UpdateField in
     let s = sym (ap (λ d. fits S d names size) x.is ∙ fits-update_field S names size x.name x.op x.value x.at) ∙ l.fits in
     let b = same (begins _ _ k _ _ _ (shows-update_field c.args.code.now x.name x.op x.value x.at x.is) a) (target_field S x.name x.op (erase x.value) x.at k (scope_of (me_of c.args.self.now.context.me) names c.args.room.now) c.args.depth c.args.self.now.left) in
-    c.update_field.ensures.came S start k names size st e (sub _ l (rw c.get.ensures s)) (rw c.get.ensures b)
+    let y = c.added.ensures in
+    let f = rw (y.context, y.base, y.log, y.still c.in-None.is, y.kept c.in-None.is) at c.update_field.ensures.came in
+    f S start k names size st e (sub _ l (rw c.get-value.ensures s)) (rw c.get-value.ensures b)
 
 pub begin_new-returns-in-New-clause-kept : goal.begin_new-returns-in-New-clause-kept
 begin_new-returns-in-New-clause-kept g m c = λ S names size st e l i p q.
@@ -3244,7 +3299,7 @@ initialize-returns-in_default-clause-came g m c = λ name S start k names st e i
     let values = map plain (take c.args.count (drop c.args.self.now.base c.args.room.now)) in
     let made = rw c.in_default.is at is in
     let none : length values ≡ 0 = omega (arith, c.if-count-gt0.false, len_map plain (take c.args.count (drop c.args.self.now.base c.args.room.now)), len_args c.args.room.now c.args.self.now.base c.args.count long) in
-    let o = c.give.ensures in
+    let o = c.give_thing.ensures in
     rw (o.gives, o.left, o.store) (same a (is_ready c.args.self.now.context.script.now S st c.args.object c.args.class name values c.args.at k _ _ _ c.requires.class made none))
 
 pub initialize-returns-in_default-method_at-clause-came : goal.initialize-returns-in_default-method_at-clause-came
@@ -3261,7 +3316,8 @@ initialize-returns-then-is_left-clause-came g m c = λ name S start k names st e
     let script = c.args.self.now.context.script.now in
     let values = map plain (take c.args.count (drop c.args.self.now.base c.args.room.now)) in
     let made = rw c.in-Some.is at is in
-    let found : method_at script c.args.class c.in-Some.number ≡ Some c.in-Some-method_at.method.now = sym c.method_at.ensures ∙ ap option_copied c.in-Some-method_at.is in
+    let held : method_at c.script.result.now c.args.class c.in-Some.number ≡ Some c.in-Some-method_at.method.now = sym c.method_at.ensures ∙ ap option_copied c.in-Some-method_at.is in
+    let found : method_at script c.args.class c.in-Some.number ≡ Some c.in-Some-method_at.method.now = rw c.script.ensures at held in
     let entered = same a (initializes script S st c.args.object c.args.class c.in-Some.number name c.in-Some-method_at.method.now values c.args.at k _ _ _ c.requires.class made found) in
     let y = c.enter-came in
     let come = y.ensures.came S start (Then (Instead (me_of (Some c.args.object))) ∷ k) names st e (first_right script S st c.args.class c.in-Some.number c.in-Some-method_at.method.now found) le long entered in
@@ -3275,12 +3331,13 @@ initialize-returns-clause-came g m c = λ name S start k names st e is le long a
     let script = c.args.self.now.context.script.now in
     let values = map plain (take c.args.count (drop c.args.self.now.base c.args.room.now)) in
     let made = rw c.in-Some.is at is in
-    let found : method_at script c.args.class c.in-Some.number ≡ Some c.in-Some-method_at.method.now = sym c.method_at.ensures ∙ ap option_copied c.in-Some-method_at.is in
+    let held : method_at c.script.result.now c.args.class c.in-Some.number ≡ Some c.in-Some-method_at.method.now = sym c.method_at.ensures ∙ ap option_copied c.in-Some-method_at.is in
+    let found : method_at script c.args.class c.in-Some.number ≡ Some c.in-Some-method_at.method.now = rw c.script.ensures at held in
     let entered = same a (initializes script S st c.args.object c.args.class c.in-Some.number name c.in-Some-method_at.method.now values c.args.at k _ _ _ c.requires.class made found) in
     let y = c.enter-came in
     let come = y.ensures.came S start (Then (Instead (me_of (Some c.args.object))) ∷ k) names st e (first_right script S st c.args.class c.in-Some.number c.in-Some-method_at.method.now found) le long entered in
     let g1 = given y.result y.new.self.value y.new.self.leave (sym c.is_left.ensures ∙ c.if-is_left.false) come in
-    let o = c.give-2.ensures in
+    let o = c.give_thing-2.ensures in
     rw (o.gives, o.left, o.store) (on _ g1 refl)
 
 pub write_member-returns-in_default-share-clause-came : goal.write_member-returns-in_default-share-clause-came

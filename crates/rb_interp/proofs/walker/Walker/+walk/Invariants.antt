@@ -426,7 +426,10 @@ abbrev pub decreases-statement : goal.decreases-statement
 decreases-statement g l = 24 * (1001 - l.depth) + 2
 
 abbrev pub decreases-keep_local : goal.decreases-keep_local
-decreases-keep_local g l = 24 * (1001 - l.depth) + 4
+decreases-keep_local g l = 24 * (1001 - l.depth) + 5
+
+abbrev pub decreases-keep_any : goal.decreases-keep_any
+decreases-keep_any g l = 24 * (1001 - l.depth) + 4
 
 abbrev pub decreases-store_element : goal.decreases-store_element
 decreases-store_element g l = 24 * (1001 - l.depth) + 5

@@ -8,7 +8,7 @@ use Rattle.rb_machine.specs.Control.{State, Then, Instead}
 use Rattle.rb_machine.specs.Follows.{At, Follows, here}
 use Rattle.rb_machine.specs.Alone.{opening}
 use Rattle.rb_interp.proofs.Endings.{follows, refused_last, never_full}
-use Rattle.rb_interp.proofs.walker.run_main.Goals as goal
+use Rattle.rb_interp.proofs.walker.run_by.Goals as goal
 
 -- the machine has begun, with a log and a private store in which there is nothing
 opened : (S : Script) (N : ℕ) (l : Log) (h : Private) → l ≡ fresh → h ≡ bare 0 → At S 0 N (opening S N) l h (opening S N)
@@ -23,7 +23,7 @@ returns g c =
     record {
       follows = λ S st e.
           let top = c.top-came in
-          let budget = c.args.context.steps in
+          let budget = c.args.steps in
           let start = opening S budget in
           let begun = opened S budget _ _ c.requires.begun c.requires.made in
           let came = top.ensures.came S start (Then (Instead Nil) ∷ []) st e begun in
@@ -31,7 +31,7 @@ returns g c =
           left_by S budget start _ _ _ _ c.close.ensures.private (follows S budget start _ _ _ _ _ _ 0 _ came closes);
       refused = λ S st e q.
           let top = c.top-came in
-          let budget = c.args.context.steps in
+          let budget = c.args.steps in
           let start = opening S budget in
           let begun = opened S budget _ _ c.requires.begun c.requires.made in
           let came = top.ensures.came S start (Then (Instead Nil) ∷ []) st e begun in
@@ -39,7 +39,7 @@ returns g c =
           refused_last S budget start _ _ _ _ _ (Then (Instead Nil) ∷ []) _ 0 _ _ came closes q;
       never_full = λ S st e used asked q.
           let top = c.top-came in
-          let budget = c.args.context.steps in
+          let budget = c.args.steps in
           let start = opening S budget in
           let begun = opened S budget _ _ c.requires.begun c.requires.made in
           let came = top.ensures.came S start (Then (Instead Nil) ∷ []) st e begun in
