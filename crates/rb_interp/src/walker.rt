@@ -15,8 +15,8 @@ ghost use Rattle.rb_machine.specs.Control.{State, Cont, On, Eval, Following};
 ghost use Rattle.rb_machine.specs.Begin.{begin};
 ghost use Rattle.rb_code.specs.Erase.{erase};
 ghost use Rattle.rb_code.specs.Resolved.{fits};
-ghost use Rattle.rb_interp.specs.Outcome.{outcome, Over, Came as Comes};
-ghost use Rattle.rb_interp.specs.Carries.{Carries, Keeps, scope_of, goes_on, me_of};
+ghost use Rattle.rb_walk.specs.Outcome.{outcome, Over, Came as Comes};
+ghost use Rattle.rb_walk.specs.Carries.{Carries, Keeps, scope_of, goes_on, me_of};
 
 mod assign;
 mod begin;
@@ -32,19 +32,17 @@ mod texts;
 mod values;
 mod walks;
 
-use crate::came::{Came, Cut, Leave, immediate, is_told};
-use crate::dispatch::Methods;
-use crate::ending::{close, end_of};
-use crate::leaf::{is_operate, place_of, quick, quick_twice, small, steps_of};
-use crate::slots::clear;
 use rb_builtin::Builtin;
 use rb_code::{Code, CodeScript};
 use rb_model::{End, Fault, Ref, ThreadStore, Value};
 use rb_tree::Program;
+use rb_walk::MAX_DEPTH;
+use rb_walk::came::{Came, Cut, Leave, immediate, is_told};
+use rb_walk::dispatch::Methods;
+use rb_walk::ending::{close, end_of};
+use rb_walk::leaf::{is_operate, place_of, quick, quick_twice, small, steps_of};
+use rb_walk::slots::clear;
 use std::alloc::Global;
-
-/// How many nodes may be under evaluation at once.
-pub(crate) const MAX_DEPTH: u32 = 1000;
 
 /// What a walk runs.
 #[derive(Clone, Copy)]

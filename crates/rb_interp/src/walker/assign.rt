@@ -12,19 +12,19 @@ ghost use Rattle.rb_machine.specs.Methods.{deed};
 ghost use Rattle.rb_builtin.specs.Names.{builtin_of};
 ghost use Rattle.rb_code.specs.Erase.{erase};
 ghost use Rattle.rb_code.specs.Resolved.{fits};
-ghost use Rattle.rb_interp.specs.Outcome.{is_left, value_of, outcome};
-ghost use Rattle.rb_interp.specs.Carries.{Carries, Keeps, both, at_slot, attribute, written_by, Assigns, me_of};
-ghost use Rattle.rb_interp.specs.Methods.{Writing};
-ghost use Rattle.rb_interp.specs.Answers.{OrMemory, method_of, outcome_of};
+ghost use Rattle.rb_walk.specs.Outcome.{is_left, value_of, outcome};
+ghost use Rattle.rb_walk.specs.Carries.{Carries, Keeps, both, at_slot, attribute, written_by, Assigns, me_of};
+ghost use Rattle.rb_walk.specs.Methods.{Writing};
+ghost use Rattle.rb_walk.specs.Answers.{OrMemory, method_of, outcome_of};
 
 use super::Walker;
-use crate::came::{Came, Cut, is_left};
-use crate::leaf::{method_of, operation_by, operation_on};
-use crate::target::writer_of;
 use rb_builtin::Builtin;
 use rb_code::Code;
 use rb_model::{Fault, ThreadStore, Value};
 use rb_tree::{AssignOp, NameId, Span};
+use rb_walk::came::{Came, Cut, is_left};
+use rb_walk::leaf::{method_of, operation_by, operation_on};
+use rb_walk::target::writer_of;
 
 impl<'p, O: ThreadStore + Drop> Walker<'p, O> {
     /// An assignment to a local.

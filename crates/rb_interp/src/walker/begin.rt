@@ -6,21 +6,22 @@ ghost use Rattle.rb_model.specs.Log.{has_end};
 ghost use Rattle.rb_machine.specs.Begin.{begin};
 ghost use Rattle.rb_code.specs.Erase.{erase};
 ghost use Rattle.rb_code.specs.Resolved.{fits};
-ghost use Rattle.rb_interp.specs.Outcome.{IsOver, fetched, outcome};
-ghost use Rattle.rb_interp.specs.Carries.{Carries, Keeps, me_of};
-ghost use Rattle.rb_interp.specs.Readers.{EvaluatesTo, SendsTo};
+ghost use Rattle.rb_walk.specs.Outcome.{IsOver, fetched, outcome};
+ghost use Rattle.rb_walk.specs.Carries.{Carries, Keeps, me_of};
+ghost use Rattle.rb_walk.specs.Readers.{EvaluatesTo, SendsTo};
 
-use super::{MAX_DEPTH, Walker};
-use crate::came::{Came, Cut, Leave, is_left};
-use crate::leaf::{
-    held_alone, held_at, integer_at, is_combining, is_deep, is_object_at, is_operate, is_send,
-    local_at, method_of, quick, quick_update, update_over,
-};
-use crate::target::{local_collection, local_target, reader_of};
+use super::Walker;
 use rb_builtin::Builtin;
 use rb_code::Code;
 use rb_model::{Act, Fault, ThreadStore, Value};
 use rb_tree::{NameId, Span};
+use rb_walk::MAX_DEPTH;
+use rb_walk::came::{Came, Cut, Leave, is_left};
+use rb_walk::leaf::{
+    held_alone, held_at, integer_at, is_combining, is_deep, is_object_at, is_operate, is_send,
+    local_at, method_of, quick, quick_update, update_over,
+};
+use rb_walk::target::{local_collection, local_target, reader_of};
 
 impl<'p, O: ThreadStore + Drop> Walker<'p, O> {
     /// An assignment to a local whose step is counted.

@@ -8,23 +8,24 @@ ghost use Rattle.rb_machine.specs.Control.{On, Then, Eval, Give, Turning, Passin
 ghost use Rattle.rb_machine.specs.Texts.{shown};
 ghost use Rattle.rb_code.specs.Erase.{erase, erase_block, erase_piece};
 ghost use Rattle.rb_code.specs.Resolved.{fits, block_fits, piece_fits, every};
-ghost use Rattle.rb_interp.specs.Outcome.{is_left, value_of, outcome};
-ghost use Rattle.rb_interp.specs.Carries.{Carries, Keeps, Passes, both, numbered, called, printing, me_of};
-ghost use Rattle.rb_interp.specs.Methods.{IsTarget, HasNone, EntersWith, StoresWith};
+ghost use Rattle.rb_walk.specs.Outcome.{is_left, value_of, outcome};
+ghost use Rattle.rb_walk.specs.Carries.{Carries, Keeps, Passes, both, numbered, called, printing, me_of};
+ghost use Rattle.rb_walk.specs.Methods.{IsTarget, HasNone, EntersWith, StoresWith};
 
-use super::{MAX_DEPTH, Walker};
-use crate::asked::style_by;
-use crate::bytes::{add_bytes, add_value};
-use crate::came::{Came, Cut, is_left};
-use crate::leaf::{local_at, small, written};
-use crate::rounds::Iterations;
-use crate::slots::{last_of, passed, put, start_block};
-use crate::target::{Target, target_of};
+use super::Walker;
 use rb_builtin::Builtin;
 use rb_code::{Code, CodeBlock, CodePiece};
 use rb_model::{Fault, Ref, SharedText, ThreadStore, Value};
 use rb_render::{Form, MAX_BYTES};
 use rb_tree::{NameId, Span};
+use rb_walk::MAX_DEPTH;
+use rb_walk::asked::style_by;
+use rb_walk::bytes::{add_bytes, add_value};
+use rb_walk::came::{Came, Cut, is_left};
+use rb_walk::leaf::{local_at, small, written};
+use rb_walk::rounds::Iterations;
+use rb_walk::slots::{last_of, passed, put, start_block};
+use rb_walk::target::{Target, target_of};
 
 impl<'p, O: ThreadStore + Drop> Walker<'p, O> {
     /// A call with one argument: the receiver first.

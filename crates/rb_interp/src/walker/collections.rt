@@ -11,20 +11,20 @@ ghost use Rattle.rb_machine.specs.Methods as table;
 ghost use Rattle.rb_machine.specs.Methods.{deed};
 ghost use Rattle.rb_builtin.specs.Names.{builtin_of};
 ghost use Rattle.rb_builtin.specs.Deeds.{answer_of, step_of, thing_of, use_of};
-ghost use Rattle.rb_interp.specs.Outcome.{Gave, Over, is_left, outcome, value_of};
-ghost use Rattle.rb_interp.specs.Methods.{HasNone};
-ghost use Rattle.rb_interp.specs.Carries.{me_of};
-ghost use Rattle.rb_interp.specs.Collections.{CallsBuiltin, Comes, Reads, answering, building, filling, keeping, making, pairing, putting, storing, writing_element};
+ghost use Rattle.rb_walk.specs.Outcome.{Gave, Over, is_left, outcome, value_of};
+ghost use Rattle.rb_walk.specs.Methods.{HasNone};
+ghost use Rattle.rb_walk.specs.Carries.{me_of};
+ghost use Rattle.rb_walk.specs.Collections.{CallsBuiltin, Comes, Reads, answering, building, filling, keeping, making, pairing, putting, storing, writing_element};
 
 use super::Walker;
-use crate::came::{Came, Cut, immediate, immediate_of, is_left, is_told};
-use crate::gathering::{collection_of, copies, has_bad_key, pairs_in, parts_of};
-use crate::questions::{index_for, is_element, is_key_put, place_for, put_of, question_of};
-use crate::slots::last_of;
 use rb_builtin::{Behind, Builtin, Deed, Purpose, deed_of};
 use rb_code::BuiltinClass;
 use rb_model::{Act, Fault, Make, Ref, Reply, Sort, ThreadStore, Value};
 use rb_tree::Span;
+use rb_walk::came::{Came, Cut, immediate, immediate_of, is_left, is_told};
+use rb_walk::gathering::{collection_of, copies, has_bad_key, pairs_in, parts_of};
+use rb_walk::questions::{index_for, is_element, is_key_put, place_for, put_of, question_of};
+use rb_walk::slots::last_of;
 
 /// How many elements an array may have.
 const MAX_ELEMENTS: i64 = 16_777_216;

@@ -9,18 +9,18 @@ ghost use Rattle.rb_machine.specs.Call.{raised};
 ghost use Rattle.rb_machine.specs.Drafts.{draft_of, is_collection};
 ghost use Rattle.rb_machine.specs.Texts.{max_bytes};
 ghost use Rattle.rb_builtin.specs.Deeds.{thing_of};
-ghost use Rattle.rb_interp.specs.Answers.{OrMemory};
-ghost use Rattle.rb_interp.specs.Outcome.{Gave, is_left, outcome, value_of};
-ghost use Rattle.rb_interp.specs.Texts.{as_text};
-ghost use Rattle.rb_interp.specs.Collections.{Advances, Comes, InspectsOne, Opens, ReadsTo, Shortens, drafting, inspecting_behind, is_finished, showing, text_end, valuing, work_of};
+ghost use Rattle.rb_walk.specs.Answers.{OrMemory};
+ghost use Rattle.rb_walk.specs.Outcome.{Gave, is_left, outcome, value_of};
+ghost use Rattle.rb_walk.specs.Texts.{as_text};
+ghost use Rattle.rb_walk.specs.Collections.{Advances, Comes, InspectsOne, Opens, ReadsTo, Shortens, drafting, inspecting_behind, is_finished, showing, text_end, valuing, work_of};
 
 use super::Walker;
-use crate::bytes::{add_inspected_line, add_string_line};
-use crate::came::{Came, Cut, is_left};
-use crate::gathering::collection_of;
 use rb_model::{Fault, Ref, Reply, SharedText, ThreadStore, Value};
 use rb_render::{Draft, RenderFault, TextForm, Want};
 use rb_tree::Span;
+use rb_walk::bytes::{add_inspected_line, add_string_line};
+use rb_walk::came::{Came, Cut, is_left};
+use rb_walk::gathering::collection_of;
 
 /// How many nodes may be under evaluation at once, and collections whose text is being made.
 const MAX_DEPTH: usize = 1000;

@@ -8,22 +8,22 @@ ghost use Rattle.rb_model.specs.Log.{has_end};
 ghost use Rattle.rb_machine.specs.Control.{On, Then, Eval, Give, Passing, Creating, Listing, Pairing, IndexedBy, ReadOf, WriteTo, OfElement};
 ghost use Rattle.rb_code.specs.Erase.{erase};
 ghost use Rattle.rb_code.specs.Resolved.{fits, every};
-ghost use Rattle.rb_interp.specs.Outcome.{is_left, value_of, outcome};
-ghost use Rattle.rb_interp.specs.Carries.{Carries, Keeps, both, built_by, me_of};
-ghost use Rattle.rb_interp.specs.Answers.{IsGiven, steps_of};
-ghost use Rattle.rb_interp.specs.Methods.{HasNoMethods};
-ghost use Rattle.rb_interp.specs.Elements.{IsElementAt, IsToldBy, IsToldOf};
+ghost use Rattle.rb_walk.specs.Outcome.{is_left, value_of, outcome};
+ghost use Rattle.rb_walk.specs.Carries.{Carries, Keeps, both, built_by, me_of};
+ghost use Rattle.rb_walk.specs.Answers.{IsGiven, steps_of};
+ghost use Rattle.rb_walk.specs.Methods.{HasNoMethods};
+ghost use Rattle.rb_walk.specs.Elements.{IsElementAt, IsToldBy, IsToldOf};
 
 use super::Walker;
-use crate::came::{Came, Cut, is_left};
-use crate::leaf::{computed, local_at, small};
-use crate::questions::{is_element, is_value};
-use crate::slots::passed;
-use crate::target::local_collection;
 use rb_builtin::Builtin;
 use rb_code::{BuiltinClass, Code};
 use rb_model::{Immediate, Ref, ThreadStore, Value};
 use rb_tree::{AssignOp, NameId, Span};
+use rb_walk::came::{Came, Cut, is_left};
+use rb_walk::leaf::{computed, local_at, small};
+use rb_walk::questions::{is_element, is_value};
+use rb_walk::slots::passed;
+use rb_walk::target::local_collection;
 
 impl<'p, O: ThreadStore + Drop> Walker<'p, O> {
     /// The list that an element of the array of a local is, at an index that is a leaf. Nothing is done for it, and no step is counted.

@@ -9,16 +9,17 @@ ghost use Rattle.rb_machine.specs.Control.{On, Then, Eval, Following, Looping, A
 ghost use Rattle.rb_machine.specs.Begin.{begin_return};
 ghost use Rattle.rb_code.specs.Erase.{erase};
 ghost use Rattle.rb_code.specs.Resolved.{fits, every, if_some};
-ghost use Rattle.rb_interp.specs.Outcome.{is_left, outcome, Over};
-ghost use Rattle.rb_interp.specs.Carries.{Carries, Keeps, Tested, Unread, at_slot, both, goes_on, loop_exit, call_exit, me_of};
+ghost use Rattle.rb_walk.specs.Outcome.{is_left, outcome, Over};
+ghost use Rattle.rb_walk.specs.Carries.{Carries, Keeps, Tested, Unread, at_slot, both, goes_on, loop_exit, call_exit, me_of};
 
-use super::{MAX_DEPTH, Walker};
-use crate::came::{Came, Cut, Leave, is_left};
-use crate::leaf::tested;
-use crate::slots::place;
+use super::Walker;
 use rb_code::Code;
 use rb_model::{ThreadStore, Value};
 use rb_tree::Boxed;
+use rb_walk::MAX_DEPTH;
+use rb_walk::came::{Came, Cut, Leave, is_left};
+use rb_walk::leaf::tested;
+use rb_walk::slots::place;
 use std::mem;
 
 impl<'p, O: ThreadStore + Drop> Walker<'p, O> {

@@ -5,19 +5,19 @@ ghost use Rattle.rb_model.specs.Values.{plain};
 ghost use Rattle.rb_model.specs.Log.{has_end};
 ghost use Rattle.rb_machine.specs.Drafts.{with_line};
 ghost use Rattle.rb_machine.specs.Texts.{shown};
-ghost use Rattle.rb_interp.specs.Outcome.{is_left, outcome, value_of};
-ghost use Rattle.rb_interp.specs.Carries.{me_of};
-ghost use Rattle.rb_interp.specs.Collections.{Shortens, work_of};
-ghost use Rattle.rb_interp.specs.Lines.{AdvancesLine, AsksLine, GivesLines, JoinsLine};
-ghost use Rattle.rb_interp.specs.Texts.{as_text};
+ghost use Rattle.rb_walk.specs.Outcome.{is_left, outcome, value_of};
+ghost use Rattle.rb_walk.specs.Carries.{me_of};
+ghost use Rattle.rb_walk.specs.Collections.{Shortens, work_of};
+ghost use Rattle.rb_walk.specs.Lines.{AdvancesLine, AsksLine, GivesLines, JoinsLine};
+ghost use Rattle.rb_walk.specs.Texts.{as_text};
 
 use super::Walker;
 use super::drafts::is_finished;
-use crate::came::{Came, Cut, is_left};
-use crate::rounds::count_of;
 use rb_model::{Ref, ThreadStore, Value};
 use rb_render::{Draft, RenderFault, TextForm, Want, add_shown};
 use rb_tree::{Program, Span};
+use rb_walk::came::{Came, Cut, is_left};
+use rb_walk::rounds::count_of;
 use std::alloc::Global;
 
 /// Gives the text of a value to a text, as a line.

@@ -6,19 +6,20 @@ ghost use Rattle.rb_model.specs.Log.{has_end};
 ghost use Rattle.rb_machine.specs.Control.{On, Passing, ByName};
 ghost use Rattle.rb_code.specs.Erase.{erase};
 ghost use Rattle.rb_code.specs.Resolved.{fits, every, method_fits};
-ghost use Rattle.rb_interp.specs.Outcome.{value_of, outcome};
-ghost use Rattle.rb_interp.specs.Carries.{Carries, Keeps, unnamed, me_of};
-ghost use Rattle.rb_interp.specs.Methods.{IsTarget, HasNone, Enters, EntersWith, Invokes};
-ghost use Rattle.rb_interp.specs.Readers.{EntersAtOnce};
+ghost use Rattle.rb_walk.specs.Outcome.{value_of, outcome};
+ghost use Rattle.rb_walk.specs.Carries.{Carries, Keeps, unnamed, me_of};
+ghost use Rattle.rb_walk.specs.Methods.{IsTarget, HasNone, Enters, EntersWith, Invokes};
+ghost use Rattle.rb_walk.specs.Readers.{EntersAtOnce};
 
-use super::{MAX_DEPTH, Walker};
-use crate::came::{Came, Cut, is_left};
-use crate::slots::{clear, only_integer, passed};
-use crate::target::{Target, read_by, target_of, written_by};
+use super::Walker;
 use rb_builtin::Builtin;
 use rb_code::{Code, CodeMethod};
 use rb_model::{Act, Fault, Ref, ThreadStore, Value};
 use rb_tree::{NameId, Span};
+use rb_walk::MAX_DEPTH;
+use rb_walk::came::{Came, Cut, is_left};
+use rb_walk::slots::{clear, only_integer, passed};
+use rb_walk::target::{Target, read_by, target_of, written_by};
 
 impl<'p, O: ThreadStore + Drop> Walker<'p, O> {
     /// The method of the class of `self` that a name finds.

@@ -9,16 +9,17 @@ ghost use Rattle.rb_machine.specs.Control.{On, Then, Step, Eval, Passing, Creati
 ghost use Rattle.rb_machine.specs.Call.{read_place};
 ghost use Rattle.rb_code.specs.Erase.{erase};
 ghost use Rattle.rb_code.specs.Resolved.{fits, every};
-ghost use Rattle.rb_interp.specs.Outcome.{Gave, IsOver, fetched, is_left, value_of, outcome};
-ghost use Rattle.rb_interp.specs.Carries.{Carries, Keeps, made_by, me_of};
-ghost use Rattle.rb_interp.specs.Objects.{Asks, Fields, Creates, UpdatesField, WritesField};
+ghost use Rattle.rb_walk.specs.Outcome.{Gave, IsOver, fetched, is_left, value_of, outcome};
+ghost use Rattle.rb_walk.specs.Carries.{Carries, Keeps, made_by, me_of};
+ghost use Rattle.rb_walk.specs.Objects.{Asks, Fields, Creates, UpdatesField, WritesField};
 
-use super::{MAX_DEPTH, Walker};
-use crate::came::{Came, Cut, immediate, is_left, is_told};
-use crate::leaf::small;
+use super::Walker;
 use rb_code::Code;
 use rb_model::{Act, Fault, Make, Ref, Reply, Sort, ThreadStore, Value};
 use rb_tree::{AssignOp, NameId, Span};
+use rb_walk::MAX_DEPTH;
+use rb_walk::came::{Came, Cut, immediate, is_left, is_told};
+use rb_walk::leaf::small;
 
 impl<'p, O: ThreadStore + Drop> Walker<'p, O> {
     /// Gives `self`.

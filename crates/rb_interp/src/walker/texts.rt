@@ -5,17 +5,17 @@ ghost use Rattle.rb_model.specs.Log.{has_end};
 ghost use Rattle.rb_model.specs.Values.{plain};
 ghost use Rattle.rb_machine.specs.Texts.{max_bytes, shown, styled};
 ghost use Rattle.rb_render.specs.Forms.{style_of};
-ghost use Rattle.rb_interp.specs.Outcome.{is_left, value_of, outcome};
-ghost use Rattle.rb_interp.specs.Carries.{me_of};
-ghost use Rattle.rb_interp.specs.Lines.{JoinsText, WritesArray, WritesOne};
-ghost use Rattle.rb_interp.specs.Texts.{Tells, TellsSlot, WritesTexts};
+ghost use Rattle.rb_walk.specs.Outcome.{is_left, value_of, outcome};
+ghost use Rattle.rb_walk.specs.Carries.{me_of};
+ghost use Rattle.rb_walk.specs.Lines.{JoinsText, WritesArray, WritesOne};
+ghost use Rattle.rb_walk.specs.Texts.{Tells, TellsSlot, WritesTexts};
 
 use super::Walker;
-use crate::asked::{asked_of, lined};
-use crate::came::{Came, Cut, is_left};
 use rb_model::{Ref, ThreadStore, Value};
 use rb_render::{RenderFault, Style, add_value};
 use rb_tree::{Program, Span};
+use rb_walk::asked::{asked_of, lined};
+use rb_walk::came::{Came, Cut, is_left};
 use std::alloc::Global;
 
 /// Adds the text of a value, which is let go, behind what is printed.

@@ -10,20 +10,20 @@ ghost use Rattle.rb_machine.specs.Methods.{deed};
 ghost use Rattle.rb_machine.specs.Texts.{max_bytes};
 ghost use Rattle.rb_builtin.specs.Names.{builtin_of};
 ghost use Rattle.rb_builtin.specs.Integers as integers;
-ghost use Rattle.rb_interp.specs.Outcome.{end_by, is_left, value_of, outcome, Gave, Over};
-ghost use Rattle.rb_interp.specs.Carries.{Shows, me_of};
-ghost use Rattle.rb_interp.specs.Answers.{OrMemory, Passed, Writes, outcome_of};
-ghost use Rattle.rb_interp.specs.Texts.{ShowsBytes, is_text};
+ghost use Rattle.rb_walk.specs.Outcome.{end_by, is_left, value_of, outcome, Gave, Over};
+ghost use Rattle.rb_walk.specs.Carries.{Shows, me_of};
+ghost use Rattle.rb_walk.specs.Answers.{OrMemory, Passed, Writes, outcome_of};
+ghost use Rattle.rb_walk.specs.Texts.{ShowsBytes, is_text};
 
 use super::Walker;
-use crate::asked::is_text;
-use crate::came::{Came, Cut, Leave, end_by};
-use crate::leaf::{is_true, text_answer};
-use crate::slots::put;
 use rb_builtin::{Builtin, Deed, IntegerAnswer, deed_of};
 use rb_model::{Answer, Call, End, Fault, Ref, SharedText, ThreadStore, Value};
 use rb_render::{Form, RenderFault, render};
 use rb_tree::Span;
+use rb_walk::asked::is_text;
+use rb_walk::came::{Came, Cut, Leave, end_by};
+use rb_walk::leaf::{is_true, text_answer};
+use rb_walk::slots::put;
 use std::mem;
 
 impl<'p, O: ThreadStore + Drop> Walker<'p, O> {

@@ -9,20 +9,20 @@ ghost use Rattle.rb_machine.specs.Turns.{is_below};
 ghost use Rattle.rb_builtin.specs.Deeds.{answer_of, thing_of, walk_of};
 ghost use Rattle.rb_code.specs.Erase.{erase_block};
 ghost use Rattle.rb_code.specs.Resolved.{block_fits};
-ghost use Rattle.rb_interp.specs.Outcome.{is_left, value_of, outcome};
-ghost use Rattle.rb_interp.specs.Carries.{Carries, Keeps, goes_on, me_of};
-ghost use Rattle.rb_interp.specs.Collections.{Comes};
-ghost use Rattle.rb_interp.specs.Walks.{FindsElement, FindsNone, Iterates, Opens, OpensBy, finishing, second_value, value_on, walking};
+ghost use Rattle.rb_walk.specs.Outcome.{is_left, value_of, outcome};
+ghost use Rattle.rb_walk.specs.Carries.{Carries, Keeps, goes_on, me_of};
+ghost use Rattle.rb_walk.specs.Collections.{Comes};
+ghost use Rattle.rb_walk.specs.Walks.{FindsElement, FindsNone, Iterates, Opens, OpensBy, finishing, second_value, value_on, walking};
 
 use super::Walker;
-use crate::came::{Came, Cut, is_left};
-use crate::gathering::{gather, held};
-use crate::rounds::{Iterations, count_of, iterations_of};
-use crate::slots::open_block;
 use rb_builtin::{Builtin, Deed, Pass, deed_of};
 use rb_code::CodeBlock;
 use rb_model::{Act, Make, Ref, Reply, ThreadStore, Value};
 use rb_tree::Span;
+use rb_walk::came::{Came, Cut, is_left};
+use rb_walk::gathering::{gather, held};
+use rb_walk::rounds::{Iterations, count_of, iterations_of};
+use rb_walk::slots::open_block;
 
 /// The second value that a walk gives its block: the index, or nil where it gives none.
 #[inline(always)]

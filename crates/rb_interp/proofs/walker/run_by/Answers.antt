@@ -7,7 +7,7 @@ use Rattle.rb_model.specs.Ends.{End}
 use Rattle.rb_machine.specs.Control.{State, Then, Instead}
 use Rattle.rb_machine.specs.Follows.{At, Follows, here}
 use Rattle.rb_machine.specs.Alone.{opening}
-use Rattle.rb_interp.proofs.Endings.{follows, refused_last, never_full}
+use Rattle.rb_walk.proofs.Endings.{follows, refused_last, never_full}
 use Rattle.rb_interp.proofs.walker.run_by.Goals as goal
 
 -- the machine has begun, with a log and a private store in which there is nothing

@@ -1,8 +1,8 @@
 use Rattle.rb_tree.specs.declared.node.Program.{Program}
 use Rattle.rb_machine.proofs.Down.{begin_left}
 use Rattle.rb_tree.specs.declared.node.Node.{out-Node}
-use Rattle.rb_interp.specs.Answers.{OrMemory, outcome_of}
-use Rattle.rb_interp.specs.Carries.{numbered, goes_on, plainly, updating, scope_of, written_by, printing, me_of}
+use Rattle.rb_walk.specs.Answers.{OrMemory, outcome_of}
+use Rattle.rb_walk.specs.Carries.{numbered, goes_on, plainly, updating, scope_of, written_by, printing, me_of}
 use Rattle.rb_code.proofs.Slots.{slot_within}
 use Rattle.std.proofs.Common.{rules, to_z, of_z, w64, ◌≡◌, ap, sym, ◌∙◌, refl, [], ◌∷◌, ◌++◌, take, drop, map, length, ◌+◌, ◌-◌, ◌<◌, ◌≤◌, Some, None, true, false, arith}
 use Rattle.std.proofs.lemmas.List.{drop_all}
@@ -13,28 +13,28 @@ use Rattle.rb_code.specs.Erase.{erase, erase_piece, erase_block, erase_method}
 use Rattle.rb_code.specs.Resolved.{fits, every, if_some, block_fits}
 use Rattle.rb_code.proofs.Showing.{shows-array, shows-hash, shows-new_builtin, shows-nil, shows-false, shows-true, shows-self_ref, shows-field, shows-set_field, shows-update_field, shows-new, shows-start, shows-own, shows-int, shows-sym, shows-local, shows-and, shows-or, shows-not, shows-if, shows-break, shows-next, shows-set_local, shows-while, shows-return, shows-str, shows-update_local, shows-update_element, shows-update_attribute, shows-store, shows-operate, shows-send, shows-walk, shows-function, shows-print}
 use Rattle.rb_code.proofs.Fitting.{fits-array, fits-hash, fits-new_builtin, fits-local, fits-set_field, fits-update_field, fits-new, fits-own, fits-and, fits-or, fits-not, fits-if, fits-set_local, fits-while, fits-return, fits-str, fits-update_local, fits-update_element, fits-update_attribute, fits-store, fits-operate, fits-send, fits-walk, fits-function, fits-print}
-use Rattle.rb_interp.specs.Outcome.{Gave, is_left, value_of, outcome}
-use Rattle.rb_interp.proofs.Moves.{gives, test_true, test_false, on, same, begins, follows, counts, too_many, too_deep, left}
-use Rattle.rb_interp.proofs.Immediates.{reads_element, told_value}
-use Rattle.rb_interp.specs.Answers.{wrote}
-use Rattle.rb_interp.proofs.Lists.{at_end, in_front, two_items, no_items, none_behind, never, two, fst, snd, next_item, len_set, len_map, len_args, get_set, nothing, front, there}
-use Rattle.rb_interp.proofs.Rooms.{args_fit, sub, moved, every_item, lies, frame_back, read_room, room_beyond}
-use Rattle.rb_interp.proofs.Outcomes.{stopped_left, again_unread, statements_end, gave, given, comes, passes, gone, again_out, tested_again, tested_out, called, turn_too_many, turns_end}
-use Rattle.rb_interp.proofs.Steps.{and_goes, and_stops, or_goes, or_stops, negated, chosen_first, chosen_second, assigned, kept_write}
+use Rattle.rb_walk.specs.Outcome.{Gave, is_left, value_of, outcome}
+use Rattle.rb_walk.proofs.Moves.{gives, test_true, test_false, on, same, begins, follows, counts, too_many, too_deep, left}
+use Rattle.rb_walk.proofs.Immediates.{reads_element, told_value}
+use Rattle.rb_walk.specs.Answers.{wrote}
+use Rattle.rb_walk.proofs.Lists.{at_end, in_front, two_items, no_items, none_behind, never, two, fst, snd, next_item, len_set, len_map, len_args, get_set, nothing, front, there}
+use Rattle.rb_walk.proofs.Rooms.{args_fit, sub, moved, every_item, lies, frame_back, read_room, room_beyond}
+use Rattle.rb_walk.proofs.Outcomes.{stopped_left, again_unread, statements_end, gave, given, comes, passes, gone, again_out, tested_again, tested_out, called, turn_too_many, turns_end}
+use Rattle.rb_walk.proofs.Steps.{and_goes, and_stops, or_goes, or_stops, negated, chosen_first, chosen_second, assigned, kept_write}
 use Rattle.rb_machine.specs.Scopes.{text_of}
 use Rattle.rb_builtin.specs.Names.{builtin_of}
 use Rattle.rb_builtin.proofs.Table.{same_is}
-use Rattle.rb_interp.proofs.Quick.{calls_pair, calls_twice, updates, updates_over}
-use Rattle.rb_interp.proofs.Calls.{calls, no_such, none_plain}
-use Rattle.rb_interp.proofs.Places.{operator_number, or_else_stays, or_else_goes, and_then_stays, and_then_goes, operates, reads, attribute_is, target_local, target_field, target_element, target_attribute}
+use Rattle.rb_walk.proofs.Quick.{calls_pair, calls_twice, updates, updates_over}
+use Rattle.rb_walk.proofs.Calls.{calls, no_such, none_plain}
+use Rattle.rb_walk.proofs.Places.{operator_number, or_else_stays, or_else_goes, and_then_stays, and_then_goes, operates, reads, attribute_is, target_local, target_field, target_element, target_attribute}
 use mathlib.Core.Logic.{inl}
 use Rattle.rb_machine.specs.Call.{operator, last_value, enter, print, text_by, own_text, write}
-use Rattle.rb_interp.proofs.Arguments.{passing, passed, placed, joined, only_left, only_came, over_left}
-use Rattle.rb_interp.proofs.Prints.{by_form, printing_is, by_text}
+use Rattle.rb_walk.proofs.Arguments.{passing, passed, placed, joined, only_left, only_came, over_left}
+use Rattle.rb_walk.proofs.Prints.{by_form, printing_is, by_text}
 use Rattle.std.specs.Option.{option_map, option_copied}
 use Rattle.rb_code.specs.Dispatch.{method_at}
 use Rattle.rb_machine.specs.Begin.{begin_return}
-use Rattle.rb_interp.proofs.Pieces.{piece_code, shows_text, shows_code, joining, joins_code, text_long, text_joins, whole_text, too_long, not_long, asks_piece}
+use Rattle.rb_walk.proofs.Pieces.{piece_code, shows_text, shows_code, joining, joins_code, text_long, text_joins, whole_text, too_long, not_long, asks_piece}
 use Rattle.std.proofs.lemmas.Int.{ints, to_z-of_z}
 use Rattle.rb_code.specs.Layout.{bound}
 use Rattle.rb_machine.specs.Control.{ForEach, Walking}
@@ -43,28 +43,28 @@ use Rattle.rb_machine.specs.Methods.{LoopsOver, EachPairOf}
 use Rattle.rb_model.specs.Values.{To}
 use Rattle.rb_model.specs.Doing.{pair}
 use Rattle.rb_builtin.specs.Deeds.{thing_of, walk_of}
-use Rattle.rb_interp.specs.Walks.{walking}
-use Rattle.rb_interp.proofs.Walks.{over_stops, no_step, start_left, begun_at, iteration_opens, iteration_goes, element_begins, element_ends, pair_begins, pairs_end, copied_left, no_pairs, block_comes, still_within, up_to_end}
+use Rattle.rb_walk.specs.Walks.{walking}
+use Rattle.rb_walk.proofs.Walks.{over_stops, no_step, start_left, begun_at, iteration_opens, iteration_goes, element_begins, element_ends, pair_begins, pairs_end, copied_left, no_pairs, block_comes, still_within, up_to_end}
 use Rattle.std.proofs.Common.{suc}
-use Rattle.rb_interp.proofs.Turns.{some_left, none_left, last_done, ends_within, deeper, opens, closes, closes_out, cut, answers_block, block_turns, takes_is}
+use Rattle.rb_walk.proofs.Turns.{some_left, none_left, last_done, ends_within, deeper, opens, closes, closes_out, cut, answers_block, block_turns, takes_is}
 use Rattle.rb_machine.specs.Methods.{deed}
-use Rattle.rb_interp.proofs.Elements.{calls_builtin, stores_builtin, writes_element, built_from, parts_are}
+use Rattle.rb_walk.proofs.Elements.{calls_builtin, stores_builtin, writes_element, built_from, parts_are}
 use Rattle.rb_builtin.specs.declared.builtin.Builtin.TheVariants as builtin
 use Rattle.rb_code.specs.Resolved.{form_text}
-use Rattle.rb_interp.proofs.Named.{unnamed_is, found_nowhere}
-use Rattle.rb_interp.proofs.Frames.{enters, other_count, frame_lies, enter_left, by_receiver, blocked, by_own, by_number, function_right}
-use Rattle.rb_interp.proofs.Targets.{operator_none, update_none, writer_some, writer_right, writer_none, writer_me}
-use Rattle.rb_interp.proofs.Objects.{fielded_by, created, created_from, initialize_left, initializes, first_right, takes_none, is_ready}
-use Rattle.rb_interp.specs.Objects.{plainly as fielded, updating as field_updated}
+use Rattle.rb_walk.proofs.Named.{unnamed_is, found_nowhere}
+use Rattle.rb_walk.proofs.Frames.{enters, other_count, frame_lies, enter_left, by_receiver, blocked, by_own, by_number, function_right}
+use Rattle.rb_walk.proofs.Targets.{operator_none, update_none, writer_some, writer_right, writer_none, writer_me}
+use Rattle.rb_walk.proofs.Objects.{fielded_by, created, created_from, initialize_left, initializes, first_right, takes_none, is_ready}
+use Rattle.rb_walk.specs.Objects.{plainly as fielded, updating as field_updated}
 use Rattle.rb_interp.proofs.walker.Walker.+walk.Goals.{text-in-Text+in_default, text-in-Code+else-is_left+else-is_left-2+in_default-add_value}
-use Rattle.rb_interp.proofs.Endings.{quietly}
+use Rattle.rb_walk.proofs.Endings.{quietly}
 use Rattle.rb_render.specs.Forms.{style_of}
 use Rattle.rb_model.specs.declared.value.Value.TheVariants as held
 use Rattle.rb_model.specs.Ends as ending
 use Rattle.std.specs.Prelude.{Err}
-use Rattle.rb_interp.proofs.Drafting.{over_left as ends_left, left_only, text_ends, text_given, text_asked, asks_less, finished_is}
-use Rattle.rb_interp.proofs.Lines.{bytes_told, end_told, told_line, line_passes, lines_told, writes_next, in_style}
-use Rattle.rb_interp.proofs.Texts.{registers_unasked, registers_plain, told_enters, told_gives, text_left, write_left, copy_came, copy_left, told_itself, told_leaving, told_answer, told_by_class, told_left, told_passes, told_joins, told_writes, read_item, next_value, no_value, shows_all, gives_nil}
+use Rattle.rb_walk.proofs.Drafting.{over_left as ends_left, left_only, text_ends, text_given, text_asked, asks_less, finished_is}
+use Rattle.rb_walk.proofs.Lines.{bytes_told, end_told, told_line, line_passes, lines_told, writes_next, in_style}
+use Rattle.rb_walk.proofs.Texts.{registers_unasked, registers_plain, told_enters, told_gives, text_left, write_left, copy_came, copy_left, told_itself, told_leaving, told_answer, told_by_class, told_left, told_passes, told_joins, told_writes, read_item, next_value, no_value, shows_all, gives_nil}
 use Rattle.rb_interp.proofs.walker.Walker.+walk.Goals as goal
 
 pub walk_here-returns-then-self-eq0-clause-came : goal.walk_here-returns-then-self-eq0-clause-came

@@ -8,14 +8,14 @@ use Rattle.rb_code.specs.Erase.{erase, erase_block, erase_piece}
 use Rattle.rb_code.specs.Resolved.{fits, piece_fits, block_fits, every}
 use Rattle.rb_machine.specs.Texts.{max_bytes}
 use Rattle.rb_render.specs.Forms.{style_of}
-use Rattle.rb_interp.specs.Texts.{WritesOn}
-use Rattle.rb_interp.specs.Walks.{WalksOn}
+use Rattle.rb_walk.specs.Texts.{WritesOn}
+use Rattle.rb_walk.specs.Walks.{WalksOn}
 use Rattle.std.specs.Vec.Iter.{into_iter_items}
 use Rattle.rb_model.specs.Doing.{pair}
 use Rattle.rb_builtin.specs.Deeds.{thing_of}
-use Rattle.rb_interp.specs.Lines.{LinesOn}
-use Rattle.rb_interp.specs.Collections.{work_of}
-use Rattle.rb_interp.specs.Carries.{Keeps, Reaches, both, me_of}
+use Rattle.rb_walk.specs.Lines.{LinesOn}
+use Rattle.rb_walk.specs.Collections.{work_of}
+use Rattle.rb_walk.specs.Carries.{Keeps, Reaches, both, me_of}
 use Rattle.rb_interp.proofs.walker.Walker.+walk.Given as goal
 
 abbrev pub decreases-walk : goal.decreases-walk

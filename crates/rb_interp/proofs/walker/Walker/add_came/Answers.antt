@@ -2,9 +2,9 @@ use Rattle.std.proofs.Common.{ap}
 use Rattle.std.specs.Prelude.{Err}
 use Rattle.rb_machine.specs.Texts.{shown, styled}
 use Rattle.rb_render.specs.Forms.{style_of}
-use Rattle.rb_interp.specs.Outcome.{is_left, value_of}
-use Rattle.rb_interp.proofs.Drafting.{end_left, left_only}
-use Rattle.rb_interp.proofs.Lines.{text_joins, text_long}
+use Rattle.rb_walk.specs.Outcome.{is_left, value_of}
+use Rattle.rb_walk.proofs.Drafting.{end_left, left_only}
+use Rattle.rb_walk.proofs.Lines.{text_joins, text_long}
 use Rattle.rb_interp.proofs.walker.Walker.add_came.Goals as goal
 
 pub returns-in-Ok-clause-came : goal.returns-in-Ok-clause-came

@@ -3,9 +3,9 @@ use Rattle.std.specs.Prelude.{Err}
 use Rattle.rb_model.specs.Values.{To}
 use Rattle.rb_machine.specs.Control.{Then, WriteBehind, Inspecting}
 use Rattle.rb_builtin.specs.Deeds.{thing_of}
-use Rattle.rb_interp.specs.Outcome.{is_left, value_of}
-use Rattle.rb_interp.proofs.Outcomes.{given, passes}
-use Rattle.rb_interp.proofs.Drafting.{end_left, left_only, form_drafted, line_written, line_ends}
+use Rattle.rb_walk.specs.Outcome.{is_left, value_of}
+use Rattle.rb_walk.proofs.Outcomes.{given, passes}
+use Rattle.rb_walk.proofs.Drafting.{end_left, left_only, form_drafted, line_written, line_ends}
 use Rattle.rb_interp.proofs.walker.Walker.add_collection.Goals as goal
 
 pub returns-then-is_left-clause-came : goal.returns-then-is_left-clause-came

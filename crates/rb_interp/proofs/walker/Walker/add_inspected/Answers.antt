@@ -2,8 +2,8 @@ use Rattle.std.proofs.Common.{ap}
 use Rattle.std.specs.Prelude.{Err}
 use Rattle.rb_model.specs.Values.{Str, plain}
 use Rattle.rb_machine.specs.Texts.{inspected}
-use Rattle.rb_interp.specs.Outcome.{is_left}
-use Rattle.rb_interp.proofs.Drafting.{end_left, left_only, form_given, line_written, line_ends}
+use Rattle.rb_walk.specs.Outcome.{is_left}
+use Rattle.rb_walk.proofs.Drafting.{end_left, left_only, form_given, line_written, line_ends}
 use Rattle.rb_interp.proofs.walker.Walker.add_inspected.Goals as goal
 
 pub returns-in-Some-clause-came : goal.returns-in-Some-clause-came

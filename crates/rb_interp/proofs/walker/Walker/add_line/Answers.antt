@@ -2,9 +2,9 @@ use Rattle.std.proofs.Common.{ap}
 use Rattle.std.specs.Prelude.{Err}
 use Rattle.rb_model.specs.Values.{plain}
 use Rattle.rb_machine.specs.Texts.{shown}
-use Rattle.rb_interp.specs.Outcome.{is_left, value_of}
-use Rattle.rb_interp.proofs.Drafting.{end_left, left_only, line_most}
-use Rattle.rb_interp.proofs.Lines.{line_joins, line_ends}
+use Rattle.rb_walk.specs.Outcome.{is_left, value_of}
+use Rattle.rb_walk.proofs.Drafting.{end_left, left_only, line_most}
+use Rattle.rb_walk.proofs.Lines.{line_joins, line_ends}
 use Rattle.rb_interp.proofs.walker.Walker.add_line.Goals as goal
 
 pub returns-in-Ok-clause-came : goal.returns-in-Ok-clause-came

@@ -1,5 +1,5 @@
 use Rattle.std.proofs.Common.{◌≡◌, ◌<◌, rules, to_z, of_z, w64, SFits, arith}
-use Rattle.rb_interp.proofs.Adding.{adds}
+use Rattle.rb_walk.proofs.Adding.{adds}
 use Rattle.rb_interp.proofs.walker.Walker.added.Goals as goal
 
 pub returns-clause-came : goal.returns-clause-came

@@ -2,8 +2,8 @@ use Rattle.std.proofs.Common.{refl, arith}
 use Rattle.rb_model.specs.declared.fault.Fault.TheVariants.{TooDeep}
 use Rattle.rb_model.specs.Ends as ending
 use Rattle.rb_builtin.specs.Deeds.{thing_of}
-use Rattle.rb_interp.specs.Outcome.{is_left}
-use Rattle.rb_interp.proofs.Drafting.{over_left, left_only, text_goes, no_step, element_begun, reads, too_deep, goes_less, element_most, copies_less}
+use Rattle.rb_walk.specs.Outcome.{is_left}
+use Rattle.rb_walk.proofs.Drafting.{over_left, left_only, text_goes, no_step, element_begun, reads, too_deep, goes_less, element_most, copies_less}
 use Rattle.rb_interp.proofs.walker.Walker.advance.Goals as goal
 
 pub returns-in-More-clause-came : goal.returns-in-More-clause-came

@@ -1,4 +1,4 @@
-use Rattle.rb_interp.proofs.Immediates.{given_row, given_leaf}
+use Rattle.rb_walk.proofs.Immediates.{given_row, given_leaf}
 use Rattle.rb_interp.proofs.walker.Walker.array_at.Goals as goal
 
 pub returns-then-is_row-clause-given : goal.returns-then-is_row-clause-given

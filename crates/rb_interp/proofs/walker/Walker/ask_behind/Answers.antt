@@ -3,9 +3,9 @@ use Rattle.rb_model.specs.Values.{To}
 use Rattle.rb_model.specs.Doing.{doing}
 use Rattle.rb_machine.specs.Control.{Then, Instead, IsZero}
 use Rattle.rb_builtin.specs.Deeds.{thing_of}
-use Rattle.rb_interp.proofs.Moves.{on, same}
-use Rattle.rb_interp.proofs.Outcomes.{given}
-use Rattle.rb_interp.proofs.Collections.{waiting, asks_so, past_waiting}
+use Rattle.rb_walk.proofs.Moves.{on, same}
+use Rattle.rb_walk.proofs.Outcomes.{given}
+use Rattle.rb_walk.proofs.Collections.{waiting, asks_so, past_waiting}
 use Rattle.rb_interp.proofs.walker.Walker.ask_behind.Goals as goal
 
 pub returns-then-is_left-clause-came : goal.returns-then-is_left-clause-came

@@ -1,8 +1,8 @@
 use Rattle.std.proofs.Common.{◌≡◌, ◌∙◌, sym, to_z, of_z, w64, rules}
 use Rattle.rb_model.specs.Acts as reply
 use Rattle.rb_builtin.specs.Deeds.{thing_of}
-use Rattle.rb_interp.proofs.Immediates.{told_value}
-use Rattle.rb_interp.proofs.Objects.{asked_reply}
+use Rattle.rb_walk.proofs.Immediates.{told_value}
+use Rattle.rb_walk.proofs.Objects.{asked_reply}
 use Rattle.rb_interp.proofs.walker.Walker.asked_value.Goals as goal
 
 pub returns-in-Some-clause-came : goal.returns-in-Some-clause-came

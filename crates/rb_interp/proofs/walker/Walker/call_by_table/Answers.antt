@@ -1,4 +1,4 @@
-use Rattle.rb_interp.proofs.Calls.{left_answered}
+use Rattle.rb_walk.proofs.Calls.{left_answered}
 use Rattle.rb_interp.proofs.walker.Walker.call_by_table.Goals as goal
 
 pub returns-in-Ok-clause-came : goal.returns-in-Ok-clause-came

@@ -2,8 +2,8 @@ use Rattle.std.proofs.Common.{◌∷◌, [], None}
 use Rattle.rb_model.specs.Values.{plain}
 use Rattle.rb_machine.specs.Call.{answered}
 use Rattle.rb_machine.specs.Methods.{deed}
-use Rattle.rb_interp.specs.Answers.{outcome_of}
-use Rattle.rb_interp.proofs.Calls.{left_answered, answers, or_memory}
+use Rattle.rb_walk.specs.Answers.{outcome_of}
+use Rattle.rb_walk.proofs.Calls.{left_answered, answers, or_memory}
 use Rattle.rb_interp.proofs.walker.Walker.call_with.Goals as goal
 
 pub returns-in-Some-clause-came : goal.returns-in-Some-clause-came

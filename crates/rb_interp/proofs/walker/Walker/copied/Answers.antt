@@ -1,5 +1,5 @@
 use Rattle.std.proofs.Common.{sym}
-use Rattle.rb_interp.proofs.Collections.{read_at}
+use Rattle.rb_walk.proofs.Collections.{read_at}
 use Rattle.rb_interp.proofs.walker.Walker.copied.Goals as goal
 
 pub returns-in-Ok-clause-reads : goal.returns-in-Ok-clause-reads

@@ -2,8 +2,8 @@ use Rattle.std.proofs.Common.{◌≡◌, ◌∙◌, sym, to_z, of_z, w64, rules}
 use Rattle.rb_model.specs.Acts.{At}
 use Rattle.rb_model.specs.Acts as reply
 use Rattle.rb_builtin.specs.Deeds.{thing_of}
-use Rattle.rb_interp.proofs.Immediates.{there_and_gives, told_value}
-use Rattle.rb_interp.proofs.Objects.{asked_reply}
+use Rattle.rb_walk.proofs.Immediates.{there_and_gives, told_value}
+use Rattle.rb_walk.proofs.Objects.{asked_reply}
 use Rattle.rb_interp.proofs.walker.Walker.element.Goals as goal
 
 pub returns-then-is_told-clause-came : goal.returns-then-is_told-clause-came

@@ -1,7 +1,7 @@
 use Rattle.std.proofs.Common.{◌≡◌, to_z, of_z, w64, rules}
 use Rattle.rb_model.specs.Acts.{At}
 use Rattle.rb_model.specs.declared.act.Reply.TheVariants as answered
-use Rattle.rb_interp.proofs.Objects.{asked}
+use Rattle.rb_walk.proofs.Objects.{asked}
 use Rattle.rb_interp.proofs.walker.Walker.element_apart.Goals as goal
 
 pub returns-in-Some-clause-came : goal.returns-in-Some-clause-came

@@ -1,8 +1,8 @@
 use Rattle.std.proofs.Common.{◌≡◌, to_z, of_z, w64, rules}
 use Rattle.rb_model.specs.Acts.{At}
 use Rattle.rb_model.specs.Values.{Int}
-use Rattle.rb_interp.specs.Answers.{steps_of}
-use Rattle.rb_interp.proofs.Immediates.{element_told, told_by, told_of}
+use Rattle.rb_walk.specs.Answers.{steps_of}
+use Rattle.rb_walk.proofs.Immediates.{element_told, told_by, told_of}
 use Rattle.rb_interp.proofs.walker.Walker.element_at.Goals as goal
 
 pub returns : goal.returns

@@ -1,6 +1,6 @@
 use Rattle.std.proofs.Common.{◌<◌, Some, arith}
-use Rattle.rb_interp.specs.Carries.{me_of}
-use Rattle.rb_interp.proofs.Readers.{enters_reader}
+use Rattle.rb_walk.specs.Carries.{me_of}
+use Rattle.rb_walk.proofs.Readers.{enters_reader}
 use Rattle.rb_interp.proofs.walker.Walker.entered_reader.Goals as goal
 
 pub returns-clause-came : goal.returns-clause-came

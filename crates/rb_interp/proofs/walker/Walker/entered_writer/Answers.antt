@@ -2,9 +2,9 @@ use Rattle.std.proofs.Common.{◌≡◌, ◌<◌, Some, of_z, to_z, w64, ap, ari
 use Rattle.rb_model.specs.Values.{Int}
 use Rattle.rb_machine.specs.Call.{enter}
 use Rattle.rb_code.specs.Erase.{erase_method}
-use Rattle.rb_interp.specs.Carries.{me_of}
-use Rattle.rb_interp.proofs.Moves.{same}
-use Rattle.rb_interp.proofs.Readers.{enters_writer}
+use Rattle.rb_walk.specs.Carries.{me_of}
+use Rattle.rb_walk.proofs.Moves.{same}
+use Rattle.rb_walk.proofs.Readers.{enters_writer}
 use Rattle.rb_interp.proofs.walker.Walker.entered_writer.Goals as goal
 
 pub returns-clause-came : goal.returns-clause-came

@@ -1,6 +1,6 @@
 use Rattle.std.proofs.Common.{refl, sym}
 use Rattle.rb_model.specs.Doing.{doing}
-use Rattle.rb_interp.proofs.Objects.{asked, there_is}
+use Rattle.rb_walk.proofs.Objects.{asked, there_is}
 use Rattle.rb_interp.proofs.walker.Walker.fetch.Goals as goal
 
 pub returns-then-not-holds-clause-came : goal.returns-then-not-holds-clause-came

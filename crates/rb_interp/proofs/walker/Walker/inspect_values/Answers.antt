@@ -3,10 +3,10 @@ use Rattle.std.proofs.lemmas.List.{drop_all}
 use Rattle.rb_model.specs.Values.{plain}
 use Rattle.rb_machine.specs.Control.{Inspecting}
 use Rattle.rb_machine.specs.Call.{write, value_of_p}
-use Rattle.rb_interp.specs.Outcome.{value_of}
-use Rattle.rb_interp.proofs.Lists.{next_item}
-use Rattle.rb_interp.proofs.Moves.{same}
-use Rattle.rb_interp.proofs.Outcomes.{given, passes}
+use Rattle.rb_walk.specs.Outcome.{value_of}
+use Rattle.rb_walk.proofs.Lists.{next_item}
+use Rattle.rb_walk.proofs.Moves.{same}
+use Rattle.rb_walk.proofs.Outcomes.{given, passes}
 use Rattle.rb_interp.proofs.walker.Walker.inspect_values.Goals as goal
 
 pub values-init : goal.values-init

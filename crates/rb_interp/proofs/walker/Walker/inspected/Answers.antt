@@ -1,6 +1,6 @@
 use Rattle.std.proofs.Common.{◌∙◌, refl, sym, ap, arith}
 use Rattle.std.specs.Prelude.{Err}
-use Rattle.rb_interp.proofs.Drafting.{finished_is, text_ends, text_given}
+use Rattle.rb_walk.proofs.Drafting.{finished_is, text_ends, text_given}
 use Rattle.rb_interp.proofs.walker.Walker.inspected.Goals as goal
 
 pub text-init : goal.text-init

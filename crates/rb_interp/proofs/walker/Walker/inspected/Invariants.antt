@@ -5,7 +5,7 @@ use Rattle.rb_machine.specs.Control.{State, Cont, On, Drafting, Inspected}
 use Rattle.rb_machine.specs.Drafts.{draft_of}
 use Rattle.rb_machine.specs.Follows.{At}
 use Rattle.rb_builtin.specs.Deeds.{thing_of}
-use Rattle.rb_interp.specs.Collections.{work_of}
+use Rattle.rb_walk.specs.Collections.{work_of}
 use Rattle.rb_interp.proofs.walker.Walker.inspected.Given as goal
 
 abbrev pub invariant-text : goal.invariant-text

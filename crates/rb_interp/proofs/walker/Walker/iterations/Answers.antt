@@ -1,7 +1,7 @@
 use Rattle.std.proofs.Common.{subst}
 use Rattle.rb_machine.specs.Methods.{Answer}
-use Rattle.rb_interp.specs.Walks.{OpensBy}
-use Rattle.rb_interp.proofs.Turns.{block_cut}
+use Rattle.rb_walk.specs.Walks.{OpensBy}
+use Rattle.rb_walk.proofs.Turns.{block_cut}
 use Rattle.rb_interp.proofs.walker.Walker.iterations.Goals as goal
 
 pub returns-in_default-clause-opens : goal.returns-in_default-clause-opens

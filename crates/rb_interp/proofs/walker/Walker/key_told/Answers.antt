@@ -1,4 +1,4 @@
-use Rattle.rb_interp.proofs.Immediates.{told_of}
+use Rattle.rb_walk.proofs.Immediates.{told_of}
 use Rattle.rb_interp.proofs.walker.Walker.key_told.Goals as goal
 
 pub returns : goal.returns

@@ -1,4 +1,4 @@
-use Rattle.rb_interp.proofs.Collections.{made_at}
+use Rattle.rb_walk.proofs.Collections.{made_at}
 use Rattle.rb_interp.proofs.walker.Walker.make.Goals as goal
 
 pub returns-in-Ok-clause-came : goal.returns-in-Ok-clause-came

@@ -3,8 +3,8 @@ use Rattle.std.proofs.lemmas.Int.{to_z_pos}
 use Rattle.std.specs.Prelude.{pos}
 use Rattle.rb_machine.specs.Control.{Then, ElementBelow, WithElement}
 use Rattle.rb_builtin.specs.Deeds.{thing_of}
-use Rattle.rb_interp.proofs.Outcomes.{given, passes}
-use Rattle.rb_interp.proofs.Walks.{asks_length, asks_element, no_element}
+use Rattle.rb_walk.proofs.Outcomes.{given, passes}
+use Rattle.rb_walk.proofs.Walks.{asks_length, asks_element, no_element}
 use Rattle.rb_interp.proofs.walker.Walker.next_element.Goals as goal
 
 pub returns-then-is_left-clause-some : goal.returns-then-is_left-clause-some

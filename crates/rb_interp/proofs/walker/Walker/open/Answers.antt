@@ -3,9 +3,9 @@ use Rattle.std.specs.Prelude.{Err}
 use Rattle.rb_model.specs.Ends as ending
 use Rattle.rb_model.specs.Doing.{said}
 use Rattle.rb_builtin.specs.Deeds.{thing_of}
-use Rattle.rb_interp.specs.Outcome.{is_left}
-use Rattle.rb_interp.proofs.Moves.{same}
-use Rattle.rb_interp.proofs.Drafting.{over_left, end_left, left_only, read_ends}
+use Rattle.rb_walk.specs.Outcome.{is_left}
+use Rattle.rb_walk.proofs.Moves.{same}
+use Rattle.rb_walk.proofs.Drafting.{over_left, end_left, left_only, read_ends}
 use Rattle.rb_interp.proofs.walker.Walker.open.Goals as goal
 
 pub returns-in-Ok-give_copy-clause-opens : goal.returns-in-Ok-give_copy-clause-opens

@@ -1,6 +1,6 @@
 use Rattle.rb_builtin.specs.Deeds.{turns_of}
-use Rattle.rb_interp.proofs.Turns.{block_cut}
-use Rattle.rb_interp.proofs.Walks.{counted}
+use Rattle.rb_walk.proofs.Turns.{block_cut}
+use Rattle.rb_walk.proofs.Walks.{counted}
 use Rattle.rb_interp.proofs.walker.Walker.opened.Goals as goal
 
 pub returns-in-Walk-clause-opens : goal.returns-in-Walk-clause-opens

@@ -1,8 +1,8 @@
 use Rattle.std.proofs.Common.{◌≡◌, ◌∷◌, ◌∙◌, to_z, of_z, w64, rules, refl, sym}
 use Rattle.rb_model.specs.Values.{plain}
 use Rattle.rb_machine.specs.Control.{Then, Instead}
-use Rattle.rb_interp.proofs.Moves.{on}
-use Rattle.rb_interp.proofs.Outcomes.{given, passes}
+use Rattle.rb_walk.proofs.Moves.{on}
+use Rattle.rb_walk.proofs.Outcomes.{given, passes}
 use Rattle.rb_interp.proofs.walker.Walker.put.Goals as goal
 
 pub returns-then-is_left-clause-came : goal.returns-then-is_left-clause-came

@@ -4,11 +4,11 @@ use Rattle.rb_model.specs.Acts as reply
 use Rattle.rb_machine.specs.Call.{ask}
 use Rattle.rb_machine.specs.Control.{Then, Instead}
 use Rattle.rb_builtin.specs.Deeds.{thing_of}
-use Rattle.rb_interp.specs.Outcome.{value_of}
-use Rattle.rb_interp.proofs.Immediates.{told_value}
-use Rattle.rb_interp.proofs.Moves.{on, same}
-use Rattle.rb_interp.proofs.Objects.{asked_reply}
-use Rattle.rb_interp.proofs.Outcomes.{gave}
+use Rattle.rb_walk.specs.Outcome.{value_of}
+use Rattle.rb_walk.proofs.Immediates.{told_value}
+use Rattle.rb_walk.proofs.Moves.{on, same}
+use Rattle.rb_walk.proofs.Objects.{asked_reply}
+use Rattle.rb_walk.proofs.Outcomes.{gave}
 use Rattle.rb_interp.proofs.walker.Walker.put_came.Goals as goal
 
 pub returns-then-put_immediate-clause-came : goal.returns-then-put_immediate-clause-came

@@ -1,8 +1,8 @@
 use Rattle.std.proofs.Common.{◌∷◌, ◌∙◌, refl, sym, ap}
 use Rattle.rb_machine.specs.Control.{Then, Instead}
-use Rattle.rb_interp.specs.Outcome.{value_of}
-use Rattle.rb_interp.proofs.Moves.{on}
-use Rattle.rb_interp.proofs.Outcomes.{given, passes}
+use Rattle.rb_walk.specs.Outcome.{value_of}
+use Rattle.rb_walk.proofs.Moves.{on}
+use Rattle.rb_walk.proofs.Outcomes.{given, passes}
 use Rattle.rb_interp.proofs.walker.Walker.put_pair.Goals as goal
 
 pub returns-then-is_left-clause-came : goal.returns-then-is_left-clause-came

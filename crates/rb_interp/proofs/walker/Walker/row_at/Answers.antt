@@ -1,5 +1,5 @@
 use Rattle.std.proofs.Common.{◌≡◌, to_z, of_z, w64, rules}
-use Rattle.rb_interp.proofs.Immediates.{row_given, row_unnamed}
+use Rattle.rb_walk.proofs.Immediates.{row_given, row_unnamed}
 use Rattle.rb_interp.proofs.walker.Walker.row_at.Goals as goal
 
 pub returns-clause-given : goal.returns-clause-given

@@ -1,8 +1,8 @@
 use Rattle.std.proofs.Common.{◌<◌, sym, arith}
 use Rattle.rb_model.specs.Values.{plain}
 use Rattle.rb_machine.specs.Scopes.{text_of}
-use Rattle.rb_interp.proofs.Calls.{none_plain}
-use Rattle.rb_interp.proofs.Quick.{calls_held}
+use Rattle.rb_walk.proofs.Calls.{none_plain}
+use Rattle.rb_walk.proofs.Quick.{calls_held}
 use Rattle.rb_interp.proofs.walker.Walker.sent.Goals as goal
 
 pub returns-clause-came : goal.returns-clause-came

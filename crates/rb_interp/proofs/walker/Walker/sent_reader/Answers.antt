@@ -1,6 +1,6 @@
 use Rattle.std.proofs.Common.{◌<◌, arith}
 use Rattle.rb_model.specs.Values.{plain}
-use Rattle.rb_interp.proofs.Readers.{sends_reader}
+use Rattle.rb_walk.proofs.Readers.{sends_reader}
 use Rattle.rb_interp.proofs.walker.Walker.sent_reader.Goals as goal
 
 pub returns-clause-came : goal.returns-clause-came

@@ -1,7 +1,7 @@
 use Rattle.std.proofs.Common.{◌≡◌, ◌<◌, [], refl, arith}
 use Rattle.rb_model.specs.Values.{plain}
-use Rattle.rb_interp.specs.Answers.{IsHeld}
-use Rattle.rb_interp.proofs.Readers.{evaluates_reader, fetched_exit}
+use Rattle.rb_walk.specs.Answers.{IsHeld}
+use Rattle.rb_walk.proofs.Readers.{evaluates_reader, fetched_exit}
 use Rattle.rb_interp.proofs.walker.Walker.sent_value.Goals as goal
 
 pub returns-clause-came : goal.returns-clause-came

@@ -1,7 +1,7 @@
 use Rattle.std.proofs.Common.{◌≡◌, ◌∙◌, ap, sym, refl, false, arith, ◌-◌, ◌<◌, length}
 use Rattle.std.specs.Prelude.{◌==◌}
 use Rattle.rb_model.specs.Log.{Log, has_end, plain_entry, Print}
-use Rattle.rb_interp.proofs.Showing.{no_end, printed, not_zero}
+use Rattle.rb_walk.proofs.Showing.{no_end, printed, not_zero}
 use Rattle.rb_interp.proofs.walker.Walker.show_bytes.Goals as goal
 
 pub returns-in-Done-clause-unended : goal.returns-in-Done-clause-unended

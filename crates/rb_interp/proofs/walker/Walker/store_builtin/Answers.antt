@@ -2,9 +2,9 @@ use Rattle.std.proofs.Common.{◌≡◌, ◌∷◌, ◌∙◌, map, to_z, of_z, 
 use Rattle.rb_model.specs.Values.{plain}
 use Rattle.rb_machine.specs.Control.{Then, Instead}
 use Rattle.rb_machine.specs.Call.{last_value}
-use Rattle.rb_interp.proofs.Calls.{left_answered}
-use Rattle.rb_interp.proofs.Moves.{on}
-use Rattle.rb_interp.proofs.Outcomes.{given, passes}
+use Rattle.rb_walk.proofs.Calls.{left_answered}
+use Rattle.rb_walk.proofs.Moves.{on}
+use Rattle.rb_walk.proofs.Outcomes.{given, passes}
 use Rattle.rb_interp.proofs.walker.Walker.store_builtin.Goals as goal
 
 pub returns-in_default-last_of-clause-came : goal.returns-in_default-last_of-clause-came

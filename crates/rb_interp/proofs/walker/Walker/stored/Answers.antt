@@ -1,5 +1,5 @@
 use Rattle.std.proofs.Common.{◌≡◌, to_z, of_z, w64, rules}
-use Rattle.rb_interp.specs.Outcome.{value_of}
+use Rattle.rb_walk.specs.Outcome.{value_of}
 use Rattle.rb_interp.proofs.walker.Walker.stored.Goals as goal
 
 pub returns-in-Some-clause-came : goal.returns-in-Some-clause-came

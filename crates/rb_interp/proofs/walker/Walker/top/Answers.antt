@@ -4,9 +4,9 @@ use Rattle.rb_machine.specs.Scopes.{fresh}
 use Rattle.rb_machine.specs.Control.{On, Following}
 use Rattle.rb_code.specs.Erase.{erase}
 use Rattle.rb_code.specs.Resolved.{fits, every}
-use Rattle.rb_interp.proofs.Moves.{same}
-use Rattle.rb_interp.proofs.Rooms.{lies}
-use Rattle.rb_interp.proofs.Endings.{main_opens, main_fits}
+use Rattle.rb_walk.proofs.Moves.{same}
+use Rattle.rb_walk.proofs.Rooms.{lies}
+use Rattle.rb_walk.proofs.Endings.{main_opens, main_fits}
 use Rattle.rb_interp.proofs.walker.Walker.top.Goals as goal
 
 pub returns-clause-came : goal.returns-clause-came

@@ -1,5 +1,5 @@
-use Rattle.rb_interp.specs.Answers.{steps_of}
-use Rattle.rb_interp.proofs.Immediates.{element_told}
+use Rattle.rb_walk.specs.Answers.{steps_of}
+use Rattle.rb_walk.proofs.Immediates.{element_told}
 use Rattle.rb_interp.proofs.walker.Walker.value_at.Goals as goal
 
 pub returns-in-Some : goal.returns-in-Some

@@ -1,7 +1,7 @@
 use Rattle.std.proofs.Common.{◌≡◌, to_z, of_z, w64, rules}
 use Rattle.rb_model.specs.Values.{Int, plain}
-use Rattle.rb_interp.specs.Answers.{steps_of}
-use Rattle.rb_interp.proofs.Immediates.{given_held, told_by}
+use Rattle.rb_walk.specs.Answers.{steps_of}
+use Rattle.rb_walk.proofs.Immediates.{given_held, told_by}
 use Rattle.rb_interp.proofs.walker.Walker.value_of_key.Goals as goal
 
 pub returns-in-Some : goal.returns-in-Some

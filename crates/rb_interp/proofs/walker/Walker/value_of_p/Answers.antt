@@ -1,10 +1,10 @@
 use Rattle.std.proofs.Common.{◌∷◌, ap, refl}
 use Rattle.rb_model.specs.Values.{plain}
 use Rattle.rb_machine.specs.Control.{Step, On, Give, Then, Instead}
-use Rattle.rb_interp.specs.Outcome.{Gave}
-use Rattle.rb_interp.proofs.Calls.{or_memory}
-use Rattle.rb_interp.proofs.Moves.{on, same}
-use Rattle.rb_interp.proofs.Collections.{value_of_none, value_of_one, value_of_many}
+use Rattle.rb_walk.specs.Outcome.{Gave}
+use Rattle.rb_walk.proofs.Calls.{or_memory}
+use Rattle.rb_walk.proofs.Moves.{on, same}
+use Rattle.rb_walk.proofs.Collections.{value_of_none, value_of_one, value_of_many}
 use Rattle.rb_interp.proofs.walker.Walker.value_of_p.Goals as goal
 
 pub returns-in-empty-clause-came : goal.returns-in-empty-clause-came

@@ -1,7 +1,7 @@
 use Rattle.std.proofs.Common.{◌≡◌, ap, refl, to_z, of_z, w64, rules}
 use Rattle.rb_model.specs.declared.value.Value.TheVariants as held
-use Rattle.rb_interp.specs.Outcome.{value_of}
-use Rattle.rb_interp.specs.Answers.{wrote, wanted}
+use Rattle.rb_walk.specs.Outcome.{value_of}
+use Rattle.rb_walk.specs.Answers.{wrote, wanted}
 use Rattle.rb_interp.proofs.walker.Walker.write.Goals as goal
 
 pub returns-then-slot-room-clause-written : goal.returns-then-slot-room-clause-written

@@ -1,7 +1,7 @@
 use Rattle.std.proofs.Common.{◌≡◌, refl, ap}
-use Rattle.rb_interp.specs.Outcome.{value_of}
-use Rattle.rb_interp.specs.Answers.{wrote, wanted}
-use Rattle.rb_interp.proofs.Outcomes.{gave, value_kept}
+use Rattle.rb_walk.specs.Outcome.{value_of}
+use Rattle.rb_walk.specs.Answers.{wrote, wanted}
+use Rattle.rb_walk.proofs.Outcomes.{gave, value_kept}
 use Rattle.rb_interp.proofs.walker.Walker.write_any.Goals as goal
 
 pub returns-then-slot-room-clause-written : goal.returns-then-slot-room-clause-written

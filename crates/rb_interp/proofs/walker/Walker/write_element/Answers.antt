@@ -2,10 +2,10 @@ use Rattle.std.proofs.Common.{◌≡◌, [], ◌∷◌, ◌∙◌, map, refl, sy
 use Rattle.std.specs.Prelude.{codes}
 use Rattle.rb_model.specs.Values.{Value as Val, plain}
 use Rattle.rb_machine.specs.Control.{Then, Instead}
-use Rattle.rb_interp.specs.Outcome.{value_of}
-use Rattle.rb_interp.proofs.Collections.{writes_so}
-use Rattle.rb_interp.proofs.Moves.{on, same}
-use Rattle.rb_interp.proofs.Outcomes.{given, passes}
+use Rattle.rb_walk.specs.Outcome.{value_of}
+use Rattle.rb_walk.proofs.Collections.{writes_so}
+use Rattle.rb_walk.proofs.Moves.{on, same}
+use Rattle.rb_walk.proofs.Outcomes.{given, passes}
 use Rattle.rb_interp.proofs.walker.Walker.write_element.Goals as goal
 
 pub returns-in-Some-clause-came : goal.returns-in-Some-clause-came

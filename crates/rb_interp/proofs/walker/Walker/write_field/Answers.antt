@@ -1,6 +1,6 @@
 use Rattle.std.proofs.Common.{◌≡◌, ap, rules, to_z, of_z, w64}
 use Rattle.rb_model.specs.Values.{Int}
-use Rattle.rb_interp.specs.Outcome.{value_of}
+use Rattle.rb_walk.specs.Outcome.{value_of}
 use Rattle.rb_interp.proofs.walker.Walker.write_field.Goals as goal
 
 pub returns-in_default-clause-came : goal.returns-in_default-clause-came

@@ -1,9 +1,9 @@
 use Rattle.std.proofs.Common.{◌≡◌, ◌∷◌, ◌∙◌, refl, sym}
 use Rattle.rb_model.specs.Values.{plain}
 use Rattle.rb_machine.specs.Control.{Then, Instead}
-use Rattle.rb_interp.specs.Outcome.{value_of}
-use Rattle.rb_interp.proofs.Moves.{on}
-use Rattle.rb_interp.proofs.Outcomes.{given, passes}
+use Rattle.rb_walk.specs.Outcome.{value_of}
+use Rattle.rb_walk.proofs.Moves.{on}
+use Rattle.rb_walk.proofs.Outcomes.{given, passes}
 use Rattle.rb_interp.proofs.walker.Walker.write_value.Goals as goal
 
 pub returns-in_default-clause-came : goal.returns-in_default-clause-came

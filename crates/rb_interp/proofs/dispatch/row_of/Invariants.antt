@@ -1,6 +1,0 @@
-use Rattle.std.specs.List.{AllByRecursion}
-use Rattle.rb_interp.specs.Dispatch.{IsKnown}
-use Rattle.rb_interp.proofs.dispatch.row_of.Given as goal
-
-abbrev pub invariant-founds : goal.invariant-founds
-invariant-founds l = AllByRecursion (IsKnown l.script) l.row.items

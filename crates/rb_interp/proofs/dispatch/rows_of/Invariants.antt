@@ -1,5 +1,0 @@
-use Rattle.rb_interp.specs.Dispatch.{AreKnown}
-use Rattle.rb_interp.proofs.dispatch.rows_of.Given as goal
-
-abbrev pub invariant-rows : goal.invariant-rows
-invariant-rows l = AreKnown l.script l.rows.items

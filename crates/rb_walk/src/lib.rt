@@ -1,0 +1,18 @@
+//! What the walk of a thread works with: how a node came out, the slots of a frame, leaves, the targets of calls, iterations, and the
+//! end of a run. The definitions in `specs/` say how a part of the walk goes beside the reference machine, and `proofs/` has their laws.
+#![tactic(auto)]
+
+pub mod asked;
+pub mod bytes;
+pub mod came;
+pub mod dispatch;
+pub mod ending;
+pub mod gathering;
+pub mod leaf;
+pub mod questions;
+pub mod rounds;
+pub mod slots;
+pub mod target;
+
+/// How many nodes may be under evaluation at once.
+pub const MAX_DEPTH: u32 = 1000;
