@@ -1,5 +1,5 @@
 -- Methods that only read or write an instance variable, and calls that are done at once.
-use Rattle.std.specs.Prelude.{◌≡◌, ◌≤◌, ℕ, true, List, [], ◌∷◌, length, map, Option, Some, None}
+use Rattle.std.specs.Prelude.{◌≡◌, ◌≤◌, ◌<◌, ℕ, true, List, [], ◌∷◌, length, map, Option, Some, None}
 use Rattle.rb_tree.specs.declared.span.Span.{Span}
 use Rattle.rb_tree.specs.declared.span.NameId.{NameId}
 use Rattle.rb_tree.specs.declared.node.Node.{Node, out-Node}
@@ -23,8 +23,10 @@ use Rattle.rb_code.specs.declared.scripted.CodeScript.{CodeScript}
 use Rattle.rb_code.specs.Erase.{erase, erase_method}
 use Rattle.rb_code.specs.Resolved.{fits, method_fits}
 use Rattle.rb_code.specs.Stands.{StandsFor}
+use Rattle.std.specs.List.{AllByRecursion}
+use Rattle.rb_walk.specs.declared.came.Came.{Came as Registers}
 use Rattle.rb_walk.specs.Outcome.{Outcome, Came}
-use Rattle.rb_walk.specs.Carries.{me_of, scope_of}
+use Rattle.rb_walk.specs.Carries.{Unread, me_of, scope_of}
 use Rattle.rb_walk.specs.Methods.{method_for}
 
 -- a method without parameters reads this variable at this place, and does nothing else
@@ -71,3 +73,26 @@ EntersAtOnce N to method args depth left left' log log' own own' o =
     → method_fits S method ≡ true
     → At S 0 N start log own (enter S (erase_method method) to args at k sc depth left)
     → Came S N start log' own' o k sc depth left'
+
+-- a statement gives the parameter in this slot to this variable at this place, and does nothing else
+pub record AssignsField (c : Code) (field : NameId) (slot : ℕ) (place : Span) : Type 0 where
+  pub name : NameId
+  pub from : Span
+  pub is : c ≡ code.SetField field (code.Local slot name from) place
+
+-- a statement that gives one of so many parameters to a variable, and does nothing else
+pub record AssignsParameter (count : ℕ) (c : Code) : Type 0 where
+  pub field : NameId
+  pub slot : ℕ
+  pub place : Span
+  pub below : slot < count
+  pub assigns : AssignsField c field slot place
+
+-- a method with so many parameters only gives them to variables
+pub record OnlyAssigns (count : ℕ) (m : CodeMethod) : Type 0 where
+  pub params : length m.params ≡ count
+  pub body : AllByRecursion (AssignsParameter count) m.body
+
+-- The same of a method whose value no one reads.
+abbrev pub EntersUnread : ℕ → Val → CodeMethod → List Val → (depth left left' : ℕ) → (log log' : Log) → (own own' : Private) → Registers → Outcome → Type 0
+EntersUnread N to method args depth left left' log log' own own' r o = Unread r o (EntersAtOnce N to method args depth left left' log log' own own')

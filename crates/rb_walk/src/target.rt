@@ -1,10 +1,11 @@
 // The method of a class that a call finds.
 
-ghost use Rattle.std.specs.Prelude.{◌≡◌, IfSome, Some, None};
+ghost use Rattle.std.specs.Prelude.{◌≡◌, ◌<◌, IfSome, Some, None, true};
+ghost use Rattle.std.specs.List.{AllByRecursion};
 ghost use Rattle.rb_model.specs.Values.{plain};
 ghost use Rattle.rb_code.specs.declared.scripted.CodeScript.{CodeScript};
 ghost use Rattle.rb_walk.specs.Methods.{IsTarget, HasNone, HasNoMethods, IsWriter, HasNoWriter};
-ghost use Rattle.rb_walk.specs.Readers.{Reads, IsReader, Writes};
+ghost use Rattle.rb_walk.specs.Readers.{AssignsField, AssignsParameter, OnlyAssigns, Reads, IsReader, Writes};
 ghost use Rattle.rb_walk.specs.Answers.{IsHeld};
 ghost use Rattle.rb_walk.specs.Carries.{me_of};
 
@@ -149,4 +150,56 @@ pub fn written_by(method: &CodeMethod) -> Option<(NameId, Span)>
         return None;
     }
     Some((*field, *at))
+}
+
+/// What a statement gives to an instance variable: the value of a local.
+#[derive(Clone, Copy)]
+pub struct Assignment {
+    pub field: NameId,
+    pub slot: u32,
+    pub at: Span,
+}
+
+/// What a statement gives to an instance variable, where that is one of so many parameters and nothing else is done.
+#[inline(always)]
+pub fn assigned_by(code: &Code, count: usize) -> Option<Assignment>
+    ensures some { IfSome result (λ a. AssignsField code.now a.field a.slot a.at) }
+    ensures below { IfSome result (λ a. a.slot < count) }
+    ensures none { result ≡ None → AssignsParameter count code.now → ⊥ }
+{
+    let Code::SetField(field, value, at) = code else {
+        return None;
+    };
+    let Code::Local(slot, _, _) = value.get() else {
+        return None;
+    };
+    if *slot as usize >= count {
+        return None;
+    }
+    Some(Assignment {
+        field: *field,
+        slot: *slot,
+        at: *at,
+    })
+}
+
+/// Whether a method has so many parameters and only gives them to instance variables.
+#[inline(always)]
+pub fn only_assigns(method: &CodeMethod, count: usize) -> bool
+    ensures { result ≡ true → OnlyAssigns count method.now }
+{
+    method.params.len() == count && all_assign(method.body.as_slice(), count)
+}
+
+/// Whether each statement only gives one of so many parameters to an instance variable.
+#[inline(always)]
+fn all_assign(body: &[Code], count: usize) -> bool
+    ensures { result ≡ true → AllByRecursion (AssignsParameter count) body.now }
+{
+    'body: for code in body {
+        if assigned_by(code, count).is_none() {
+            return false;
+        }
+    }
+    true
 }

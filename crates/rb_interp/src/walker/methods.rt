@@ -1,15 +1,17 @@
 // Methods of the script: which one a call finds, and how it is entered.
 
-ghost use Rattle.std.specs.Prelude.{◌≡◌, ◌≤◌, ◌<◌, ℕ, false, List, [], length, map, slice_get, IfSome, None};
+ghost use Rattle.std.specs.Prelude.{◌≡◌, ◌≤◌, ◌<◌, ◌*◌, ℕ, false, List, [], length, map, slice_get, IfSome, None};
 ghost use Rattle.rb_model.specs.Values.{plain};
 ghost use Rattle.rb_model.specs.Log.{has_end};
+ghost use Rattle.rb_model.specs.Acts.{SetField};
 ghost use Rattle.rb_machine.specs.Control.{On, Passing, ByName};
 ghost use Rattle.rb_code.specs.Erase.{erase};
 ghost use Rattle.rb_code.specs.Resolved.{fits, every, method_fits};
 ghost use Rattle.rb_walk.specs.Outcome.{value_of, outcome};
-ghost use Rattle.rb_walk.specs.Carries.{Carries, Keeps, unnamed, me_of};
+ghost use Rattle.rb_walk.specs.Carries.{Carries, Keeps, Unread, unnamed, me_of};
 ghost use Rattle.rb_walk.specs.Methods.{IsTarget, HasNone, Enters, EntersWith, Invokes};
-ghost use Rattle.rb_walk.specs.Readers.{EntersAtOnce};
+ghost use Rattle.rb_walk.specs.Objects.{Asks};
+ghost use Rattle.rb_walk.specs.Readers.{EntersAtOnce, EntersUnread, OnlyAssigns};
 
 use super::Walker;
 use rb_builtin::Builtin;
@@ -19,7 +21,9 @@ use rb_tree::{NameId, Span};
 use rb_walk::MAX_DEPTH;
 use rb_walk::came::{Came, Cut, is_left};
 use rb_walk::slots::{clear, only_integer, passed};
-use rb_walk::target::{Target, read_by, target_of, written_by};
+use rb_walk::target::{
+    Assignment, Target, assigned_by, only_assigns, read_by, target_of, written_by,
+};
 
 impl<'p, O: ThreadStore + Drop> Walker<'p, O> {
     /// The method of the class of `self` that a name finds.
@@ -200,6 +204,130 @@ impl<'p, O: ThreadStore + Drop> Walker<'p, O> {
         }
         room[self.base] = arg;
         self.enter_storing(target, 1, at, depth, room)
+    }
+
+    /// Gives a value to an instance variable of an object.
+    #[inline(always)]
+    fn assign(&mut self, object: Ref, assignment: Assignment, value: &Value) -> Came
+        requires unended { has_end (O.log self.old.store).entries ≡ false }
+        ensures base { self.new.base ≡ self.old.base }
+        ensures left { self.new.left ≡ self.old.left }
+        ensures context { self.new.context ≡ self.old.context }
+        ensures log { O.log self.new.store ≡ O.log self.old.store }
+        ensures came { Asks self.old.context.steps (me_of (Some object)) (SetField assignment.field (plain value.now)) assignment.at self.old.left (O.log self.old.store) (O.private self.old.store) (O.private self.new.store) (outcome result self.new.value self.new.leave) }
+    {
+        let Value::Int(n) = value else {
+            return self.assign_any(object, assignment, value);
+        };
+        self.ask(
+            object,
+            Act::SetField(assignment.field, Value::Int(*n)),
+            assignment.at,
+        )
+    }
+
+    /// The same of any value.
+    #[inline(never)]
+    fn assign_any(&mut self, object: Ref, assignment: Assignment, value: &Value) -> Came
+        requires unended { has_end (O.log self.old.store).entries ≡ false }
+        ensures base { self.new.base ≡ self.old.base }
+        ensures left { self.new.left ≡ self.old.left }
+        ensures context { self.new.context ≡ self.old.context }
+        ensures log { O.log self.new.store ≡ O.log self.old.store }
+        ensures came { Asks self.old.context.steps (me_of (Some object)) (SetField assignment.field (plain value.now)) assignment.at self.old.left (O.log self.old.store) (O.private self.old.store) (O.private self.new.store) (outcome result self.new.value self.new.leave) }
+    {
+        let Ok(copy) = value.share() else {
+            return self.over(Cut::Memory);
+        };
+        self.ask(object, Act::SetField(assignment.field, copy), assignment.at)
+    }
+
+    /// What comes of a method that only gives its parameters to instance variables of an object. No one reads its value.
+    fn assignments(
+        &mut self,
+        object: Ref,
+        method: &'p CodeMethod,
+        args: &[Value],
+        depth: u32,
+    ) -> Came
+        requires unended { has_end (O.log self.old.store).entries ≡ false }
+        requires assigns { OnlyAssigns (length args.now) method.now }
+        requires steps { 2 * length method.now.body ≤ self.old.left }
+        requires depth { depth < 999 }
+        ensures base { self.new.base ≡ self.old.base }
+        ensures context { self.new.context ≡ self.old.context }
+        ensures less { self.new.left ≤ self.old.left }
+        ensures log { O.log self.new.store ≡ O.log self.old.store }
+        ensures came { EntersUnread self.old.context.steps (me_of (Some object)) method.now (map plain args.now) depth self.old.left self.new.left (O.log self.old.store) (O.log self.new.store) (O.private self.old.store) (O.private self.new.store) result (outcome result self.new.value self.new.leave) }
+    {
+        let statements = method.body.as_slice();
+        'statements: for code in statements {
+            let Some(assignment) = assigned_by(code, args.len()) else {
+                unreachable!()
+            };
+            self.left -= 2;
+            let came = self.assign(object, assignment, &args[assignment.slot as usize]);
+            if is_left(came) {
+                return self.out_of_call(came);
+            }
+        }
+        Came::Nil
+    }
+
+    /// What comes of a method, where it is entered with as many arguments as it has parameters and only gives these to instance variables.
+    /// Else nothing is done. No one reads its value.
+    #[inline(always)]
+    fn entered_assigning(
+        &mut self,
+        object: Ref,
+        method: &'p CodeMethod,
+        args: &[Value],
+        depth: u32,
+    ) -> Option<Came>
+        requires unended { has_end (O.log self.old.store).entries ≡ false }
+        ensures none { result ≡ None → self.new ≡ self.old }
+        ensures base { self.new.base ≡ self.old.base }
+        ensures context { self.new.context ≡ self.old.context }
+        ensures less { self.new.left ≤ self.old.left }
+        ensures log { O.log self.new.store ≡ O.log self.old.store }
+        ensures came { IfSome result (λ came. EntersUnread self.old.context.steps (me_of (Some object)) method.now (map plain args.now) depth self.old.left self.new.left (O.log self.old.store) (O.log self.new.store) (O.private self.old.store) (O.private self.new.store) came (outcome came self.new.value self.new.leave)) }
+    {
+        if self.left / 2 < method.body.len() as u64 || depth >= MAX_DEPTH - 1 {
+            return None;
+        }
+        if !only_assigns(method, args.len()) {
+            return None;
+        }
+        Some(self.assignments(object, method, args, depth))
+    }
+
+    /// Enters the method that a new object is initialized by, with arguments of which there are so many behind the frame. No one reads its
+    /// value. What only gives its parameters to instance variables is done at once.
+    #[cycle(walk)]
+    #[inline(always)]
+    pub(super) fn enter_first(
+        &mut self,
+        method: &'p CodeMethod,
+        object: Ref,
+        count: usize,
+        at: Span,
+        depth: u32,
+        room: &mut [Value],
+    ) -> Came
+        requires unended { has_end (O.log self.old.store).entries ≡ false }
+        requires steps { self.old.left ≤ self.old.context.steps }
+        ensures base { self.new.base ≡ self.old.base }
+        ensures context { self.new.context ≡ self.old.context }
+        ensures room { length room.new ≡ length room.old }
+        ensures less { self.new.left ≤ self.old.left }
+        ensures unended { has_end (O.log self.new.store).entries ≡ false }
+        ensures kept { (i : ℕ) → i < self.old.base → slice_get room.new i ≡ slice_get room.old i }
+        ensures came { Unread result (outcome result self.new.value self.new.leave) (Enters self.old.context.script.now self.old.context.program.now self.old.context.steps (me_of self.old.context.me) (me_of (Some object)) method.now count at self.old.base depth self.old.left self.new.left room.old room.new (O.log self.old.store) (O.log self.new.store) (O.private self.old.store) (O.private self.new.store)) }
+    {
+        match self.entered_assigning(object, method, passed(room, self.base, count), depth) {
+            Some(came) => came,
+            None => self.enter(method, Some(object), count, at, depth, room),
+        }
     }
 
     /// A call of a method of a value, with arguments of which there are so many behind the frame: one of its class, or one that is built in.

@@ -392,7 +392,7 @@ impl<'p, O: ThreadStore + Drop> Walker<'p, O> {
         let Some(method) = self.context.script.script().method_at(class, number) else {
             return self.over(Cut::Memory);
         };
-        let came = self.enter(method, Some(object), count, at, depth, room);
+        let came = self.enter_first(method, object, count, at, depth, room);
         if is_left(came) {
             return came;
         }

@@ -2492,6 +2492,30 @@ enter_with-returns-clause-came g m c = λ S start k names st e right le long a.
     let f = c.enter.ensures.came S start k names st e right le (omega (arith, within, len_set room base c.args.arg)) in
     f (placed (erase_method c.args.target.method.now) (me_of (Some c.args.target.object)) c.args.at k _ _ me names base room c.args.arg le within a)
 
+pub enter_first-returns-in-Some-clause-came : goal.enter_first-returns-in-Some-clause-came
+enter_first-returns-in-Some-clause-came g m c =
+    let u = c.in-Some.ensures.came in (
+      λ gone S start k names st e right le long a.
+          let sc = scope_of (me_of c.args.self.now.context.me) names c.args.room.now in
+          u.0 gone S start k sc c.args.at right (same a (ap (λ vs. enter S (erase_method c.args.method.now) (me_of (Some c.args.object)) (map plain vs) c.args.at k sc c.args.depth c.args.self.now.left) (sym (c.passed.ensures long)))),
+      λ none.
+          let some = u.1 none in (
+            some.0,
+            λ S start k names st e right le long a.
+                let sc = scope_of (me_of c.args.self.now.context.me) names c.args.room.now in
+                some.1 S start k sc c.args.at right (same a (ap (λ vs. enter S (erase_method c.args.method.now) (me_of (Some c.args.object)) (map plain vs) c.args.at k sc c.args.depth c.args.self.now.left) (sym (c.passed.ensures long)))),
+          ),
+    )
+
+pub enter_first-returns-in-None-clause-kept : goal.enter_first-returns-in-None-clause-kept
+enter_first-returns-in-None-clause-kept g m c = rw (c.entered_assigning.ensures.none c.in-None.is) at c.enter.ensures.kept
+
+pub enter_first-returns-in-None-clause-came : goal.enter_first-returns-in-None-clause-came
+enter_first-returns-in-None-clause-came g m c =
+    let y = c.enter in
+    let f = rw (c.entered_assigning.ensures.none c.in-None.is) at y.ensures.came in
+    (λ gone. f, λ none. (value_of y.result y.new.self.value, λ S start k names st e right le long a. given y.result y.new.self.value y.new.self.leave none (f S start k names st e right le long a)))
+
 pub enter_storing-returns-in-Some-clause-came : goal.enter_storing-returns-in-Some-clause-came
 enter_storing-returns-in-Some-clause-came g m c = λ S start k names st e right le long a.
     c.in-Some.ensures.came S start k (scope_of (me_of c.args.self.now.context.me) names c.args.room.now) c.args.at right
@@ -3309,7 +3333,7 @@ initialize-returns-in_default-method_at-clause-came g m c = λ name S start k na
     rw (o.left, o.store) (cut S _ start _ _ _ k _ _ _ _ o.gives a (initialize_left S (me_of (Some c.args.object)) values c.args.at k _ _ _))
 
 pub initialize-returns-then-is_left-clause-kept : goal.initialize-returns-then-is_left-clause-kept
-initialize-returns-then-is_left-clause-kept g m c = c.enter-came.ensures.kept
+initialize-returns-then-is_left-clause-kept g m c = c.enter_first-came.ensures.kept
 
 pub initialize-returns-then-is_left-clause-came : goal.initialize-returns-then-is_left-clause-came
 initialize-returns-then-is_left-clause-came g m c = λ name S start k names st e is le long a.
@@ -3319,12 +3343,13 @@ initialize-returns-then-is_left-clause-came g m c = λ name S start k names st e
     let held : method_at c.script.result.now c.args.class c.in-Some.number ≡ Some c.in-Some-method_at.method.now = sym c.method_at.ensures ∙ ap option_copied c.in-Some-method_at.is in
     let found : method_at script c.args.class c.in-Some.number ≡ Some c.in-Some-method_at.method.now = rw c.script.ensures at held in
     let entered = same a (initializes script S st c.args.object c.args.class c.in-Some.number name c.in-Some-method_at.method.now values c.args.at k _ _ _ c.requires.class made found) in
-    let y = c.enter-came in
-    let come = y.ensures.came S start (Then (Instead (me_of (Some c.args.object))) ∷ k) names st e (first_right script S st c.args.class c.in-Some.number c.in-Some-method_at.method.now found) le long entered in
-    passes S _ start _ y.result y.new.self.value y.new.self.leave _ (Instead (me_of (Some c.args.object))) k _ _ _ (sym c.is_left.ensures ∙ c.if-is_left.true) come
+    let y = c.enter_first-came in
+    let gone = sym c.is_left.ensures ∙ c.if-is_left.true in
+    let come = y.ensures.came.0 gone S start (Then (Instead (me_of (Some c.args.object))) ∷ k) names st e (first_right script S st c.args.class c.in-Some.number c.in-Some-method_at.method.now found) le long entered in
+    passes S _ start _ y.result y.new.self.value y.new.self.leave _ (Instead (me_of (Some c.args.object))) k _ _ _ gone come
 
 pub initialize-returns-clause-kept : goal.initialize-returns-clause-kept
-initialize-returns-clause-kept g m c = c.enter-came.ensures.kept
+initialize-returns-clause-kept g m c = c.enter_first-came.ensures.kept
 
 pub initialize-returns-clause-came : goal.initialize-returns-clause-came
 initialize-returns-clause-came g m c = λ name S start k names st e is le long a.
@@ -3334,9 +3359,8 @@ initialize-returns-clause-came g m c = λ name S start k names st e is le long a
     let held : method_at c.script.result.now c.args.class c.in-Some.number ≡ Some c.in-Some-method_at.method.now = sym c.method_at.ensures ∙ ap option_copied c.in-Some-method_at.is in
     let found : method_at script c.args.class c.in-Some.number ≡ Some c.in-Some-method_at.method.now = rw c.script.ensures at held in
     let entered = same a (initializes script S st c.args.object c.args.class c.in-Some.number name c.in-Some-method_at.method.now values c.args.at k _ _ _ c.requires.class made found) in
-    let y = c.enter-came in
-    let come = y.ensures.came S start (Then (Instead (me_of (Some c.args.object))) ∷ k) names st e (first_right script S st c.args.class c.in-Some.number c.in-Some-method_at.method.now found) le long entered in
-    let g1 = given y.result y.new.self.value y.new.self.leave (sym c.is_left.ensures ∙ c.if-is_left.false) come in
+    let some = c.enter_first-came.ensures.came.1 (sym c.is_left.ensures ∙ c.if-is_left.false) in
+    let g1 = some.1 S start (Then (Instead (me_of (Some c.args.object))) ∷ k) names st e (first_right script S st c.args.class c.in-Some.number c.in-Some-method_at.method.now found) le long entered in
     let o = c.give_thing-2.ensures in
     rw (o.gives, o.left, o.store) (on _ g1 refl)
 

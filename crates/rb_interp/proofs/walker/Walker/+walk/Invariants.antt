@@ -261,11 +261,14 @@ decreases-set_field g l = 24 * (1001 - l.depth) + 6
 abbrev pub decreases-update_field : goal.decreases-update_field
 decreases-update_field g l = 24 * (1001 - l.depth) + 7
 
+abbrev pub decreases-enter_first : goal.decreases-enter_first
+decreases-enter_first g l = 24 * (1001 - l.depth) + 6
+
 abbrev pub decreases-initialize : goal.decreases-initialize
-decreases-initialize g l = 24 * (1001 - l.depth) + 6
+decreases-initialize g l = 24 * (1001 - l.depth) + 7
 
 abbrev pub decreases-create : goal.decreases-create
-decreases-create g l = 24 * (1001 - l.depth) + 7
+decreases-create g l = 24 * (1001 - l.depth) + 8
 
 abbrev pub decreases-write_member : goal.decreases-write_member
 decreases-write_member g l = 24 * (1001 - l.depth) + 8
