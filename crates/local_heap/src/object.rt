@@ -3,7 +3,7 @@
 ghost use Rattle.std.specs.Prelude.{◌≡◌, ◌<◌, ◌++◌, ◌∷◌, [], length, map, Some, None, IfSome, IfOk, OnOk, OnErr, true, false};
 ghost use Rattle.rb_model.specs.Acts.{Done};
 ghost use Rattle.rb_model.specs.Doing.{said};
-ghost use Rattle.rb_model.specs.Values.{Int, plain};
+ghost use Rattle.rb_model.specs.Values.{Int, Nil, plain};
 ghost use Rattle.rb_model.specs.Things.{is_integer};
 ghost use Rattle.shape_core.specs.Path.{MayFollow, find_on};
 ghost use Rattle.shape_core.specs.Shape.{Gains, Has, child_of, path_at, shape_at};
@@ -100,12 +100,11 @@ impl Object {
         ensures err { OnErr result (Unwritten (S.shapes shapes.old) self.old (S.shapes shapes.new) self.new) }
     {
         if let Value::Int(n) = value {
-            let slot = integer_slot(n);
-            self.grow(shapes, Edge::Add(name, Kind::IntLoc), slot)?;
+            self.add_integer(shapes, name, n)?;
             return Ok(());
         }
         let slot = slot_for(value, whose);
-        self.grow(shapes, Edge::Add(name, Kind::AnyLoc), slot)?;
+        self.grow_by(shapes, Edge::Add(name, Kind::AnyLoc), slot)?;
         Ok(())
     }
 
@@ -130,7 +129,7 @@ impl Object {
             return Ok(());
         }
         let slot = slot_for(value, whose);
-        self.grow(shapes, Edge::Widen(name), slot)?;
+        self.grow_by(shapes, Edge::Widen(name), slot)?;
         Ok(())
     }
 
@@ -155,8 +154,47 @@ impl Object {
         Ok(())
     }
 
-    /// The object with the next place, which an edge gives.
+    /// The object with the next place, for integers alone, and an integer there.
+    // It stands apart from the other edges, so that what is added lies in registers.
     #[inline(never)]
+    fn add_integer<S: ShapeStore>(
+        &mut self,
+        shapes: &mut S,
+        name: NameId,
+        n: i64,
+    ) -> Result<(), AllocError>
+        requires object { IsObject (S.shapes shapes.old) self.old }
+        requires allowed { MayFollow (path_at (S.shapes shapes.old) self.old.shape) (Edge.Add name Kind.IntLoc) }
+        ensures shape { OnOk result (Has (S.shapes shapes.new) self.new.shape (child_of (shape_at (S.shapes shapes.old) self.old.shape) (Edge.Add name Kind.IntLoc))) }
+        ensures gains { OnOk result (Gains (S.shapes shapes.old) (child_of (shape_at (S.shapes shapes.old) self.old.shape) (Edge.Add name Kind.IntLoc)) (S.shapes shapes.new)) }
+        ensures words { OnOk result (self.new.words.items ≡ self.old.words.items ++ twos_complement 64 n ∷ []) }
+        ensures whole { OnOk result (Puts (map plain self.old.whole.items) (length self.old.words.items) Nil (map plain self.new.whole.items)) }
+        ensures err { OnErr result (Unwritten (S.shapes shapes.old) self.old (S.shapes shapes.new) self.new) }
+    {
+        self.grow(shapes, Edge::Add(name, Kind::IntLoc), integer_slot(n))
+    }
+
+    /// The object with the next place, which any edge gives.
+    #[inline(never)]
+    fn grow_by<S: ShapeStore>(
+        &mut self,
+        shapes: &mut S,
+        edge: Edge,
+        slot: Slot,
+    ) -> Result<(), AllocError>
+        requires object { IsObject (S.shapes shapes.old) self.old }
+        requires allowed { MayFollow (path_at (S.shapes shapes.old) self.old.shape) edge }
+        ensures shape { OnOk result (Has (S.shapes shapes.new) self.new.shape (child_of (shape_at (S.shapes shapes.old) self.old.shape) edge)) }
+        ensures gains { OnOk result (Gains (S.shapes shapes.old) (child_of (shape_at (S.shapes shapes.old) self.old.shape) edge) (S.shapes shapes.new)) }
+        ensures words { OnOk result (self.new.words.items ≡ self.old.words.items ++ slot.word ∷ []) }
+        ensures whole { OnOk result (Puts (map plain self.old.whole.items) (length self.old.words.items) (plain slot.whole) (map plain self.new.whole.items)) }
+        ensures err { OnErr result (Unwritten (S.shapes shapes.old) self.old (S.shapes shapes.new) self.new) }
+    {
+        self.grow(shapes, edge, slot)
+    }
+
+    /// The object with the next place, which an edge gives.
+    #[inline(always)]
     fn grow<S: ShapeStore>(
         &mut self,
         shapes: &mut S,
@@ -185,6 +223,7 @@ impl Object {
 /// What stands for an integer at a place that holds integers alone.
 fn integer_slot(n: i64) -> Slot
     ensures word { result.word ≡ twos_complement 64 n }
+    ensures whole { plain result.whole ≡ Nil }
 {
     Slot {
         word: to_int_word(n),

@@ -1,6 +1,8 @@
 // The tree of shapes.
 
-ghost use Rattle.std.specs.Prelude.{◌≡◌, [], length, IfOk};
+ghost use Rattle.std.specs.Prelude.{◌≡◌, ◌<◌, [], length, Contains, IfOk, IsOk, OnErr};
+ghost use Rattle.shape_core.specs.Path.{MayFollow};
+ghost use Rattle.shape_core.specs.Shape.{IsStore, Has, Gains, child_of, path_at, shape_at};
 ghost use Rattle.shape_tree.specs.Keys.{first_ids};
 
 use crate::guesses::Guesses;
@@ -62,6 +64,29 @@ impl Tree {
         }
         Ok(ids)
     }
+
+    /// The shape that an edge leads to, where none was guessed.
+    // It stands apart, so that what follows a known edge needs no room for what makes one.
+    #[inline(never)]
+    fn follow_unguessed(&mut self, shape: ShapeId, edge: Edge) -> Result<ShapeId, AllocError>
+        requires known { shape.0 < length self.old }
+        requires allowed { MayFollow (path_at self.old shape) edge }
+        ensures answer { IfOk result (λ id. Has self.new id (child_of (shape_at self.old shape) edge)) }
+        ensures made { IfOk result (λ _. Gains self.old (child_of (shape_at self.old shape) edge) self.new) }
+        ensures there { Contains self.old (child_of (shape_at self.old shape) edge) → IsOk result }
+        ensures err { OnErr result (self.new ≡ self.old) }
+        ensures valid { IsStore self.new }
+    {
+        let key = Key::Child(shape, edge);
+        if let Some(at) = self.nodes.get_index_of(&key) {
+            self.guesses.tell_child(shape, ShapeId(at as u64));
+            return Ok(ShapeId(at as u64));
+        }
+        let row = grow(&mut self.nodes, &mut self.tables, shape, edge)?;
+        let id = ShapeId(self.nodes.len() as u64);
+        self.nodes.insert(key, row)?;
+        Ok(id)
+    }
 }
 
 impl ShapeStore for Tree {
@@ -94,14 +119,7 @@ impl ShapeStore for Tree {
         if let Some(known) = guessed(&self.nodes, self.guesses.child(shape), key) {
             return Ok(known);
         }
-        if let Some(at) = self.nodes.get_index_of(&key) {
-            self.guesses.tell_child(shape, ShapeId(at as u64));
-            return Ok(ShapeId(at as u64));
-        }
-        let row = grow(&mut self.nodes, &mut self.tables, shape, edge)?;
-        let id = ShapeId(self.nodes.len() as u64);
-        self.nodes.insert(key, row)?;
-        Ok(id)
+        self.follow_unguessed(shape, edge)
     }
 
     #[inline(always)]

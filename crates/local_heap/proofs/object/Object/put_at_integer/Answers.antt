@@ -26,8 +26,8 @@ returns g c =
     let other : is_integer (plain c.args.value) ≡ false = is_other c.args.value c.in_default.not-Int in
     record {
       written =
-          any_widened (g.S.ShapeStore.shapes c.args.shapes.now) c.args.self.now (g.S.ShapeStore.shapes c.grow.new.shapes) c.grow.new.self (Widen c.args.name) c.slot_for-slot.result.word _
-          c.requires.object (ap (option_map (λ (found : Found). found.1)) c.requires.found) refl c.in_ok-grow.ensures.shape c.in_ok-grow.ensures.gains c.in_ok-grow.ensures.words c.in_ok-grow.ensures.whole
+          any_widened (g.S.ShapeStore.shapes c.args.shapes.now) c.args.self.now (g.S.ShapeStore.shapes c.grow_by.new.shapes) c.grow_by.new.self (Widen c.args.name) c.slot_for-slot.result.word _
+          c.requires.object (ap (option_map (λ (found : Found). found.1)) c.requires.found) refl c.in_ok-grow_by.ensures.shape c.in_ok-grow_by.ensures.gains c.in_ok-grow_by.ensures.words c.in_ok-grow_by.ensures.whole
           c.args.name c.args.place (plain c.args.value) c.args.whose refl c.requires.found other c.slot_for-slot.ensures.stands;
       err = tt;
       refused = tt;
