@@ -253,38 +253,68 @@ fn scripts_come_out_as_they_say(rt: HostRuntime) -> Result<(), Fail> {
     Ok(())
 }
 
-#[test]
-fn thirty_two_names_have_a_place_each(rt: HostRuntime) -> Result<(), Fail> {
-    let alloc = rt.alloc();
-    let mut heap = new_heap(alloc)?;
+/// Gives an object 32 names, and every third of them another kind of value.
+fn give_names(heap: &mut Heap, alloc: Global) -> Result<bool, AllocError> {
     heap.make(Make::Object(7))?;
     for name in 0..32_u32 {
-        assert!(rt; does(&mut heap, alloc, Set(1, name, Row::Int(i64::from(name))))?);
+        if !does(heap, alloc, Set(1, name, Row::Int(i64::from(name))))? {
+            return Ok(false);
+        }
     }
-    for name in (0..32_u32).filter(|name| name % 3 == 0) {
-        assert!(rt; does(&mut heap, alloc, Set(1, name, Row::Sym(name)))?);
+    for name in 0..11_u32 {
+        if !does(heap, alloc, Set(1, 3 * name, Row::Sym(name)))? {
+            return Ok(false);
+        }
     }
+    Ok(heap.shapes().len() == 44)
+}
+
+/// Whether the object has them.
+fn has_names(heap: &mut Heap) -> Result<bool, AllocError> {
     for name in 0..32_u32 {
         let want = if name % 3 == 0 {
-            Row::Sym(name)
+            Row::Sym(name / 3)
         } else {
             Row::Int(i64::from(name))
         };
-        assert!(rt; has(&mut heap, 1, name, want)?);
+        if !has(heap, 1, name, want)? {
+            return Ok(false);
+        }
     }
-    assert_eq!(rt; heap.shapes().len(), 44);
+    Ok(true)
+}
+
+#[test]
+fn thirty_two_names_have_a_place_each(rt: HostRuntime) -> Result<(), Fail> {
+    let mut heap = new_heap(rt.alloc())?;
+    let fine = give_names(&mut heap, rt.alloc())? && has_names(&mut heap)?;
+    assert!(rt; fine);
     Ok(())
+}
+
+/// Whether these ids are held, or not.
+fn are_held(heap: &Heap, table: &[(u64, u64, bool)]) -> bool {
+    for (thread, serial, held) in table {
+        let id = Id {
+            thread: *thread,
+            serial: *serial,
+        };
+        if heap.holds(id) != *held {
+            return false;
+        }
+    }
+    true
 }
 
 #[test]
 fn only_what_was_made_here_is_held(rt: HostRuntime) -> Result<(), Fail> {
     let mut heap = new_heap(rt.alloc())?;
     let made = heap.make(Make::Object(7))?;
-    assert!(rt; made == thing(1));
-    for (thread, serial, held) in [(3, 1, true), (3, 0, false), (3, 2, false), (2, 1, false)] {
-        assert_eq!(rt; heap.holds(Id { thread, serial }), held);
-    }
-    assert_eq!(rt; heap.into_shapes().len(), 1);
+    let ids = [(3, 1, true), (3, 0, false), (3, 2, false), (2, 1, false)];
+    let fine = made == thing(1) && are_held(&heap, &ids);
+    let shapes = heap.into_shapes().len();
+    assert!(rt; fine);
+    assert_eq!(rt; shapes, 1);
     Ok(())
 }
 
@@ -328,10 +358,22 @@ fn fields_are_told_in_the_order_of_their_first_writes(rt: HostRuntime) -> Result
     Ok(())
 }
 
+/// Whether a write comes about, and one that failed before left all as it was.
+fn is_set(heap: &mut Heap, alloc: Global, old: Row, new: Row) -> Result<bool, AllocError> {
+    let shapes = heap.shapes().len();
+    let act = Act::SetField(NameId(5), value(alloc, new)?);
+    if ask(heap, 1, act).is_err() {
+        let stays = has(heap, 1, 5, old)? && heap.shapes().len() == shapes;
+        if !stays || !does(heap, alloc, Set(1, 5, new))? {
+            return Ok(false);
+        }
+    }
+    has(heap, 1, 5, new)
+}
+
 #[test]
 fn a_write_that_fails_leaves_all_as_it_was(rt: HostRuntime) -> Result<(), Fail> {
-    let alloc = rt.alloc();
-    let mut heap = new_heap(alloc)?;
+    let mut heap = new_heap(rt.alloc())?;
     heap.make(Make::Object(7))?;
     let mut old = Row::Nil;
     for new in [
@@ -340,14 +382,8 @@ fn a_write_that_fails_leaves_all_as_it_was(rt: HostRuntime) -> Result<(), Fail> 
         Row::Int(i64::MIN),
         Row::Object(1),
     ] {
-        let shapes = heap.shapes().len();
-        let act = Act::SetField(NameId(5), value(alloc, new)?);
-        if ask(&mut heap, 1, act).is_err() {
-            assert!(rt; has(&mut heap, 1, 5, old)?);
-            assert_eq!(rt; heap.shapes().len(), shapes);
-            assert!(rt; does(&mut heap, alloc, Set(1, 5, new))?);
-        }
-        assert!(rt; has(&mut heap, 1, 5, new)?);
+        let fine = is_set(&mut heap, rt.alloc(), old, new)?;
+        assert!(rt; fine);
         old = new;
     }
     Ok(())

@@ -31,6 +31,11 @@ fn values_of(alloc: Global, rows: &[Row]) -> Result<Vec<Value>, AllocError> {
     Ok(values)
 }
 
+/// A new list of the values of rows.
+fn list_of(heap: &mut Heap, alloc: Global, rows: &[Row]) -> Result<Ref, AllocError> {
+    heap.make(Make::Elements(values_of(alloc, rows)?))
+}
+
 /// The number of the first row that a list of 1, 2 and 3 does not answer.
 fn first_wrong_of_list(
     alloc: Global,
@@ -171,16 +176,20 @@ const NOT_OF_OBJECTS: [(Deed, Answer); 6] = [
     (Copy, Fails(Fault::NoMethod)),
 ];
 
-#[test]
-fn a_thing_has_no_method_of_another_kind(rt: HostRuntime) -> Result<(), Fail> {
-    let alloc = rt.alloc();
-    assert_eq!(rt; first_wrong_of_list(alloc, &NOT_OF_LISTS)?, None);
+/// The number of the first row that an object does not answer.
+fn first_wrong_of_object(
+    alloc: Global,
+    table: &[(Deed, Answer)],
+) -> Result<Option<usize>, AllocError> {
     let mut heap = new_heap(alloc)?;
     let object = heap.make(Make::Object(7))?;
-    assert_eq!(rt;
-        first_wrong(&mut heap, alloc, object.id, &NOT_OF_OBJECTS)?,
-        None
-    );
+    first_wrong(&mut heap, alloc, object.id, table)
+}
+
+#[test]
+fn a_thing_has_no_method_of_another_kind(rt: HostRuntime) -> Result<(), Fail> {
+    assert_eq!(rt; first_wrong_of_list(rt.alloc(), &NOT_OF_LISTS)?, None);
+    assert_eq!(rt; first_wrong_of_object(rt.alloc(), &NOT_OF_OBJECTS)?, None);
     Ok(())
 }
 
@@ -192,19 +201,25 @@ fn has(heap: &Heap, list: Ref, index: i64, row: Row) -> Result<bool, AllocError>
     })
 }
 
+/// Whether a list is read, and an object not.
+fn are_read(heap: &mut Heap, alloc: Global) -> Result<bool, AllocError> {
+    let list = new_list(heap, alloc, 2)?;
+    for (index, row) in [(0, Int(1)), (-1, Int(2)), (2, Nil), (-3, Nil)] {
+        if !has(heap, list, index, row)? {
+            return Ok(false);
+        }
+    }
+    let object = heap.make(Make::Object(7))?;
+    let none = heap.element(object.id, 0)?.is_none();
+    let lengths = heap.length(list.id) == Some(2) && heap.length(object.id).is_none();
+    Ok(none && lengths && list.sort == Sort::List)
+}
+
 #[test]
 fn a_list_is_read_without_an_act(rt: HostRuntime) -> Result<(), Fail> {
-    let alloc = rt.alloc();
-    let mut heap = new_heap(alloc)?;
-    let list = new_list(&mut heap, alloc, 2)?;
-    assert!(rt; list.sort == Sort::List);
-    for (index, row) in [(0, Int(1)), (-1, Int(2)), (2, Nil), (-3, Nil)] {
-        assert!(rt; has(&heap, list, index, row)?, "{index}");
-    }
-    assert_eq!(rt; heap.length(list.id), Some(2));
-    let object = heap.make(Make::Object(7))?;
-    assert!(rt; heap.element(object.id, 0)?.is_none());
-    assert_eq!(rt; heap.length(object.id), None);
+    let mut heap = new_heap(rt.alloc())?;
+    let fine = are_read(&mut heap, rt.alloc())?;
+    assert!(rt; fine);
     Ok(())
 }
 
@@ -220,22 +235,18 @@ const TOLD: [(i64, Immediate); 8] = [
     (i64::MIN, Immediate::Nil),
 ];
 
-#[test]
-fn an_immediate_element_is_told_and_no_other(rt: HostRuntime) -> Result<(), Fail> {
-    let alloc = rt.alloc();
-    let mut heap = new_heap(alloc)?;
-    let mut values = Vec::new(alloc);
-    for row in [Int(5), Nil, True, False, Text("a")] {
-        values.push(value(alloc, row)?)?;
+/// Whether the elements at these indices are told so.
+fn tells(heap: &Heap, list: Ref, table: &[(i64, Immediate)]) -> bool {
+    for (index, told) in table {
+        if heap.immediate_element(list.id, *index) != *told {
+            return false;
+        }
     }
-    let list = heap.make(Make::Elements(values))?;
-    for (index, told) in TOLD {
-        assert_eq!(rt; heap.immediate_element(list.id, index), told, "{index}");
-    }
-    let integers = new_list(&mut heap, alloc, 2)?;
-    for (index, told) in [(-1, Immediate::Int(2)), (2, Immediate::Nil)] {
-        assert_eq!(rt; heap.immediate_element(integers.id, index), told, "{index}");
-    }
+    true
+}
+
+/// Whether nothing is told of a hash, of what is not held, and of a list of another thread.
+fn tells_nothing(heap: &mut Heap, alloc: Global, list: Ref) -> Result<bool, AllocError> {
     let hash = heap.make(Make::Pairs(Vec::new(alloc)))?;
     let unheld = Id {
         thread: 3,
@@ -246,28 +257,44 @@ fn an_immediate_element_is_told_and_no_other(rt: HostRuntime) -> Result<(), Fail
         serial: list.id.serial,
     };
     for id in [hash.id, unheld, of_another] {
-        assert_eq!(rt; heap.immediate_element(id, 0), Immediate::Other);
+        if heap.immediate_element(id, 0) != Immediate::Other {
+            return Ok(false);
+        }
     }
-    Ok(())
+    Ok(true)
+}
+
+/// Whether a list of other values, and one of integers, are told.
+fn are_told(heap: &mut Heap, alloc: Global) -> Result<bool, AllocError> {
+    let list = list_of(heap, alloc, &[Int(5), Nil, True, False, Text("a")])?;
+    let integers = new_list(heap, alloc, 2)?;
+    let nothing = tells_nothing(heap, alloc, list)?;
+    let of_integers = [(-1, Immediate::Int(2)), (2, Immediate::Nil)];
+    Ok(nothing && tells(heap, list, &TOLD) && tells(heap, integers, &of_integers))
 }
 
 #[test]
+fn an_immediate_element_is_told_and_no_other(rt: HostRuntime) -> Result<(), Fail> {
+    let mut heap = new_heap(rt.alloc())?;
+    let fine = are_told(&mut heap, rt.alloc())?;
+    assert!(rt; fine);
+    Ok(())
+}
+
+/// How the elements of a list of false, nil and true are told.
+const TOLD_OF_FLAGS: [(i64, Immediate); 4] = [
+    (0, Immediate::False),
+    (1, Immediate::Nil),
+    (-1, Immediate::True),
+    (3, Immediate::Nil),
+];
+
+#[test]
 fn an_element_among_truth_values_is_told(rt: HostRuntime) -> Result<(), Fail> {
-    let alloc = rt.alloc();
-    let mut heap = new_heap(alloc)?;
-    let mut values = Vec::new(alloc);
-    for row in [False, Nil, True] {
-        values.push(value(alloc, row)?)?;
-    }
-    let list = heap.make(Make::Elements(values))?;
-    for (index, told) in [
-        (0, Immediate::False),
-        (1, Immediate::Nil),
-        (-1, Immediate::True),
-        (3, Immediate::Nil),
-    ] {
-        assert_eq!(rt; heap.immediate_element(list.id, index), told, "{index}");
-    }
+    let mut heap = new_heap(rt.alloc())?;
+    let list = list_of(&mut heap, rt.alloc(), &[False, Nil, True])?;
+    let fine = tells(&heap, list, &TOLD_OF_FLAGS);
+    assert!(rt; fine);
     Ok(())
 }
 
@@ -403,29 +430,32 @@ const WRITES: [(&[Row], i64, Immediate, bool, &str); 20] = [
     (&[], 0, Immediate::Nil, false, ""),
 ];
 
+/// Whether a write to a new list of rows comes out so, and leaves these elements.
+fn is_written(
+    heap: &mut Heap,
+    alloc: Global,
+    write: (&[Row], i64, Immediate, bool, &'static str),
+) -> Result<bool, AllocError> {
+    let (rows, index, value, done, left) = write;
+    let list = list_of(heap, alloc, rows)?;
+    let came = heap.put_immediate(list.id, index, value) == done;
+    let wrong = first_wrong(heap, alloc, list.id, &[(Copy, All(left))])?;
+    Ok(came && wrong.is_none())
+}
+
 #[test]
 fn an_immediate_value_is_written_where_it_fits(rt: HostRuntime) -> Result<(), Fail> {
-    let alloc = rt.alloc();
-    for (rows, index, value, done, left) in WRITES {
-        let mut heap = new_heap(alloc)?;
-        let list = heap.make(Make::Elements(values_of(alloc, rows)?))?;
-        assert_eq!(rt; heap.put_immediate(list.id, index, value), done, "{index}");
-        assert_eq!(rt;
-            first_wrong(&mut heap, alloc, list.id, &[(Copy, All(left))])?,
-            None,
-            "{index}"
-        );
+    let mut heap = new_heap(rt.alloc())?;
+    for write in WRITES {
+        let (_, index, _, _, left) = write;
+        let fine = is_written(&mut heap, rt.alloc(), write)?;
+        assert!(rt; fine, "{index} {left}");
     }
     Ok(())
 }
 
-#[test]
-fn an_immediate_value_is_written_to_lists_of_this_thread_alone(
-    rt: HostRuntime,
-) -> Result<(), Fail> {
-    let alloc = rt.alloc();
-    let mut heap = new_heap(alloc)?;
-    let list = new_list(&mut heap, alloc, 2)?;
+/// Whether nothing is written to an object, to a hash, to what is not held, and to a list of another thread.
+fn takes_nothing(heap: &mut Heap, alloc: Global, list: Ref) -> Result<bool, AllocError> {
     let object = heap.make(Make::Object(7))?;
     let hash = heap.make(Make::Pairs(Vec::new(alloc)))?;
     let none = Id {
@@ -441,32 +471,53 @@ fn an_immediate_value_is_written_to_lists_of_this_thread_alone(
         serial: list.id.serial,
     };
     for id in [object.id, hash.id, none, unheld, of_another] {
-        assert!(rt; !heap.put_immediate(id, 0, Immediate::Int(5)));
+        if heap.put_immediate(id, 0, Immediate::Int(5)) {
+            return Ok(false);
+        }
     }
-    assert_eq!(rt;
-        first_wrong(&mut heap, alloc, list.id, &[(Copy, All("1 2"))])?,
-        None
-    );
+    Ok(true)
+}
+
+/// And whether the list of this thread stays.
+fn takes_its_own_alone(heap: &mut Heap, alloc: Global) -> Result<bool, AllocError> {
+    let list = new_list(heap, alloc, 2)?;
+    let nothing = takes_nothing(heap, alloc, list)?;
+    let wrong = first_wrong(heap, alloc, list.id, &[(Copy, All("1 2"))])?;
+    Ok(nothing && wrong.is_none())
+}
+
+#[test]
+fn an_immediate_value_is_written_to_lists_of_this_thread_alone(
+    rt: HostRuntime,
+) -> Result<(), Fail> {
+    let mut heap = new_heap(rt.alloc())?;
+    let fine = takes_its_own_alone(&mut heap, rt.alloc())?;
+    assert!(rt; fine);
     Ok(())
+}
+
+/// Whether a list is told with its elements.
+fn is_told(heap: &mut Heap, alloc: Global) -> Result<bool, AllocError> {
+    let list = new_list(heap, alloc, 4)?;
+    if !heap.holds(list.id) {
+        return Ok(false);
+    }
+    match heap.thing(list.id)? {
+        Thing::Elements(found) => Ok(shown(alloc, &found)?.as_str() == "1 2 3 4"),
+        _ => Ok(false),
+    }
 }
 
 #[test]
 fn a_list_is_told_with_its_elements(rt: HostRuntime) -> Result<(), Fail> {
-    let alloc = rt.alloc();
-    let mut heap = new_heap(alloc)?;
-    let list = new_list(&mut heap, alloc, 4)?;
-    if !heap.holds(list.id) {
-        return Err(Fail::new("not held"));
-    }
-    match heap.thing(list.id)? {
-        Thing::Elements(found) => assert_eq!(rt; shown(alloc, &found)?.as_str(), "1 2 3 4"),
-        _ => assert!(rt; false),
-    }
+    let mut heap = new_heap(rt.alloc())?;
+    let fine = is_told(&mut heap, rt.alloc())?;
+    assert!(rt; fine);
     Ok(())
 }
 
 /// How often a value is put into a new list, and the elements that it then has.
-const FILLED: [(usize, Row, &str); 8] = [
+const FILLED: [(u32, Row, &str); 8] = [
     (0, Int(7), ""),
     (1, Int(7), "7"),
     (3, Int(7), "7 7 7"),
@@ -477,28 +528,35 @@ const FILLED: [(usize, Row, &str); 8] = [
     (2, Sym(2), ":2 :2"),
 ];
 
+/// Whether a new list of so many of one value has them, each one of its own: a put changes no other.
+fn is_filled(
+    heap: &mut Heap,
+    alloc: Global,
+    count: u32,
+    row: Row,
+    text: &'static str,
+) -> Result<bool, AllocError> {
+    let list = heap.make(Make::Filled(count as usize, value(alloc, row)?))?;
+    let table = [
+        (Copy, All(text)),
+        (Len, Gives(Int(i64::from(count)))),
+        (Push(row), Done),
+        (Put(0, False), Done),
+        (At(-1), Gives(if count == 0 { False } else { row })),
+    ];
+    let wrong = first_wrong(heap, alloc, list.id, &table)?;
+    Ok(wrong.is_none() && list.sort == Sort::List)
+}
+
 #[test]
 fn a_list_is_filled_with_one_value(rt: HostRuntime) -> Result<(), Fail> {
-    let alloc = rt.alloc();
-    let mut heap = new_heap(alloc)?;
+    let mut heap = new_heap(rt.alloc())?;
     for (count, row, text) in FILLED {
-        let list = heap.make(Make::Filled(count, value(alloc, row)?))?;
-        assert!(rt; list.sort == Sort::List);
-        // Each element is one of its own: a put changes no other.
-        let table = [
-            (Copy, All(text)),
-            (Len, Gives(Int(count as i64))),
-            (Push(row), Done),
-            (Put(0, False), Done),
-            (At(-1), Gives(if count == 0 { False } else { row })),
-        ];
-        assert_eq!(rt;
-            first_wrong(&mut heap, alloc, list.id, &table)?,
-            None,
-            "{text}"
-        );
+        let fine = is_filled(&mut heap, rt.alloc(), count, row, text)?;
+        assert!(rt; fine, "{text}");
     }
-    assert!(rt; heap.make(Make::Filled(16_777_217, Value::Nil)).is_err());
+    let refused = heap.make(Make::Filled(16_777_217, Value::Nil)).is_err();
+    assert!(rt; refused);
     Ok(())
 }
 
@@ -513,14 +571,21 @@ const FULL: [(Deed, Answer); 8] = [
     (At(0), Gives(Int(-2))),
 ];
 
+/// The number of the first row that a full list does not answer.
+fn first_wrong_of_full(alloc: Global) -> Result<Option<usize>, AllocError> {
+    let mut list = filled(alloc, 16_777_216, Value::Int(0))?;
+    for (at, (deed, answer)) in FULL.iter().enumerate() {
+        let reply = apply(&mut list, act(alloc, *deed)?)?;
+        if !answers(alloc, &reply, *answer)? {
+            return Ok(Some(at));
+        }
+    }
+    Ok(None)
+}
+
 #[test]
 fn a_list_has_so_many_elements_and_no_more(rt: HostRuntime) -> Result<(), Fail> {
-    let alloc = rt.alloc();
-    let mut list = filled(alloc, 16_777_216, Value::Int(0))?;
-    for (deed, answer) in FULL {
-        let reply = apply(&mut list, act(alloc, deed)?)?;
-        assert!(rt; answers(alloc, &reply, answer)?);
-    }
+    assert_eq!(rt; first_wrong_of_full(rt.alloc())?, None);
     Ok(())
 }
 

@@ -69,38 +69,42 @@ const SUMS: [(u32, i64, Option<i64>); 12] = [
     (5, 0, None),
 ];
 
+/// Whether a sum comes out so, and all else stays.
+fn gains(heap: &mut Heap, name: u32, n: i64, sum: Option<i64>) -> Result<bool, AllocError> {
+    let shapes = heap.shapes().len();
+    let came = heap.add_to_field(thing(1).id, NameId(name), n) == sum;
+    let holds = hold(heap, name, sum)?;
+    Ok(came && holds && heap.shapes().len() == shapes)
+}
+
 #[test]
 fn a_field_gains_an_integer_where_it_holds_integers_alone(rt: HostRuntime) -> Result<(), Fail> {
-    let alloc = rt.alloc();
     for (name, n, sum) in SUMS {
-        let mut heap = new_object(alloc)?;
-        let shapes = heap.shapes().len();
-        assert_eq!(rt;
-            heap.add_to_field(thing(1).id, NameId(name), n),
-            sum,
-            "{name} {n}"
-        );
-        assert!(rt; hold(&mut heap, name, sum)?, "{name} {n}");
-        assert_eq!(rt; heap.shapes().len(), shapes, "{name} {n}");
+        let mut heap = new_object(rt.alloc())?;
+        let fine = gains(&mut heap, name, n, sum)?;
+        assert!(rt; fine, "{name} {n}");
     }
     Ok(())
 }
 
-#[test]
-fn a_widened_field_that_holds_an_integer_again_gains_none(rt: HostRuntime) -> Result<(), Fail> {
-    let alloc = rt.alloc();
-    let mut heap = new_object(alloc)?;
-    let id = thing(1).id;
-    assert!(rt; does(&mut heap, alloc, Set(1, 3, Int(7)))?);
-    assert_eq!(rt; heap.add_to_field(id, NameId(3), 1), None);
-    assert!(rt; has(&mut heap, 1, 3, Int(7))?);
-    Ok(())
+/// Whether a widened field gains no integer.
+fn gains_none(heap: &mut Heap, alloc: Global) -> Result<bool, AllocError> {
+    let set = does(heap, alloc, Set(1, 3, Int(7)))?;
+    let came = heap.add_to_field(thing(1).id, NameId(3), 1);
+    let holds = has(heap, 1, 3, Int(7))?;
+    Ok(set && came.is_none() && holds)
 }
 
 #[test]
-fn an_integer_is_added_to_objects_of_this_thread_alone(rt: HostRuntime) -> Result<(), Fail> {
-    let alloc = rt.alloc();
-    let mut heap = new_object(alloc)?;
+fn a_widened_field_that_holds_an_integer_again_gains_none(rt: HostRuntime) -> Result<(), Fail> {
+    let mut heap = new_object(rt.alloc())?;
+    let fine = gains_none(&mut heap, rt.alloc())?;
+    assert!(rt; fine);
+    Ok(())
+}
+
+/// Whether nothing is added to a list, to a hash, to what is not held, and to an object of another thread.
+fn adds_nothing(heap: &mut Heap, alloc: Global) -> Result<bool, AllocError> {
     let list = heap.make(Make::Elements(Vec::new(alloc)))?;
     let hash = heap.make(Make::Pairs(Vec::new(alloc)))?;
     let none = Id {
@@ -116,8 +120,17 @@ fn an_integer_is_added_to_objects_of_this_thread_alone(rt: HostRuntime) -> Resul
         serial: 1,
     };
     for id in [list.id, hash.id, none, unheld, of_another] {
-        assert_eq!(rt; heap.add_to_field(id, NameId(0), 1), None);
+        if heap.add_to_field(id, NameId(0), 1).is_some() {
+            return Ok(false);
+        }
     }
-    assert!(rt; hold(&mut heap, 0, None)?);
+    hold(heap, 0, None)
+}
+
+#[test]
+fn an_integer_is_added_to_objects_of_this_thread_alone(rt: HostRuntime) -> Result<(), Fail> {
+    let mut heap = new_object(rt.alloc())?;
+    let fine = adds_nothing(&mut heap, rt.alloc())?;
+    assert!(rt; fine);
     Ok(())
 }
