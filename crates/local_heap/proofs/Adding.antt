@@ -99,7 +99,7 @@ module _ (thread : ℕ) (shapes : List Shape) (cells : List Cell) (h : Private) 
     is_object : IsObject shapes o
     is_object = object_is thread shapes cells h is id object_held c o read at whole.0 whole.1
 
-    is_sound : IsSound shapes home o
+    pub is_sound : IsSound shapes home o
     is_sound = sound_is thread shapes cells h is id object_held c o read at whole.0 whole.1
 
     is_it : (x : Thing) → held h id ≡ Some x → thing_in shapes home o ≡ x

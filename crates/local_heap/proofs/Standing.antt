@@ -8,6 +8,8 @@ use Rattle.std.proofs.lemmas.Option.{slice_get_read}
 use Rattle.rb_tree.specs.declared.span.NameId.{NameId}
 use Rattle.rb_model.specs.declared.act.Reply.{Reply as Answered}
 use Rattle.rb_model.specs.declared.act.Reply.TheVariants as answered
+use Rattle.rb_model.specs.declared.immediate.Immediate.{Immediate}
+use Rattle.rb_model.specs.declared.immediate.Immediate.TheVariants as immediate
 use Rattle.rb_model.specs.declared.value.Id.{Id}
 use Rattle.rb_model.specs.declared.value.Value.{Value as Held}
 use Rattle.rb_model.specs.Values.{Value as Val, Int, plain}
@@ -15,10 +17,10 @@ use Rattle.rb_model.specs.declared.fault.Fault.TheVariants.{NoMethod}
 use Rattle.rb_model.specs.Acts.{Act, At, Done, GetField, KGet, Len, Put, SetField}
 use Rattle.rb_model.specs.Acts as reply
 use Rattle.rb_model.specs.Doing.{said}
-use Rattle.rb_model.specs.Things.{Thing, Field, becomes, gives}
+use Rattle.rb_model.specs.Things.{Thing, Field, becomes, field, gives}
 use Rattle.rb_model.specs.Things as thing
 use Rattle.rb_model.specs.Paths.{shape_behind, shape_made}
-use Rattle.rb_model.specs.Immediates.{list_answered, told_answer}
+use Rattle.rb_model.specs.Immediates.{list_answered, told, told_answer}
 use Rattle.rb_model.specs.Private.{Becomes, Gives, Private, changed, entered, held, or_none, shape_held, with_shape_of}
 use Rattle.rb_model.specs.Private as private
 use Rattle.shape_core.specs.Shape.{Shape}
@@ -524,6 +526,24 @@ module _ (thread : ℕ) (shapes : List Shape) (cells : List Cell) (h : Private) 
 
     pub none_there : found ≡ None → held h id ≡ None
     none_there at = held_there ∙ ap (option_and_then (still shapes home)) at
+
+    -- what is told of a field of an object is told of the thing that is held
+    pub field_told_there : (name : NameId) (o : Object) → found ≡ Some (cell.Object o) → (it : Immediate)
+        → it ≡ told (field name (fields_in shapes home o)) → it ≡ told_answer (held h id) (GetField name)
+    field_told_there name o at it is_told =
+        is_told ∙ ap (λ t. told_answer t (GetField name)) (sym (held_there ∙ ap (option_and_then (still shapes home)) at))
+
+    -- nothing is told of a field of what is no object
+    pub no_field_told_there : (name : NameId) (c : Cell) → found ≡ Some c → ((o : Object) → c ≡ cell.Object o → ⊥)
+        → immediate.Other ≡ told_answer (held h id) (GetField name)
+    no_field_told_there name c at other =
+        by c other ∙ ap (λ t. told_answer t (GetField name)) (sym (held_there ∙ ap (option_and_then (still shapes home)) at))
+      where
+        by : (d : Cell) → ((o : Object) → d ≡ cell.Object o → ⊥) → immediate.Other ≡ told_answer (still shapes home d) (GetField name)
+        by cell.Empty e = refl
+        by (cell.Object o) e = absurd (e o refl)
+        by (cell.List list) e = refl
+        by (cell.Pairs pairs) e = refl
 
     -- what is so of what the cell has, is so of the thing that is held
     pub so_there : (P : Thing → Type 0) (c : Cell) → found ≡ Some c → IsSomeAnd (contents c) P → (x : Thing) → held h id ≡ Some x → P x

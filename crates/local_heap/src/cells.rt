@@ -7,7 +7,7 @@ ghost use Rattle.rb_model.specs.Acts.{At, KGet, Len};
 ghost use Rattle.rb_model.specs.Acts as answer;
 ghost use Rattle.rb_model.specs.Doing.{doing, said};
 ghost use Rattle.rb_model.specs.Things.{field, gives};
-ghost use Rattle.rb_model.specs.Immediates.{list_answered, reference, told_answer, value_told};
+ghost use Rattle.rb_model.specs.Immediates.{list_answered, reference, told, told_answer, value_told};
 ghost use Rattle.local_heap.specs.Memory.{may_want};
 ghost use Rattle.local_heap.specs.Contents.{has_length, is_list};
 ghost use Rattle.local_heap.specs.Slots.{IsOwnBy, IsWord, class_at, meaning, own, slot_at};
@@ -248,6 +248,44 @@ impl Cells {
         ensures refused { OnErr result (is_text (field name (fields_in (S.shapes shapes.now) (home_of (S.shapes shapes.now) self.now) object.now)) ≡ true) }
     {
         Ok(Reply::Value(self.read(shapes, object, name)?))
+    }
+
+    /// A field of an object, told where it is an immediate value. Nothing is copied or shared.
+    #[inline(always)]
+    pub fn immediate_field<S: ShapeStore>(
+        &self,
+        shapes: &S,
+        object: &Object,
+        name: NameId,
+    ) -> Immediate
+        requires known { AreKnown (S.shapes shapes.now) self.now.items.items }
+        requires object { IsObject (S.shapes shapes.now) object.now }
+        requires sound { IsSound (S.shapes shapes.now) (home_of (S.shapes shapes.now) self.now) object.now }
+        ensures { result ≡ told (field name (fields_in (S.shapes shapes.now) (home_of (S.shapes shapes.now) self.now) object.now)) }
+    {
+        match shapes.find(object.shape, name) {
+            None => Immediate::Nil,
+            Some((place, Kind::IntLoc)) => {
+                Immediate::Int(from_int_word(object.words[place.0 as usize]))
+            }
+            Some((place, Kind::AnyLoc)) => self.told_at(shapes, object, place),
+        }
+    }
+
+    /// What stands at a place for any value, told where it is an immediate value.
+    #[cold]
+    #[inline(never)]
+    fn told_at<S: ShapeStore>(&self, shapes: &S, object: &Object, place: Place) -> Immediate
+        requires known { AreKnown (S.shapes shapes.now) self.now.items.items }
+        requires within { place.0 < length object.now.words.items }
+        requires sound { IsWord (home_of (S.shapes shapes.now) self.now) (slot_at object.now place.0) }
+        ensures { result ≡ told (value_by (home_of (S.shapes shapes.now) self.now) Kind.AnyLoc (slot_at object.now place.0)) }
+    {
+        match self.read_at(shapes, object, place, Kind::AnyLoc) {
+            Ok(value) => list::immediate_of(&value),
+            // Only for a text is memory wanted.
+            Err(_) => Immediate::Other,
+        }
     }
 
     /// The value at a place of this kind.

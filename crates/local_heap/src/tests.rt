@@ -6,6 +6,7 @@ ghost use Rattle.rb_model.specs.Things.{Object};
 ghost use Rattle.rb_model.specs.Private.{held};
 
 mod deeds;
+mod fields;
 mod hashes;
 mod lists;
 mod sums;

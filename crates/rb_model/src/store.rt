@@ -83,6 +83,11 @@ pub trait ThreadStore {
         ensures told { result ≡ told_answer (held (private self.now) id) (KGet (plain key.now)) }
         ensures private { Becomes (private self.now) id (KGet (plain key.now)) (private self.now) };
 
+    /// A field of an object that is private here, where it is an immediate value.
+    fn immediate_field(&self, id: Id, name: NameId) -> Immediate
+        ensures told { result ≡ told_answer (held (private self.now) id) (GetField name) }
+        ensures private { Becomes (private self.now) id (GetField name) (private self.now) };
+
     /// Gives an element of a list that is private here an immediate value, where the list has the element and it fits where it stands. Else
     /// nothing is done.
     fn put_immediate(&mut self, id: Id, index: i64, value: Immediate) -> bool

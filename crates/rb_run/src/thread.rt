@@ -92,6 +92,14 @@ impl<O: OneStore, S: ShapeStore> ThreadStore for MainThread<O, S> {
     }
 
     #[inline(always)]
+    fn immediate_field(&self, id: Id, name: NameId) -> Immediate
+        ensures told { result ≡ told_answer (held self.now.things id) (GetField name) }
+        ensures private { Becomes self.now.things id (GetField name) self.now.things }
+    {
+        self.things.immediate_field(id, name)
+    }
+
+    #[inline(always)]
     fn put_immediate(&mut self, id: Id, index: i64, value: Immediate) -> bool
         ensures there { result ≡ true → is_some (held self.old.things id) ≡ true }
         ensures gives { result ≡ true → IfSome (value_told value) (λ v. Gives self.old.things id (Put index v) answer.Done) }

@@ -68,6 +68,25 @@ impl<S: ShapeStore> LocalHeap<S> {
         }
     }
 
+    /// A field of an object that is private here, told where it is an immediate value. Nothing is copied or shared.
+    #[inline(always)]
+    pub fn immediate_field(&self, id: Id, name: NameId) -> Immediate
+        ensures told { result ≡ told_answer (held self.now id) (GetField name) }
+        ensures private { Becomes self.now id (GetField name) self.now }
+    {
+        if self.cells.thread != id.thread {
+            return Immediate::Other;
+        }
+        let at = id.serial as usize;
+        if at >= self.cells.items.len() {
+            return Immediate::Other;
+        }
+        match &self.cells.items[at] {
+            Cell::Object(object) => self.cells.immediate_field(&self.shapes, object, name),
+            _ => Immediate::Other,
+        }
+    }
+
     /// Gives an element of a list that is private here an immediate value, where the list has the element and it fits where it stands. Else
     /// nothing is done. Nothing is allocated or copied.
     #[inline(always)]
