@@ -28,6 +28,7 @@ mod flow;
 mod lines;
 mod methods;
 mod objects;
+mod operands;
 mod texts;
 mod values;
 mod walks;
@@ -40,7 +41,7 @@ use rb_walk::MAX_DEPTH;
 use rb_walk::came::{Came, Cut, Leave, immediate, is_told};
 use rb_walk::dispatch::Methods;
 use rb_walk::ending::{close, end_of};
-use rb_walk::leaf::{is_operate, place_of, quick, quick_twice, small, steps_of};
+use rb_walk::leaf::{is_leaf, is_operate, is_read, place_of, quick, quick_twice, small, steps_of};
 use rb_walk::slots::clear;
 use std::alloc::Global;
 
@@ -228,6 +229,9 @@ impl<'p, O: ThreadStore + Drop> Walker<'p, O> {
                         }
                     }
                     self.left -= 1;
+                    if is_read(left) || is_read(right) {
+                        return self.begin_read_operate(code, depth + 1, room);
+                    }
                     return self.begin_slow_operate(code, depth + 1, room);
                 }
                 self.walk(code, depth, room)
@@ -239,10 +243,13 @@ impl<'p, O: ThreadStore + Drop> Walker<'p, O> {
                 }
                 self.walk(code, depth, room)
             }
-            Code::Send(_, _, _, _, _) => {
+            Code::Send(_, _, receiver, _, _) => {
                 if self.left > 0 && depth < MAX_DEPTH {
                     self.left -= 1;
-                    return self.begin_read(code, depth + 1, room);
+                    if is_leaf(receiver.get()) {
+                        return self.begin_read(code, depth + 1, room);
+                    }
+                    return self.begin_far_send(code, depth + 1, room);
                 }
                 self.walk(code, depth, room)
             }

@@ -11,8 +11,8 @@ use Rattle.rb_model.specs.Ends.{End}
 use Rattle.rb_model.specs.Log.{Log}
 use Rattle.rb_model.specs.Private.{Private}
 use Rattle.rb_machine.specs.Scopes.{Script, Scope}
-use Rattle.rb_machine.specs.Control.{State, On, Cont, Then, Give, Passing, Argument, Aim}
-use Rattle.rb_machine.specs.Call.{enter}
+use Rattle.rb_machine.specs.Control.{State, On, Cont, Then, Give, Passing, Argument, Aim, Instead}
+use Rattle.rb_machine.specs.Call.{enter, last_value}
 use Rattle.rb_machine.specs.Follows.{At}
 use Rattle.rb_code.specs.Layout.{bound}
 use Rattle.rb_walk.specs.declared.came.Came.{Came as Registers}
@@ -48,6 +48,15 @@ module _ {S : Script} {N : ℕ} {start : State} {h : Private} where
   placed m to at k d n me names base room w b q a =
       same a (ap (λ vs. enter S m to vs at k (scope_of me names room) d n) (sym (one_arg base room w q))
       ∙ ap (λ ls. enter S m to (map plain (take 1 (drop base (slice_set room base w)))) at k (record { me = me; locals = ls }) d n) (sym (room_beyond names room base w b)))
+
+  -- the same for an assignment, whose value it is
+  pub placed_last : {l : Log} (m : Method) (to : Val) (at : Span) (k : List Cont) (d n : ℕ) (me : Val) (names : List NameId) (base : ℕ) (room : List Held) (w : Held) → length names ≤ base → base < length room
+      → At S 0 N start l h (enter S m to (plain w ∷ []) at (Then (Instead (plain w)) ∷ k) (scope_of me names room) d n)
+      → At S 0 N start l h (enter S m to (map plain (take 1 (drop base (slice_set room base w)))) at (Then (Instead (last_value S (map plain (take 1 (drop base (slice_set room base w)))))) ∷ k) (scope_of me names (slice_set room base w)) d n)
+  placed_last m to at k d n me names base room w b q a =
+      let args = map plain (take 1 (drop base (slice_set room base w))) in
+      same (placed m to at (Then (Instead (plain w)) ∷ k) d n me names base room w b q a)
+      (ap (λ vs. enter S m to args at (Then (Instead (last_value S vs)) ∷ k) (scope_of me names (slice_set room base w)) d n) (sym (one_arg base room w q)))
 
 module _ {S : Script} {N : ℕ} {start : State} {h : Private} where
   -- the arguments that are left, under another name

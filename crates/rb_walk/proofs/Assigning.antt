@@ -60,7 +60,7 @@ slots_at (x ∷ xs) (v ∷ vs) zero w l e = e
 slots_at (x ∷ xs) (v ∷ vs) (suc i) w l e = slots_at xs vs i w (omega (arith, l)) e
 
 -- a parameter is the argument in its slot
-parameter_is : (name : NameId) (names : List NameId) (vs : List Val) (i : ℕ) (w : Val) → has_slot name names i ≡ true → slice_get vs i ≡ Some w → look name (fresh names vs) ≡ w
+pub parameter_is : (name : NameId) (names : List NameId) (vs : List Val) (i : ℕ) (w : Val) → has_slot name names i ≡ true → slice_get vs i ≡ Some w → look name (fresh names vs) ≡ w
 parameter_is name names vs i w s e =
     ap (look name) (sym (slots_bound names vs))
     ∙ read_slot name names (slots_of names vs) i w (omega (arith, slots_length names vs)) s (slots_at names vs i w (slot_within name names i s) e)

@@ -70,9 +70,13 @@ answer_is (Some x) act = by (value_told (told_reply (gives x act))) (reply_is (g
     by None e = tt
     by (Some v) e = (refl, λ y same. let is : x ≡ y = cc in e ∙ ap (λ t. gives t act) is)
 
+pub there_gives : (own : Private) (id : Id) (act : Act) (r : Immediate) (v : Val) → r ≡ told_answer (held own id) act → value_told r ≡ Some v
+    → (is_some (held own id) ≡ true) × Gives own id act (reply.Value v)
+there_gives own id act r v is told_so = rw (sym (ap value_told is) ∙ told_so) at (answer_is (held own id) act)
+
 pub there_and_gives : (own : Private) (array : Ref) (index : ℤ) (r : Immediate) (v : Val) → r ≡ told_answer (held own array.id) (At index) → value_told r ≡ Some v
     → (is_some (held own array.id) ≡ true) × Gives own array.id (At index) (reply.Value v)
-there_and_gives own array index r v is told_so = rw (sym (ap value_told is) ∙ told_so) at (answer_is (held own array.id) (At index))
+there_and_gives own array index r v is told_so = there_gives own array.id (At index) r v is told_so
 
 -- what a thing answers, where that is told at once
 pub told_of : (own : Private) (thing : Ref) (method : Option Builtin) (arg : Val) (act : Act) (r : Immediate) → IsAsking thing method arg act → r ≡ told_answer (held own thing.id) act → Becomes own thing.id act own

@@ -1,5 +1,5 @@
 -- Methods that only read or write an instance variable.
-use Rattle.std.proofs.Common.{◌≡◌, ℕ, suc, ◌+◌, ◌-◌, ◌<◌, ◌≤◌, true, cond, List, [], ◌∷◌, length, map, Option, Some, None, Result, Ok, Err, refl, sym, ap, ◌∙◌, subst, arith}
+use Rattle.std.proofs.Common.{◌≡◌, ℕ, ◌+◌, ◌-◌, ◌<◌, ◌≤◌, true, cond, List, [], ◌∷◌, length, map, Option, Some, None, Result, Ok, Err, refl, sym, ap, ◌∙◌, subst, arith}
 use Rattle.std.specs.Prelude.{nat_eq, IsSomeAnd, IfErr}
 use Rattle.rb_tree.specs.declared.span.Span.{Span}
 use Rattle.rb_tree.specs.declared.span.NameId.{NameId}
@@ -26,9 +26,7 @@ use Rattle.rb_code.specs.declared.scripted.CodeMethod.{CodeMethod}
 use Rattle.rb_code.specs.declared.scripted.CodeScript.{CodeScript}
 use Rattle.rb_code.specs.Dispatch.{method_by}
 use Rattle.rb_code.specs.Erase.{erase, erase_method}
-use Rattle.rb_code.specs.Layout.{bound, has_slot}
 use Rattle.rb_code.specs.Resolved.{every, fits, method_fits}
-use Rattle.rb_code.proofs.Slots.{read_slot}
 use Rattle.rb_code.proofs.Showing.{shows-local, shows-send, shows-set_field}
 use Rattle.rb_code.proofs.Fitting.{fits-local, fits-send, fits-set_field}
 use Rattle.rb_builtin.specs.declared.builtin.Builtin.{Builtin}
@@ -40,6 +38,7 @@ use Rattle.rb_walk.specs.Answers.{IsHeld}
 use Rattle.rb_walk.specs.Methods.{method_for}
 use Rattle.rb_walk.specs.Objects.{Asks, WritesField, plainly}
 use Rattle.rb_walk.specs.Readers.{IsReader, Reads, Writes}
+use Rattle.rb_walk.proofs.Assigning.{parameter_is}
 use Rattle.rb_walk.proofs.Lists.{fst, snd}
 use Rattle.rb_walk.proofs.Objects.{fielded_by}
 use Rattle.rb_walk.proofs.Moves.{on, same, begins, counts, gives, left}
@@ -137,25 +136,6 @@ pub fetched_exit : (r : Result Held Registers) (v : Held) (l : Leave) → IfErr 
 fetched_exit (Ok x) v l over = refl
 fetched_exit (Err c) v l over = ap call_exit over.1 ∙ sym over.1
 
--- nil in each slot
-abbrev nils : List NameId → List Val
-nils [] = []
-nils (x ∷ xs) = Nil ∷ nils xs
-
-nils_bound : (names : List NameId) → bound names (nils names) ≡ fresh names []
-nils_bound [] = refl
-nils_bound (x ∷ xs) = ap (λ ls. (x, Nil) ∷ ls) (nils_bound xs)
-
-nils_length : (names : List NameId) → length (nils names) ≡ length names
-nils_length [] = refl
-nils_length (x ∷ xs) = ap suc (nils_length xs)
-
--- the only argument of a method is in the first slot of its frame
-first_is : (name : NameId) (names : List NameId) (v : Val) → has_slot name names 0 ≡ true → look name (fresh names (v ∷ [])) ≡ v
-first_is name [] v e = absurd (cc)
-first_is name (x ∷ xs) v e =
-    ap (look name) (ap (λ ls. (x, v) ∷ ls) (sym (nils_bound xs))) ∙ read_slot name (x ∷ xs) (v ∷ nils xs) 0 v (omega (arith, nils_length xs)) e refl
-
 module _ (S : Script) (N : ℕ) (start : State) (h h' : Private) where
   -- what is run with the object and the argument
   abbrev setter : Val → CodeMethod → Val → Scope
@@ -166,7 +146,7 @@ module _ (S : Script) (N : ℕ) (start : State) (h h' : Private) where
   argument_is m field place w r right =
       let names = S.method_names (erase_method m) in
       let f : fits S (code.SetField field (code.Local 0 r.name r.from) place) names m.size ≡ true = fst _ _ (subst (λ (ns : List Code). every (map (fits S) ns) names m.size ≡ true) r.body (snd _ _ (snd _ _ right))) in
-      first_is r.name names w (sym (fits-set_field S names m.size field (code.Local 0 r.name r.from) place ∙ fits-local S names m.size 0 r.name r.from) ∙ f)
+      parameter_is r.name names (w ∷ []) 0 w (sym (fits-set_field S names m.size field (code.Local 0 r.name r.from) place ∙ fits-local S names m.size 0 r.name r.from) ∙ f) refl
 
   -- a method that only gives its argument to a variable is entered
   pub enters_writer : (l : Log) (k : List Cont) (sc : Scope) (d n : ℕ) (v w : Val) (m : CodeMethod) (field : NameId) (place at : Span) (o : Outcome)

@@ -1,18 +1,22 @@
 -- Methods that only read or write an instance variable, and calls that are done at once.
-use Rattle.std.specs.Prelude.{◌≡◌, ◌≤◌, ◌<◌, ℕ, true, List, [], ◌∷◌, length, map, Option, Some, None}
+use Rattle.std.specs.Prelude.{◌≡◌, ◌≤◌, ◌<◌, ◌-◌, ℕ, ℤ, true, List, [], ◌∷◌, length, map, Option, Some, None, is_some}
 use Rattle.rb_tree.specs.declared.span.Span.{Span}
 use Rattle.rb_tree.specs.declared.span.NameId.{NameId}
 use Rattle.rb_tree.specs.declared.node.Node.{Node, out-Node}
 use Rattle.rb_tree.specs.declared.node.Node.TheOpen as node
 use Rattle.rb_tree.specs.declared.node.Program.{Program}
-use Rattle.rb_model.specs.Values.{Value as Val}
+use Rattle.rb_tree.specs.declared.node.AssignOp.TheVariants as op
+use Rattle.rb_model.specs.Values.{Value as Val, Int}
 use Rattle.rb_model.specs.declared.value.Ref.{Ref}
 use Rattle.rb_model.specs.declared.value.Value.{Value as Held}
 use Rattle.rb_model.specs.Log.{Log}
-use Rattle.rb_model.specs.Private.{Private}
+use Rattle.rb_model.specs.Acts.{GetField}
+use Rattle.rb_model.specs.Acts as reply
+use Rattle.rb_model.specs.Private.{Private, Becomes, Gives, held}
 use Rattle.rb_machine.specs.Scopes.{Script, Scope, text_of}
 use Rattle.rb_machine.specs.Call.{enter}
-use Rattle.rb_machine.specs.Control.{State, On, Cont, Then, Eval, ReceiverOf}
+use Rattle.rb_machine.specs.Control.{State, On, Cont, Then, Eval, Give, ReceiverOf}
+use Rattle.rb_machine.specs.Methods.{Answer, deed}
 use Rattle.rb_machine.specs.Follows.{At}
 use Rattle.rb_builtin.specs.declared.builtin.Builtin.{Builtin}
 use Rattle.rb_builtin.specs.Names.{builtin_of}
@@ -66,6 +70,13 @@ pub record Writes (m : CodeMethod) (field : NameId) (place : Span) : Type 0 wher
   pub from : Span
   pub body : m.body ≡ code.SetField field (code.Local 0 name from) place ∷ []
 
+-- a method with one parameter adds it to this variable at this place, and does nothing else
+pub record Adds (m : CodeMethod) (field : NameId) (place : Span) : Type 0 where
+  pub params : length m.params ≡ 1
+  pub name : NameId
+  pub from : Span
+  pub body : m.body ≡ code.UpdateField field op.Plus (code.Local 0 name from) place ∷ []
+
 -- From where a method begins with these arguments, the machine comes to the outcome.
 abbrev pub EntersAtOnce : ℕ → Val → CodeMethod → List Val → (depth left left' : ℕ) → (log log' : Log) → (own own' : Private) → Outcome → Type 0
 EntersAtOnce N to method args depth left left' log log' own own' o =
@@ -74,7 +85,7 @@ EntersAtOnce N to method args depth left left' log log' own own' o =
     → At S 0 N start log own (enter S (erase_method method) to args at k sc depth left)
     → Came S N start log' own' o k sc depth left'
 
--- a statement gives the parameter in this slot to this variable at this place, and does nothing else
+-- a statement gives the local in this slot to this variable at this place, and does nothing else
 pub record AssignsField (c : Code) (field : NameId) (slot : ℕ) (place : Span) : Type 0 where
   pub name : NameId
   pub from : Span
@@ -93,6 +104,26 @@ pub record OnlyAssigns (count : ℕ) (m : CodeMethod) : Type 0 where
   pub params : length m.params ≡ count
   pub body : AllByRecursion (AssignsParameter count) m.body
 
--- The same of a method whose value no one reads.
+-- From where a method begins with these arguments, the machine comes to the outcome, and no one reads its value.
 abbrev pub EntersUnread : ℕ → Val → CodeMethod → List Val → (depth left left' : ℕ) → (log log' : Log) → (own own' : Private) → Registers → Outcome → Type 0
 EntersUnread N to method args depth left left' log log' own own' r o = Unread r o (EntersAtOnce N to method args depth left left' log log' own own')
+
+-- a private object answers with this integer to the reading of a variable, which leaves the private things as they are
+pub record HasInteger (own : Private) (object : Ref) (field : NameId) (n : ℤ) : Type 0 where
+  pub there : is_some (held own object.id) ≡ true
+  pub gives : Gives own object.id (GetField field) (reply.Value (Int n))
+  pub stays : Becomes own object.id (GetField field) own
+
+-- A node gives this integer in so many steps, at most three, which leave the scope and the private things as they are. It may read variables of
+-- `self` and of other objects.
+abbrev pub Fetches : CodeScript → Val → ℕ → Code → List Held → Private → ℤ → Type 0
+Fetches script me steps code room own n =
+    (S : Script) (N : ℕ) (names : List NameId) (size depth left : ℕ) (start : State) (log : Log) (k : List Cont)
+    → StandsFor script S → fits S code names size ≡ true → length names ≤ length room → 2 < left → depth < 999
+    → At S 0 N start log own (On (Eval (erase code)) k (scope_of me names room) depth left) → At S 0 N start log own (On (Give (Int n)) k (scope_of me names room) depth (left - steps))
+
+-- an operation over two such nodes gives this answer
+abbrev pub IsFetched : CodeScript → Val → Option Builtin → (first second : Code) → (steps_first steps_second : ℕ) → List Held → Private → Answer → Type 0
+IsFetched script me method first second steps_first steps_second room own answer =
+    (m : ℤ) × (n : ℤ) × Fetches script me steps_first first room own m × Fetches script me steps_second second room own n
+    × ((program : Program) (name : List ℕ) → builtin_of name ≡ method → deed program (Int m) name (Int n ∷ []) None ≡ answer)

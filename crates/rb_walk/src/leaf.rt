@@ -469,11 +469,17 @@ pub fn is_operate(code: &Code) -> bool {
     }
 }
 
-/// Whether a node is a call with one argument whose receiver is one.
+/// Whether a node is an integer or a local.
+#[inline(always)]
+pub fn is_leaf(code: &Code) -> bool {
+    matches!(code, Code::Int(_, _) | Code::Local(_, _, _))
+}
+
+/// Whether a node is a call with one argument whose receiver is no leaf.
 #[inline(always)]
 pub fn is_deep(code: &Code) -> bool {
     match code {
-        Code::Operate(_, _, receiver, _, _) => is_operate(receiver.get()),
+        Code::Operate(_, _, receiver, _, _) => !is_leaf(receiver.get()),
         _ => false,
     }
 }
@@ -482,6 +488,21 @@ pub fn is_deep(code: &Code) -> bool {
 #[inline(always)]
 pub fn is_send(code: &Code) -> bool {
     matches!(code, Code::Send(_, _, _, _, _))
+}
+
+/// Whether a node reads an instance variable or is a call with a receiver, which may read an attribute.
+#[inline(always)]
+pub fn is_read(code: &Code) -> bool {
+    matches!(code, Code::Field(_, _) | Code::Send(_, _, _, _, _))
+}
+
+/// Whether an operand takes three steps, where it is one that is read or computed at once.
+#[inline(always)]
+pub fn is_long(code: &Code) -> bool {
+    matches!(
+        code,
+        Code::Operate(_, _, _, _, _) | Code::Send(_, _, _, _, _)
+    )
 }
 
 /// Whether an operator of an assignment combines the value that stands there with another.

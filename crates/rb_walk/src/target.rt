@@ -5,7 +5,7 @@ ghost use Rattle.std.specs.List.{AllByRecursion};
 ghost use Rattle.rb_model.specs.Values.{plain};
 ghost use Rattle.rb_code.specs.declared.scripted.CodeScript.{CodeScript};
 ghost use Rattle.rb_walk.specs.Methods.{IsTarget, HasNone, HasNoMethods, IsWriter, HasNoWriter};
-ghost use Rattle.rb_walk.specs.Readers.{AssignsField, AssignsParameter, OnlyAssigns, Reads, IsReader, Writes};
+ghost use Rattle.rb_walk.specs.Readers.{Adds, AssignsField, AssignsParameter, OnlyAssigns, Reads, IsReader, Writes};
 ghost use Rattle.rb_walk.specs.Answers.{IsHeld};
 ghost use Rattle.rb_walk.specs.Carries.{me_of};
 
@@ -13,7 +13,7 @@ use crate::dispatch::Methods;
 use crate::leaf::local_at;
 use rb_code::{Code, CodeMethod};
 use rb_model::{Ref, Sort, Value};
-use rb_tree::{NameId, Span};
+use rb_tree::{AssignOp, NameId, Span};
 
 /// A method of the class of an object.
 #[derive(Clone, Copy)]
@@ -141,6 +141,32 @@ pub fn written_by(method: &CodeMethod) -> Option<(NameId, Span)>
         return None;
     };
     let Code::SetField(field, value, at) = only else {
+        return None;
+    };
+    let Code::Local(slot, _, _) = value.get() else {
+        return None;
+    };
+    if *slot != 0 {
+        return None;
+    }
+    Some((*field, *at))
+}
+
+/// What a method with one parameter adds it to, where it does nothing else: an instance variable, at this place.
+#[inline(always)]
+pub fn added_by(method: &CodeMethod) -> Option<(NameId, Span)>
+    ensures { IfSome result (λ added. Adds method.now added.0 added.1) }
+{
+    if method.params.len() != 1 {
+        return None;
+    }
+    let [only] = method.body.as_slice() else {
+        return None;
+    };
+    let Code::UpdateField(field, op, value, at) = only else {
+        return None;
+    };
+    let AssignOp::Plus = op else {
         return None;
     };
     let Code::Local(slot, _, _) = value.get() else {

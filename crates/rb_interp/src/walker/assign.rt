@@ -424,6 +424,12 @@ impl<'p, O: ThreadStore + Drop> Walker<'p, O> {
         let Some(target) = writer_of(self.context.script, receiver, writer) else {
             return self.raise(Fault::NoMethod, at);
         };
+        if let Some(done) = self.entered_writing(target, came, depth) {
+            if is_left(done) {
+                return done;
+            }
+            return came;
+        }
         let value = self.take(came);
         let Ok(copy) = value.share() else {
             return self.over(Cut::Memory);

@@ -18,8 +18,8 @@ use rb_tree::{NameId, Span};
 use rb_walk::MAX_DEPTH;
 use rb_walk::came::{Came, Cut, Leave, is_left};
 use rb_walk::leaf::{
-    held_alone, held_at, integer_at, is_combining, is_deep, is_object_at, is_operate, is_send,
-    local_at, method_of, quick, quick_update, update_over,
+    held_alone, held_at, integer_at, is_combining, is_deep, is_object_at, is_operate, is_read,
+    is_send, local_at, method_of, quick, quick_update, update_over,
 };
 use rb_walk::target::{local_collection, local_target, reader_of};
 
@@ -193,6 +193,9 @@ impl<'p, O: ThreadStore + Drop> Walker<'p, O> {
                 }
                 if is_object_at(left, room) {
                     return self.begin_object_operate(code, depth, room);
+                }
+                if is_read(left) || is_read(right) {
+                    return self.begin_read_operate(code, depth, room);
                 }
                 self.begin_slow_operate(code, depth, room)
             }
@@ -444,6 +447,30 @@ impl<'p, O: ThreadStore + Drop> Walker<'p, O> {
         self.read_attribute(code, depth, room)
     }
 
+    /// A call with a receiver that is no leaf, without a block.
+    #[cycle(walk)]
+    #[inline(never)]
+    pub(super) fn begin_far_send(&mut self, code: &'p Code, depth: u32, room: &mut [Value]) -> Came
+        requires unended { has_end (O.log self.old.store).entries ≡ false }
+        requires steps { self.old.left ≤ self.old.context.steps }
+        ensures base { self.new.base ≡ self.old.base }
+        ensures context { self.new.context ≡ self.old.context }
+        ensures room { length room.new ≡ length room.old }
+        ensures less { self.new.left ≤ self.old.left }
+        ensures unended { has_end (O.log self.new.store).entries ≡ false }
+        ensures kept { Keeps self.old.context.script.now self.old.context.program.now (λ S. fits S code.now) self.old.base room.old room.new }
+        ensures came { Carries self.old.context.script.now self.old.context.program.now self.old.context.steps (me_of self.old.context.me) (λ S. fits S code.now) (λ S k sc d n. begin S (out-Node (erase code.now)) k sc d n) self.old.base depth self.old.left self.new.left room.old room.new (O.log self.old.store) (O.log self.new.store) (O.private self.old.store) (O.private self.new.store) (outcome result self.new.value self.new.leave) }
+    {
+        match code {
+            Code::Send(method, name, receiver, args, at) => {
+                let receiver = receiver.get();
+                let args = args.as_slice();
+                self.send(*method, *name, receiver, args, *at, depth, room)
+            }
+            _ => self.over(Cut::Memory),
+        }
+    }
+
     /// Any call with a receiver, without a block. To a local without arguments it takes no value out of its slot.
     #[cycle(walk)]
     #[inline(never)]
@@ -640,6 +667,17 @@ impl<'p, O: ThreadStore + Drop> Walker<'p, O> {
                 let receiver = receiver.get();
                 let args = args.as_slice();
                 if self.left > 0 && depth < MAX_DEPTH {
+                    if let [only] = args {
+                        if let Some(target) = local_target(
+                            self.context.script,
+                            receiver,
+                            *name,
+                            room,
+                        ) {
+                            self.left -= 1;
+                            return self.store_target(target, *name, only, *at, depth, room);
+                        }
+                    }
                     if let [index, value] = args {
                         if let Some(thing) = local_collection(receiver, room) {
                             self.left -= 1;

@@ -156,6 +156,9 @@ impl<'p, O: ThreadStore + Drop> Walker<'p, O> {
         if is_left(came) {
             return came;
         }
+        if let Some(sum) = self.entered_adding(target, came, depth) {
+            return Came::Int(sum);
+        }
         if self.base >= room.len() {
             return self.over(Cut::Memory);
         }
@@ -312,6 +315,46 @@ impl<'p, O: ThreadStore + Drop> Walker<'p, O> {
                 depth,
             ),
         }
+    }
+
+    /// An assignment by a method of the class of an object, which was found, with one argument.
+    #[cycle(walk)]
+    #[inline(always)]
+    pub(super) fn store_target(
+        &mut self,
+        target: Target<'p>,
+        name: NameId,
+        value: &'p Code,
+        at: Span,
+        depth: u32,
+        room: &mut [Value],
+    ) -> Came
+        requires unended { has_end (O.log self.old.store).entries ≡ false }
+        requires steps { self.old.left ≤ self.old.context.steps }
+        requires target { IsTarget self.old.context.script.now (me_of (Some target.object)) name target.object target.method.now }
+        ensures base { self.new.base ≡ self.old.base }
+        ensures context { self.new.context ≡ self.old.context }
+        ensures room { length room.new ≡ length room.old }
+        ensures less { self.new.left ≤ self.old.left }
+        ensures unended { has_end (O.log self.new.store).entries ≡ false }
+        ensures kept { Keeps self.old.context.script.now self.old.context.program.now (λ S. fits S value.now) self.old.base room.old room.new }
+        ensures came { Carries self.old.context.script.now self.old.context.program.now self.old.context.steps (me_of self.old.context.me) (λ S. fits S value.now) (λ S k sc d n. On (Eval (erase value.now)) (Then (Argument (Storing (me_of (Some target.entry.object)) (text_of S name)) [] [] at) ∷ k) sc d n) self.old.base depth self.old.left self.new.left room.old room.new (O.log self.old.store) (O.log self.new.store) (O.private self.old.store) (O.private self.new.store) (outcome result self.new.value self.new.leave) }
+    {
+        let came = self.evaluate(value, depth, room);
+        if is_left(came) {
+            return came;
+        }
+        if let Some(done) = self.entered_writing(target, came, depth) {
+            if is_left(done) {
+                return done;
+            }
+            return came;
+        }
+        if self.base >= room.len() {
+            return self.over(Cut::Memory);
+        }
+        self.move_to(self.base, came, room);
+        self.store_with(target, 1, at, depth, room)
     }
 
     /// An assignment by a method that was found, with arguments of which there are so many behind the frame. Its value is the last of them.

@@ -1,13 +1,14 @@
 // Methods of the script: which one a call finds, and how it is entered.
 
-ghost use Rattle.std.specs.Prelude.{◌≡◌, ◌≤◌, ◌<◌, ◌*◌, ℕ, false, List, [], length, map, slice_get, IfSome, None};
-ghost use Rattle.rb_model.specs.Values.{plain};
+ghost use Rattle.std.specs.Prelude.{◌≡◌, ◌≤◌, ◌<◌, ◌*◌, ℕ, false, List, [], ◌∷◌, length, map, slice_get, IfSome, None};
+ghost use Rattle.rb_model.specs.Values.{Int, plain};
+ghost use Rattle.rb_model.specs.declared.value.Value.{Value as Held};
 ghost use Rattle.rb_model.specs.Log.{has_end};
 ghost use Rattle.rb_model.specs.Acts.{SetField};
 ghost use Rattle.rb_machine.specs.Control.{On, Passing, ByName};
 ghost use Rattle.rb_code.specs.Erase.{erase};
 ghost use Rattle.rb_code.specs.Resolved.{fits, every, method_fits};
-ghost use Rattle.rb_walk.specs.Outcome.{value_of, outcome};
+ghost use Rattle.rb_walk.specs.Outcome.{Gave, is_left, value_of, outcome};
 ghost use Rattle.rb_walk.specs.Carries.{Carries, Keeps, Unread, unnamed, me_of};
 ghost use Rattle.rb_walk.specs.Methods.{IsTarget, HasNone, Enters, EntersWith, Invokes};
 ghost use Rattle.rb_walk.specs.Objects.{Asks};
@@ -22,7 +23,7 @@ use rb_walk::MAX_DEPTH;
 use rb_walk::came::{Came, Cut, is_left};
 use rb_walk::slots::{clear, only_integer, passed};
 use rb_walk::target::{
-    Assignment, Target, assigned_by, only_assigns, read_by, target_of, written_by,
+    Assignment, Target, added_by, assigned_by, only_assigns, read_by, target_of, written_by,
 };
 
 impl<'p, O: ThreadStore + Drop> Walker<'p, O> {
@@ -140,14 +141,69 @@ impl<'p, O: ThreadStore + Drop> Walker<'p, O> {
         ensures log { O.log self.new.store ≡ O.log self.old.store }
         ensures came { IfSome result (λ came. EntersAtOnce self.old.context.steps (me_of (Some target.entry.object)) target.entry.method.now (map plain args.now) depth self.old.left self.new.left (O.log self.old.store) (O.log self.new.store) (O.private self.old.store) (O.private self.new.store) (outcome came self.new.value self.new.leave)) }
     {
+        let n = only_integer(args)?;
+        let came = self.entered_writing(target, Came::Int(n), depth)?;
+        Some(came)
+    }
+
+    /// What comes of a method that was found, where it is entered with what came, this is an integer and it is only given to an instance
+    /// variable. Else nothing is done.
+    #[inline(always)]
+    pub(super) fn entered_writing(
+        &mut self,
+        target: Target<'p>,
+        came: Came,
+        depth: u32,
+    ) -> Option<Came>
+        requires unended { has_end (O.log self.old.store).entries ≡ false }
+        ensures none { result ≡ None → self.new ≡ self.old }
+        ensures base { self.new.base ≡ self.old.base }
+        ensures context { self.new.context ≡ self.old.context }
+        ensures less { self.new.left ≤ self.old.left }
+        ensures log { O.log self.new.store ≡ O.log self.old.store }
+        ensures integer { IfSome result (λ _. (v w : Held) → value_of came v ≡ value_of came w) }
+        ensures came { IfSome result (λ done. (v : Held) → EntersAtOnce self.old.context.steps (me_of (Some target.entry.object)) target.entry.method.now (value_of came v ∷ []) depth self.old.left self.new.left (O.log self.old.store) (O.log self.new.store) (O.private self.old.store) (O.private self.new.store) (outcome done self.new.value self.new.leave)) }
+    {
+        let Came::Int(n) = came else {
+            return None;
+        };
         if self.left < 2 || depth >= MAX_DEPTH - 1 {
             return None;
         }
-        let n = only_integer(args)?;
         let (field, at) = written_by(target.method)?;
         self.left -= 2;
-        let came = self.write_integer(target.object, field, n, at);
-        Some(self.out_of_call(came))
+        let done = self.write_integer(target.object, field, n, at);
+        Some(self.out_of_call(done))
+    }
+
+    /// The sum that comes of a method that was found, where it is entered with what came, this is an integer and it is only added to an
+    /// instance variable, which holds integers alone. Else nothing is done.
+    #[inline(always)]
+    pub(super) fn entered_adding(
+        &mut self,
+        target: Target<'p>,
+        came: Came,
+        depth: u32,
+    ) -> Option<i64>
+        ensures still { result ≡ None → self.new.left ≡ self.old.left }
+        ensures kept { result ≡ None → O.private self.new.store ≡ O.private self.old.store }
+        ensures value { self.new.value ≡ self.old.value }
+        ensures base { self.new.base ≡ self.old.base }
+        ensures context { self.new.context ≡ self.old.context }
+        ensures less { self.new.left ≤ self.old.left }
+        ensures log { O.log self.new.store ≡ O.log self.old.store }
+        ensures came { IfSome result (λ sum. (v : Held) → EntersAtOnce self.old.context.steps (me_of (Some target.entry.object)) target.entry.method.now (value_of came v ∷ []) depth self.old.left self.new.left (O.log self.old.store) (O.log self.new.store) (O.private self.old.store) (O.private self.new.store) (Gave (Int sum))) }
+    {
+        let Came::Int(n) = came else {
+            return None;
+        };
+        if self.left < 2 || depth >= MAX_DEPTH - 1 {
+            return None;
+        }
+        let (field, _) = added_by(target.method)?;
+        let sum = self.store.add_to_field(target.object.id, field, n)?;
+        self.left -= 2;
+        Some(sum)
     }
 
     /// Enters a method that was found for an assignment, with arguments of which there are so many behind the frame. What only gives an

@@ -29,7 +29,9 @@ use Rattle.rb_walk.proofs.Calls.{calls, no_such, none_plain}
 use Rattle.rb_walk.proofs.Places.{operator_number, or_else_stays, or_else_goes, and_then_stays, and_then_goes, operates, reads, attribute_is, target_local, target_field, target_element, target_attribute}
 use mathlib.Core.Logic.{inl}
 use Rattle.rb_machine.specs.Call.{operator, last_value, enter, print, text_by, own_text, write}
-use Rattle.rb_walk.proofs.Arguments.{passing, passed, placed, joined, only_left, only_came, over_left}
+use Rattle.rb_walk.proofs.Arguments.{passing, passed, placed, placed_last, joined, only_left, only_came, over_left}
+use Rattle.rb_walk.proofs.Singles.{single}
+use Rattle.rb_walk.proofs.Fetching.{calls_fetched}
 use Rattle.rb_walk.proofs.Prints.{by_form, printing_is, by_text}
 use Rattle.std.specs.Option.{option_map, option_copied}
 use Rattle.rb_code.specs.Dispatch.{method_at}
@@ -1802,6 +1804,39 @@ begin_operate-returns-in-Some-clause-came g m c = λ S start k names size st e l
     rw (o.gives, o.left, o.store, sym (is.4 S.program (text_of S x.field-1) number))
     (calls_pair S _ start _ _ k _ names size c.args.depth c.args.self.now.left c.args.room.now x.field-1 first second x.at (Int is.0) (Int is.1) _ (none_plain S (Int is.0) (text_of S x.field-1) refl) fl fr len c.if-self-gt1.true c.if-depth-lt-MAX_DEPTH.true is.2 is.3 (inl refl) (rw (c.get-left.ensures, c.get-right.ensures) b))
 
+pub begin_operate-returns-then-is_read-clause-kept : goal.begin_operate-returns-then-is_read-clause-kept
+begin_operate-returns-then-is_read-clause-kept g m c = c.begin_read_operate.ensures.kept
+
+pub begin_operate-returns-then-is_read-clause-came : goal.begin_operate-returns-then-is_read-clause-came
+begin_operate-returns-then-is_read-clause-came g m c = c.begin_read_operate.ensures.came
+
+pub begin_read_operate-returns-in_default-clause-came : goal.begin_read_operate-returns-in_default-clause-came
+begin_read_operate-returns-in_default-clause-came g m c = λ S start k names size st e l a.
+    let o = c.over.ensures in
+    rw (o.gives, o.left, o.store) (_, a, begin_left S (out-Node (erase c.args.code.now)) k (scope_of (me_of c.args.self.now.context.me) names c.args.room.now) c.args.depth c.args.self.now.left)
+
+pub begin_read_operate-returns-in-Some-clause-came : goal.begin_read_operate-returns-in-Some-clause-came
+begin_read_operate-returns-in-Some-clause-came g m c = λ S start k names size st e l a.
+    let x = c.in-Operate in
+    let s = sym (ap (λ d. fits S d names size) x.is ∙ fits-operate S names size x.method x.field-1 x.left x.right x.at) ∙ l.fits in
+    let first = c.get-left.result.now in
+    let second = c.get-right.result.now in
+    let fl : fits S first names size ≡ true = rw c.get-left.ensures (fst _ _ (snd _ _ s)) in
+    let fr : fits S second names size ≡ true = rw c.get-right.ensures (snd _ _ (snd _ _ s)) in
+    let len : length names ≤ length c.args.room.now = omega (arith, l.within, l.below, l.room) in
+    let is = c.in-Some.ensures in
+    let o = c.answer.ensures in
+    let number = same_is (builtin_of (text_of S x.field-1)) x.method (fst _ _ s) in
+    let b = begins _ _ k _ _ _ (shows-operate c.args.code.now x.method x.field-1 x.left x.right x.at x.is) a in
+    rw (o.gives, o.left, o.store, c.steps_of.ensures.exact, c.steps_of-in-Some.ensures.exact, sym (is.4 S.program (text_of S x.field-1) number))
+    (calls_fetched S _ start c.args.self.now.context.script.now _ _ k _ names size c.args.depth c.args.self.now.left _ _ c.args.room.now x.field-1 first second x.at is.0 is.1 _ st fl fr len (rw c.steps_of.ensures.exact at c.steps_of.ensures.few) (omega (arith, c.if-self-gt6.true)) (omega (arith, c.if-depth.true)) is.2 is.3 (inl refl) (rw (c.get-left.ensures, c.get-right.ensures) b))
+
+pub begin_read_operate-returns-after-self-gt6-clause-kept : goal.begin_read_operate-returns-after-self-gt6-clause-kept
+begin_read_operate-returns-after-self-gt6-clause-kept g m c = c.begin_slow_operate.ensures.kept
+
+pub begin_read_operate-returns-after-self-gt6-clause-came : goal.begin_read_operate-returns-after-self-gt6-clause-came
+begin_read_operate-returns-after-self-gt6-clause-came g m c = c.begin_slow_operate.ensures.came
+
 pub begin_operate-returns-then-is_object_at-clause-kept : goal.begin_operate-returns-then-is_object_at-clause-kept
 begin_operate-returns-then-is_object_at-clause-kept g m c = c.begin_object_operate.ensures.kept
 
@@ -1906,6 +1941,25 @@ begin_read-returns-clause-kept g m c = c.read_attribute.ensures.kept
 
 pub begin_read-returns-clause-came : goal.begin_read-returns-clause-came
 begin_read-returns-clause-came g m c = c.read_attribute.ensures.came
+
+pub begin_far_send-returns-in_default-clause-came : goal.begin_far_send-returns-in_default-clause-came
+begin_far_send-returns-in_default-clause-came g m c = λ S start k names size st e l a.
+    let o = c.over.ensures in
+    rw (o.gives, o.left, o.store) (_, a, begin_left S (out-Node (erase c.args.code.now)) k (scope_of (me_of c.args.self.now.context.me) names c.args.room.now) c.args.depth c.args.self.now.left)
+
+pub begin_far_send-returns-in-Send-clause-kept : goal.begin_far_send-returns-in-Send-clause-kept
+begin_far_send-returns-in-Send-clause-kept g m c = λ S names size st e l i p q.
+    let x = c.in-Send in
+    let s = sym (ap (λ d. fits S d names size) x.is ∙ fits-send S names size x.method x.name x.receiver x.args x.at) ∙ l.fits in
+    let under = sub _ l (rw (c.get-receiver.ensures, c.as_slice-args.ensures) s) in
+    c.send.ensures.kept S names size st e under i p q
+
+pub begin_far_send-returns-in-Send-clause-came : goal.begin_far_send-returns-in-Send-clause-came
+begin_far_send-returns-in-Send-clause-came g m c = λ S start k names size st e l a.
+    let x = c.in-Send in
+    let s = sym (ap (λ d. fits S d names size) x.is ∙ fits-send S names size x.method x.name x.receiver x.args x.at) ∙ l.fits in
+    let under = sub _ l (rw (c.get-receiver.ensures, c.as_slice-args.ensures) s) in
+    c.send.ensures.came S start k names size st e under (rw (c.get-receiver.ensures, c.as_slice-args.ensures) (begins _ _ k _ _ _ (shows-send c.args.code.now x.method x.name x.receiver x.args x.at x.is) a))
 
 pub begin_slow_send-returns-in-Some-clause-came : goal.begin_slow_send-returns-in-Some-clause-came
 begin_slow_send-returns-in-Some-clause-came g m c = λ S start k names size st e l a.
@@ -2022,28 +2076,47 @@ operate_target-returns-then-is_left-clause-came g m c = λ S start k names size 
     let come = w.ensures.came S start (Then step ∷ k) names size st e l a in
     passes S _ start _ w.result w.new.self.value w.new.self.leave _ step k _ _ _ (sym c.is_left.ensures ∙ c.if-is_left.true) come
 
+pub operate_target-returns-in-Some-clause-kept : goal.operate_target-returns-in-Some-clause-kept
+operate_target-returns-in-Some-clause-kept g m c = λ S names size st e l i p q. c.evaluate-came.ensures.kept S names size st e l i p q
+
+pub operate_target-returns-in-Some-clause-came : goal.operate_target-returns-in-Some-clause-came
+operate_target-returns-in-Some-clause-came g m c = λ S start k names size st e l a.
+    let w = c.evaluate-came in
+    let to = me_of (Some c.args.target.object) in
+    let x = value_of w.result w.new.self.value in
+    let target = c.requires.target in
+    let come = w.ensures.came S start (Then (Argument (OnReceiver to (text_of S c.args.name) None) [] [] c.args.at) ∷ k) names size st e l a in
+    let g1 = given w.result w.new.self.value w.new.self.leave (sym c.is_left.ensures ∙ c.if-is_left.false) come in
+    let g2 = same (on _ (on _ g1 refl) refl) (by_receiver S to to (text_of S c.args.name) (erase_method c.args.target.method.now) (x ∷ []) c.args.at k _ _ _ (target.finds S st) refl) in
+    let z : to_z w64 (of_z w64 c.in-Some.sum) ≡ c.in-Some.sum = search rules in
+    let f = rw w.ensures.context at c.in-Some.ensures.came in
+    rw z (f w.new.self.value S start k (scope_of (me_of c.args.self.now.context.me) names w.new.room) c.args.at (target.right S st) g2)
+
 pub operate_target-returns-then-self-room-clause-kept : goal.operate_target-returns-then-self-room-clause-kept
 operate_target-returns-then-self-room-clause-kept g m c = λ S names size st e l i p q. c.evaluate-came.ensures.kept S names size st e l i p q
 
 pub operate_target-returns-then-self-room-clause-came : goal.operate_target-returns-then-self-room-clause-came
 operate_target-returns-then-self-room-clause-came g m c = λ S start k names size st e l a.
     let w = c.evaluate-came in
+    let y = c.entered_adding.ensures in
     let step = Argument (OnReceiver (me_of (Some c.args.target.object)) (text_of S c.args.name) None) [] [] c.args.at in
     let come = w.ensures.came S start (Then step ∷ k) names size st e l a in
     let g1 = given w.result w.new.self.value w.new.self.leave (sym c.is_left.ensures ∙ c.if-is_left.false) come in
     let o = c.over.ensures in
-    rw (o.gives, o.left, o.store) (_, g1, refl)
+    rw (o.gives, o.left, o.store, y.log, y.still c.in_default.is, y.kept c.in_default.is) (_, g1, refl)
 
 pub operate_target-returns-clause-kept : goal.operate_target-returns-clause-kept
 operate_target-returns-clause-kept g m c = λ S names size st e l i p q.
     let w = c.evaluate-came in
+    let y = c.entered_adding.ensures in
     let t = c.move_to.ensures in
-    c.enter.ensures.kept i (omega (arith, q, t.base, w.ensures.base))
-    ∙ (ap (λ r. slice_get r i) t.passed.2 ∙ (get_set w.new.room w.new.self.base i t.passed.0 (λ z. omega (arith, z, q, w.ensures.base)) ∙ w.ensures.kept S names size st e l i p q))
+    c.enter.ensures.kept i (omega (arith, q, t.base, y.base, w.ensures.base))
+    ∙ (ap (λ r. slice_get r i) t.passed.2 ∙ (get_set w.new.room c.entered_adding.new.self.base i t.passed.0 (λ z. omega (arith, z, q, y.base, w.ensures.base)) ∙ w.ensures.kept S names size st e l i p q))
 
 pub operate_target-returns-clause-came : goal.operate_target-returns-clause-came
 operate_target-returns-clause-came g m c = λ S start k names size st e l a.
     let w = c.evaluate-came in
+    let y = c.entered_adding.ensures in
     let t = c.move_to.ensures in
     let p = t.passed in
     let to = me_of (Some c.args.target.object) in
@@ -2053,12 +2126,101 @@ operate_target-returns-clause-came g m c = λ S start k names size st e l a.
     let come = w.ensures.came S start (Then (Argument (OnReceiver to (text_of S c.args.name) None) [] [] c.args.at) ∷ k) names size st e l a in
     let g1 = given w.result w.new.self.value w.new.self.leave (sym c.is_left.ensures ∙ c.if-is_left.false) come in
     let g2 = same (on _ (on _ g1 refl) refl) (by_receiver S to to (text_of S c.args.name) method (x ∷ []) c.args.at k _ _ _ (target.finds S st) refl) in
-    let entered = same g2 (ap (λ v. enter S method to (v ∷ []) c.args.at k (scope_of (me_of c.args.self.now.context.me) names w.new.room) c.args.depth w.new.self.left) (sym p.1)) in
+    let is : plain p.0 ≡ x = p.1 ∙ ap (value_of w.result) y.value in
+    let entered = same g2 (ap (λ v. enter S method to (v ∷ []) c.args.at k (scope_of (me_of c.args.self.now.context.me) names w.new.room) c.args.depth w.new.self.left) (sym is)) in
+    let base = c.entered_adding.new.self.base in
+    let below : length names ≤ base = omega (arith, l.within, l.below, y.base, w.ensures.base) in
+    let within : base < length w.new.room = omega (arith, c.if-self-room.false) in
+    let f = rw (t.context, t.left, t.store, t.base, y.context, y.log, y.still c.in_default.is, y.kept c.in_default.is, w.ensures.context, p.2) at c.enter.ensures.came in
+    f S start k names st e (target.right S st) below (omega (arith, within, len_set w.new.room base p.0)) (placed method to c.args.at k _ _ (me_of c.args.self.now.context.me) names base w.new.room p.0 below within entered)
+
+pub store_target-returns-then-is_left-clause-kept : goal.store_target-returns-then-is_left-clause-kept
+store_target-returns-then-is_left-clause-kept g m c = λ S names size st e l i p q. c.evaluate-came.ensures.kept S names size st e l i p q
+
+pub store_target-returns-then-is_left-clause-came : goal.store_target-returns-then-is_left-clause-came
+store_target-returns-then-is_left-clause-came g m c = λ S start k names size st e l a.
+    let w = c.evaluate-came in
+    let step = Argument (Storing (me_of (Some c.args.target.object)) (text_of S c.args.name)) [] [] c.args.at in
+    let come = w.ensures.came S start (Then step ∷ k) names size st e l a in
+    passes S _ start _ w.result w.new.self.value w.new.self.leave _ step k _ _ _ (sym c.is_left.ensures ∙ c.if-is_left.true) come
+
+pub store_target-returns-then-is_left-2-clause-kept : goal.store_target-returns-then-is_left-2-clause-kept
+store_target-returns-then-is_left-2-clause-kept g m c = λ S names size st e l i p q. c.evaluate-came.ensures.kept S names size st e l i p q
+
+pub store_target-returns-then-is_left-2-clause-came : goal.store_target-returns-then-is_left-2-clause-came
+store_target-returns-then-is_left-2-clause-came g m c = λ S start k names size st e l a.
+    let w = c.evaluate-came in
+    let to = me_of (Some c.args.target.object) in
+    let x = value_of w.result w.new.self.value in
+    let target = c.requires.target in
+    let come = w.ensures.came S start (Then (Argument (Storing to (text_of S c.args.name)) [] [] c.args.at) ∷ k) names size st e l a in
+    let g1 = given w.result w.new.self.value w.new.self.leave (sym c.is_left.ensures ∙ c.if-is_left.false) come in
+    let g2 = same (on _ (on _ g1 refl) refl) (by_receiver S to to (text_of S c.args.name) (erase_method c.args.target.method.now) (x ∷ []) c.args.at (Then (Instead x) ∷ k) _ _ _ (target.finds S st) refl) in
+    let y = c.entered_writing in
+    let f = rw w.ensures.context at c.in-Some.ensures.came in
+    let done = f w.new.self.value S start (Then (Instead x) ∷ k) (scope_of (me_of c.args.self.now.context.me) names w.new.room) c.args.at (target.right S st) g2 in
+    passes S _ start _ c.in-Some.done y.new.self.value y.new.self.leave _ (Instead x) k _ _ _ (sym c.is_left-in-Some.ensures ∙ c.if-is_left-2.true) done
+
+pub store_target-returns-in-Some-clause-kept : goal.store_target-returns-in-Some-clause-kept
+store_target-returns-in-Some-clause-kept g m c = λ S names size st e l i p q. c.evaluate-came.ensures.kept S names size st e l i p q
+
+pub store_target-returns-in-Some-clause-came : goal.store_target-returns-in-Some-clause-came
+store_target-returns-in-Some-clause-came g m c = λ S start k names size st e l a.
+    let w = c.evaluate-came in
+    let to = me_of (Some c.args.target.object) in
+    let x = value_of w.result w.new.self.value in
+    let target = c.requires.target in
+    let come = w.ensures.came S start (Then (Argument (Storing to (text_of S c.args.name)) [] [] c.args.at) ∷ k) names size st e l a in
+    let none = sym c.is_left.ensures ∙ c.if-is_left.false in
+    let g1 = given w.result w.new.self.value w.new.self.leave none come in
+    let g2 = same (on _ (on _ g1 refl) refl) (by_receiver S to to (text_of S c.args.name) (erase_method c.args.target.method.now) (x ∷ []) c.args.at (Then (Instead x) ∷ k) _ _ _ (target.finds S st) refl) in
+    let y = c.entered_writing in
+    let f = rw w.ensures.context at c.in-Some.ensures.came in
+    let done = f w.new.self.value S start (Then (Instead x) ∷ k) (scope_of (me_of c.args.self.now.context.me) names w.new.room) c.args.at (target.right S st) g2 in
+    let g3 = given c.in-Some.done y.new.self.value y.new.self.leave (sym c.is_left-in-Some.ensures ∙ c.if-is_left-2.false) done in
+    comes S _ start _ _ k _ _ _ _ _ (gave w.result y.new.self.value y.new.self.leave none ∙ ap Gave (c.in-Some.ensures.integer y.new.self.value w.new.self.value)) (on _ g3 refl)
+
+pub store_target-returns-then-self-room-clause-kept : goal.store_target-returns-then-self-room-clause-kept
+store_target-returns-then-self-room-clause-kept g m c = λ S names size st e l i p q. c.evaluate-came.ensures.kept S names size st e l i p q
+
+pub store_target-returns-then-self-room-clause-came : goal.store_target-returns-then-self-room-clause-came
+store_target-returns-then-self-room-clause-came g m c = λ S start k names size st e l a.
+    let w = c.evaluate-came in
+    let step = Argument (Storing (me_of (Some c.args.target.object)) (text_of S c.args.name)) [] [] c.args.at in
+    let come = w.ensures.came S start (Then step ∷ k) names size st e l a in
+    let g1 = given w.result w.new.self.value w.new.self.leave (sym c.is_left.ensures ∙ c.if-is_left.false) come in
+    let o = c.over.ensures in
+    rw (o.gives, o.left, o.store, c.entered_writing.ensures.none c.in_default.is) (_, g1, refl)
+
+pub store_target-returns-clause-kept : goal.store_target-returns-clause-kept
+store_target-returns-clause-kept g m c = λ S names size st e l i p q.
+    let w = c.evaluate-came in
+    let y = c.entered_writing.ensures in
+    let t = c.move_to.ensures in
+    c.store_with.ensures.kept i (omega (arith, q, t.base, y.base, w.ensures.base))
+    ∙ (ap (λ r. slice_get r i) t.passed.2 ∙ (get_set w.new.room c.entered_writing.new.self.base i t.passed.0 (λ z. omega (arith, z, q, y.base, w.ensures.base)) ∙ w.ensures.kept S names size st e l i p q))
+
+pub store_target-returns-clause-came : goal.store_target-returns-clause-came
+store_target-returns-clause-came g m c = λ S start k names size st e l a.
+    let w = c.evaluate-came in
+    let n = c.entered_writing.ensures.none c.in_default.is in
+    let t = c.move_to.ensures in
+    let p = t.passed in
+    let held = rw n at p.1 in
+    let written = rw n at p.2 in
+    let to = me_of (Some c.args.target.object) in
+    let method = erase_method c.args.target.method.now in
+    let x = value_of w.result w.new.self.value in
+    let target = c.requires.target in
+    let come = w.ensures.came S start (Then (Argument (Storing to (text_of S c.args.name)) [] [] c.args.at) ∷ k) names size st e l a in
+    let g1 = given w.result w.new.self.value w.new.self.leave (sym c.is_left.ensures ∙ c.if-is_left.false) come in
+    let g2 = same (on _ (on _ g1 refl) refl) (by_receiver S to to (text_of S c.args.name) method (x ∷ []) c.args.at (Then (Instead x) ∷ k) _ _ _ (target.finds S st) refl) in
+    let entered = same g2 (ap (λ v. enter S method to (v ∷ []) c.args.at (Then (Instead v) ∷ k) (scope_of (me_of c.args.self.now.context.me) names w.new.room) c.args.depth w.new.self.left) (sym held)) in
     let base = w.new.self.base in
     let below : length names ≤ base = omega (arith, l.within, l.below, w.ensures.base) in
-    let within : base < length w.new.room = omega (arith, c.if-self-room.false) in
-    let f = rw (t.context, t.left, t.store, t.base, w.ensures.context, p.2) at c.enter.ensures.came in
-    f S start k names st e (target.right S st) below (omega (arith, within, len_set w.new.room base p.0)) (placed method to c.args.at k _ _ (me_of c.args.self.now.context.me) names base w.new.room p.0 below within entered)
+    let within : base < length w.new.room = omega (arith, c.if-self-room.false, c.entered_writing.ensures.base) in
+    let f = rw (t.context, t.left, t.store, t.base, n, w.ensures.context, written) at c.store_with.ensures.came in
+    f S start k names st e (target.right S st) below (omega (arith, within, len_set w.new.room base p.0)) (placed_last method to c.args.at k _ _ (me_of c.args.self.now.context.me) names base w.new.room p.0 below within entered)
 
 pub operate_value-returns-then-is_left-clause-kept : goal.operate_value-returns-then-is_left-clause-kept
 operate_value-returns-then-is_left-clause-kept g m c = λ S names size st e l i p q.
@@ -2305,6 +2467,13 @@ evaluate_call-returns-in-Some-quick_twice-clause-came g m c = λ S start k names
     rw (o.gives, o.left, o.store, sym (is.4 S.program (text_of S x.field-1) number), fifth)
     (left S _ start _ _ _ k _ _ _ _ (calls_twice S _ start _ _ inside _ names size (c.args.depth + 1) (c.args.self.now.left - 1) c.args.room.now x.field-1 first second x.at is.0 (Int is.1) _ fl fr len (omega (arith, c.if-self-gt6.true)) (omega (arith, c.if-depth.true)) is.2 is.3 (inl refl) (rw (c.get-left.ensures, c.get-right.ensures) b)))
 
+pub evaluate_call-returns-then-is_read-clause-kept : goal.evaluate_call-returns-then-is_read-clause-kept
+evaluate_call-returns-then-is_read-clause-kept g m c = c.begin_read_operate.ensures.kept
+
+pub evaluate_call-returns-then-is_read-clause-came : goal.evaluate_call-returns-then-is_read-clause-came
+evaluate_call-returns-then-is_read-clause-came g m c = λ S start k names size st e l a.
+    left S _ start _ _ _ k _ _ _ _ (c.begin_read_operate.ensures.came S start (Under c.args.depth ∷ k) names size st e l (counts (omega (arith, c.if-self-gt6.true)) (omega (arith, c.if-depth.true)) a))
+
 pub evaluate_call-returns-then-depth-clause-kept : goal.evaluate_call-returns-then-depth-clause-kept
 evaluate_call-returns-then-depth-clause-kept g m c = c.begin_slow_operate.ensures.kept
 
@@ -2331,12 +2500,19 @@ evaluate_call-returns-else-self-gt0-clause-kept g m c = c.walk-in-Function.ensur
 pub evaluate_call-returns-else-self-gt0-clause-came : goal.evaluate_call-returns-else-self-gt0-clause-came
 evaluate_call-returns-else-self-gt0-clause-came g m c = c.walk-in-Function.ensures.came
 
+pub evaluate_call-returns-then-is_leaf-clause-kept : goal.evaluate_call-returns-then-is_leaf-clause-kept
+evaluate_call-returns-then-is_leaf-clause-kept g m c = c.begin_read.ensures.kept
+
+pub evaluate_call-returns-then-is_leaf-clause-came : goal.evaluate_call-returns-then-is_leaf-clause-came
+evaluate_call-returns-then-is_leaf-clause-came g m c = λ S start k names size st e l a.
+    left S _ start _ _ _ k _ _ _ _ (c.begin_read.ensures.came S start (Under c.args.depth ∷ k) names size st e l (counts c.if-self-gt0-2.true c.if-depth-lt-MAX_DEPTH-2.true a))
+
 pub evaluate_call-returns-then-depth-lt-MAX_DEPTH-2-clause-kept : goal.evaluate_call-returns-then-depth-lt-MAX_DEPTH-2-clause-kept
-evaluate_call-returns-then-depth-lt-MAX_DEPTH-2-clause-kept g m c = c.begin_read.ensures.kept
+evaluate_call-returns-then-depth-lt-MAX_DEPTH-2-clause-kept g m c = c.begin_far_send.ensures.kept
 
 pub evaluate_call-returns-then-depth-lt-MAX_DEPTH-2-clause-came : goal.evaluate_call-returns-then-depth-lt-MAX_DEPTH-2-clause-came
 evaluate_call-returns-then-depth-lt-MAX_DEPTH-2-clause-came g m c = λ S start k names size st e l a.
-    left S _ start _ _ _ k _ _ _ _ (c.begin_read.ensures.came S start (Under c.args.depth ∷ k) names size st e l (counts c.if-self-gt0-2.true c.if-depth-lt-MAX_DEPTH-2.true a))
+    left S _ start _ _ _ k _ _ _ _ (c.begin_far_send.ensures.came S start (Under c.args.depth ∷ k) names size st e l (counts c.if-self-gt0-2.true c.if-depth-lt-MAX_DEPTH-2.true a))
 
 pub evaluate_call-returns-else-self-gt0-2-clause-kept : goal.evaluate_call-returns-else-self-gt0-2-clause-kept
 evaluate_call-returns-else-self-gt0-2-clause-kept g m c = c.walk-in-Send.ensures.kept
@@ -2770,45 +2946,76 @@ write_member-returns-in_default-clause-came g m c = λ name S start k names st e
     let o = c.raise.ensures in
     rw (o.gives, o.left, o.store) (same a (no_such S receiver (text_of S name ++ codes "=") (v ∷ []) None c.args.at (Then (Instead v) ∷ k) _ _ _ (writer_none script S st receiver c.args.writer name writes (c.writer_of.ensures.none c.in_default.is)) free))
 
-pub write_member-returns-then-is_left-clause-kept : goal.write_member-returns-then-is_left-clause-kept
-write_member-returns-then-is_left-clause-kept g m c = λ i q. c.enter_storing_with-came.ensures.kept i (omega (arith, q, c.take-value.ensures.base))
-
 pub write_member-returns-then-is_left-clause-came : goal.write_member-returns-then-is_left-clause-came
 write_member-returns-then-is_left-clause-came g m c = λ name S start k names st e writes free le bound_ a.
     let script = c.args.self.now.context.script.now in
     let v = value_of c.args.came c.args.self.now.value in
     let receiver = plain c.args.receiver.now in
+    let y = c.entered_writing in
+    let meth = c.in-Some.target.method.now in
+    let to = me_of (Some c.in-Some.target.object) in
+    let is = c.in-Some.ensures.some in
+    let entered = same a (by_receiver S receiver to (text_of S name ++ codes "=") (erase_method meth) (v ∷ []) c.args.at (Then (Instead v) ∷ k) _ _ _ (writer_some script S st receiver c.args.writer name c.in-Some.target.object meth writes is) (writer_me script receiver c.args.writer c.in-Some.target.object meth is)) in
+    let come = c.in-Some-entered_writing.ensures.came c.args.self.now.value S start (Then (Instead v) ∷ k) (scope_of (me_of c.args.self.now.context.me) names c.args.room.now) c.args.at (writer_right script S st receiver c.args.writer c.in-Some.target.object meth is) entered in
+    passes S _ start _ c.in-Some-entered_writing.done y.new.self.value y.new.self.leave _ (Instead v) k _ _ _ (sym c.is_left.ensures ∙ c.if-is_left.true) come
+
+pub write_member-returns-in-Some-entered_writing-clause-came : goal.write_member-returns-in-Some-entered_writing-clause-came
+write_member-returns-in-Some-entered_writing-clause-came g m c = λ name S start k names st e writes free le bound_ a.
+    let script = c.args.self.now.context.script.now in
+    let v = value_of c.args.came c.args.self.now.value in
+    let receiver = plain c.args.receiver.now in
+    let y = c.entered_writing in
+    let meth = c.in-Some.target.method.now in
+    let to = me_of (Some c.in-Some.target.object) in
+    let is = c.in-Some.ensures.some in
+    let entered = same a (by_receiver S receiver to (text_of S name ++ codes "=") (erase_method meth) (v ∷ []) c.args.at (Then (Instead v) ∷ k) _ _ _ (writer_some script S st receiver c.args.writer name c.in-Some.target.object meth writes is) (writer_me script receiver c.args.writer c.in-Some.target.object meth is)) in
+    let come = c.in-Some-entered_writing.ensures.came c.args.self.now.value S start (Then (Instead v) ∷ k) (scope_of (me_of c.args.self.now.context.me) names c.args.room.now) c.args.at (writer_right script S st receiver c.args.writer c.in-Some.target.object meth is) entered in
+    let g1 = given c.in-Some-entered_writing.done y.new.self.value y.new.self.leave (sym c.is_left.ensures ∙ c.if-is_left.false) come in
+    comes S _ start _ _ k _ _ _ _ _ (gave c.args.came y.new.self.value y.new.self.leave c.requires.came ∙ ap Gave (c.in-Some-entered_writing.ensures.integer y.new.self.value c.args.self.now.value)) (on _ g1 refl)
+
+pub write_member-returns-then-is_left-2-clause-kept : goal.write_member-returns-then-is_left-2-clause-kept
+write_member-returns-then-is_left-2-clause-kept g m c = λ i q. c.enter_storing_with-came.ensures.kept i (omega (arith, q, c.take-value.ensures.base, c.entered_writing.ensures.base))
+
+pub write_member-returns-then-is_left-2-clause-came : goal.write_member-returns-then-is_left-2-clause-came
+write_member-returns-then-is_left-2-clause-came g m c = λ name S start k names st e writes free le bound_ a.
+    let script = c.args.self.now.context.script.now in
+    let v = value_of c.args.came c.args.self.now.value in
+    let receiver = plain c.args.receiver.now in
+    let n = c.entered_writing.ensures.none c.in_default-entered_writing.is in
     let t = c.take-value in
+    let taken = rw n at t.ensures.value in
     let y = c.enter_storing_with-came in
     let meth = c.in-Some.target.method.now in
     let to = me_of (Some c.in-Some.target.object) in
     let is = c.in-Some.ensures.some in
     let entered = same a (by_receiver S receiver to (text_of S name ++ codes "=") (erase_method meth) (v ∷ []) c.args.at (Then (Instead v) ∷ k) _ _ _ (writer_some script S st receiver c.args.writer name c.in-Some.target.object meth writes is) (writer_me script receiver c.args.writer c.in-Some.target.object meth is)) in
-    let same_value : plain c.in-Ok.copy ≡ v = c.in-Ok.ensures.value ∙ t.ensures.value in
-    let f = rw (t.ensures.context, t.ensures.left, t.ensures.store, same_value) at y.ensures.came in
-    let come = f S start (Then (Instead v) ∷ k) names st e (writer_right script S st receiver c.args.writer c.in-Some.target.object meth is) (omega (arith, le, t.ensures.base)) (omega (arith, bound_, t.ensures.base)) entered in
-    passes S _ start _ y.result y.new.self.value y.new.self.leave _ (Instead v) k _ _ _ (sym c.is_left.ensures ∙ c.if-is_left.true) come
+    let same_value : plain c.in-Ok.copy ≡ v = c.in-Ok.ensures.value ∙ taken in
+    let f = rw (t.ensures.context, t.ensures.left, t.ensures.store, n, same_value) at y.ensures.came in
+    let come = f S start (Then (Instead v) ∷ k) names st e (writer_right script S st receiver c.args.writer c.in-Some.target.object meth is) (omega (arith, le, t.ensures.base, c.entered_writing.ensures.base)) (omega (arith, bound_, t.ensures.base, c.entered_writing.ensures.base)) entered in
+    passes S _ start _ y.result y.new.self.value y.new.self.leave _ (Instead v) k _ _ _ (sym c.is_left-2.ensures ∙ c.if-is_left-2.true) come
 
 pub write_member-returns-clause-kept : goal.write_member-returns-clause-kept
-write_member-returns-clause-kept g m c = λ i q. c.enter_storing_with-came.ensures.kept i (omega (arith, q, c.take-value.ensures.base))
+write_member-returns-clause-kept g m c = λ i q. c.enter_storing_with-came.ensures.kept i (omega (arith, q, c.take-value.ensures.base, c.entered_writing.ensures.base))
 
 pub write_member-returns-clause-came : goal.write_member-returns-clause-came
 write_member-returns-clause-came g m c = λ name S start k names st e writes free le bound_ a.
     let script = c.args.self.now.context.script.now in
     let v = value_of c.args.came c.args.self.now.value in
     let receiver = plain c.args.receiver.now in
+    let n = c.entered_writing.ensures.none c.in_default-entered_writing.is in
     let t = c.take-value in
+    let taken = rw n at t.ensures.value in
     let y = c.enter_storing_with-came in
     let meth = c.in-Some.target.method.now in
     let to = me_of (Some c.in-Some.target.object) in
     let is = c.in-Some.ensures.some in
     let entered = same a (by_receiver S receiver to (text_of S name ++ codes "=") (erase_method meth) (v ∷ []) c.args.at (Then (Instead v) ∷ k) _ _ _ (writer_some script S st receiver c.args.writer name c.in-Some.target.object meth writes is) (writer_me script receiver c.args.writer c.in-Some.target.object meth is)) in
-    let same_value : plain c.in-Ok.copy ≡ v = c.in-Ok.ensures.value ∙ t.ensures.value in
-    let f = rw (t.ensures.context, t.ensures.left, t.ensures.store, same_value) at y.ensures.came in
-    let come = f S start (Then (Instead v) ∷ k) names st e (writer_right script S st receiver c.args.writer c.in-Some.target.object meth is) (omega (arith, le, t.ensures.base)) (omega (arith, bound_, t.ensures.base)) entered in
-    let g1 = given y.result y.new.self.value y.new.self.leave (sym c.is_left.ensures ∙ c.if-is_left.false) come in
+    let same_value : plain c.in-Ok.copy ≡ v = c.in-Ok.ensures.value ∙ taken in
+    let f = rw (t.ensures.context, t.ensures.left, t.ensures.store, n, same_value) at y.ensures.came in
+    let come = f S start (Then (Instead v) ∷ k) names st e (writer_right script S st receiver c.args.writer c.in-Some.target.object meth is) (omega (arith, le, t.ensures.base, c.entered_writing.ensures.base)) (omega (arith, bound_, t.ensures.base, c.entered_writing.ensures.base)) entered in
+    let g1 = given y.result y.new.self.value y.new.self.leave (sym c.is_left-2.ensures ∙ c.if-is_left-2.false) come in
     let o = c.give.ensures in
-    rw (o.gives, o.left, o.store, t.ensures.value) (on _ g1 refl)
+    rw (o.gives, o.left, o.store, taken) (on _ g1 refl)
 
 pub set_member-returns-then-is_left-clause-came : goal.set_member-returns-then-is_left-clause-came
 set_member-returns-then-is_left-clause-came g m c = λ name S start k names size st e l a.
@@ -3374,8 +3581,9 @@ write_member-returns-in_default-share-clause-came g m c = λ name S start k name
     let is = c.in-Some.ensures.some in
     let entered = same a (by_receiver S receiver to (text_of S name ++ codes "=") (erase_method meth) (v ∷ []) c.args.at (Then (Instead v) ∷ k) _ _ _ (writer_some script S st receiver c.args.writer name c.in-Some.target.object meth writes is) (writer_me script receiver c.args.writer c.in-Some.target.object meth is)) in
     let o = c.over.ensures in
+    let n = c.entered_writing.ensures.none c.in_default-entered_writing.is in
     let t = c.take-value.ensures in
-    rw (o.left, o.store, t.left, t.store) (cut S _ start _ _ _ k _ _ _ _ o.gives entered (enter_left S (erase_method meth) to (v ∷ []) c.args.at (Then (Instead v) ∷ k) _ _ _))
+    rw (o.left, o.store, t.left, t.store, n) (cut S _ start _ _ _ k _ _ _ _ o.gives entered (enter_left S (erase_method meth) to (v ∷ []) c.args.at (Then (Instead v) ∷ k) _ _ _))
 
 pub send_block-returns-in-Some-clause-kept : goal.send_block-returns-in-Some-clause-kept
 send_block-returns-in-Some-clause-kept g m c = λ S names size st e l i p q.
@@ -4888,14 +5096,39 @@ pub begin_store-returns-in-Some-clause-kept : goal.begin_store-returns-in-Some-c
 begin_store-returns-in-Some-clause-kept g m c = λ S names size st e l i p q.
     let x = c.in-Store in
     let s = sym (ap (λ d. fits S d names size) x.is ∙ fits-store S names size x.method x.receiver x.name x.args x.at) ∙ l.fits in
+    let args = single _ _ _ c.as_slice-args.ensures c.in-len1.len_at_least c.in-len1.len_below c.only-item.is in
+    let all : every (map (fits S) x.args) names size ≡ true = snd _ _ (snd _ _ s) in
+    let fit : fits S c.only-item.result names size ≡ true = fst _ _ (rw args at all) in
+    c.store_target.ensures.kept S names size st e (sub _ l fit) i p q
+
+pub begin_store-returns-in-Some-clause-came : goal.begin_store-returns-in-Some-clause-came
+begin_store-returns-in-Some-clause-came g m c = λ S start k names size st e l a.
+    let x = c.in-Store in
+    let first = c.only-item.result in
+    let s = sym (ap (λ d. fits S d names size) x.is ∙ fits-store S names size x.method x.receiver x.name x.args x.at) ∙ l.fits in
+    let fl : fits S c.get-receiver.result.now names size ≡ true = rw c.get-receiver.ensures (fst _ _ (snd _ _ s)) in
+    let args = single _ _ _ c.as_slice-args.ensures c.in-len1.len_at_least c.in-len1.len_below c.only-item.is in
+    let all : every (map (fits S) x.args) names size ≡ true = snd _ _ (snd _ _ s) in
+    let fit : fits S first names size ≡ true = fst _ _ (rw args at all) in
+    let len : length names ≤ length c.args.room.now = omega (arith, l.within, l.below, l.room) in
+    let sc = scope_of (me_of c.args.self.now.context.me) names c.args.room.now in
+    let b = same (begins _ _ k _ _ _ (shows-store c.args.code.now x.method x.receiver x.name x.args x.at x.is) a) (ap (λ args. On (Eval (erase x.receiver)) (Then (ReceiverToStore (text_of S x.name) (map erase args) x.at) ∷ k) sc c.args.depth c.args.self.now.left) args) in
+    let waits = Then (ReceiverToStore (text_of S x.name) (erase first ∷ []) x.at) ∷ k in
+    let e1 = c.in-Some.ensures.held S _ names size c.args.depth c.args.self.now.left start _ _ waits (me_of c.args.self.now.context.me) fl len c.if-self-gt0.true c.if-depth-lt-MAX_DEPTH.true (rw c.get-receiver.ensures b) in
+    c.store_target.ensures.came S start k names size st e (sub _ l fit) (on _ (on _ e1 refl) refl)
+
+pub begin_store-returns-in-Some-local_collection-clause-kept : goal.begin_store-returns-in-Some-local_collection-clause-kept
+begin_store-returns-in-Some-local_collection-clause-kept g m c = λ S names size st e l i p q.
+    let x = c.in-Store in
+    let s = sym (ap (λ d. fits S d names size) x.is ∙ fits-store S names size x.method x.receiver x.name x.args x.at) ∙ l.fits in
     let args = two_items _ _ c.index-item.result c.value-item.result c.as_slice-args.ensures c.in-len2.len_at_least c.in-len2.len_below c.index-item.is c.value-item.is in
     let all : every (map (fits S) x.args) names size ≡ true = snd _ _ (snd _ _ s) in
     let both_fit = args_fit S c.index-item.result c.value-item.result names size (rw args at all) in
     let right = two _ _ (fst _ _ s) both_fit in
     c.store_element.ensures.kept S names size st e (sub _ l right) i p q
 
-pub begin_store-returns-in-Some-clause-came : goal.begin_store-returns-in-Some-clause-came
-begin_store-returns-in-Some-clause-came g m c = λ S start k names size st e l a.
+pub begin_store-returns-in-Some-local_collection-clause-came : goal.begin_store-returns-in-Some-local_collection-clause-came
+begin_store-returns-in-Some-local_collection-clause-came g m c = λ S start k names size st e l a.
     let x = c.in-Store in
     let first = c.index-item.result in
     let second = c.value-item.result in
@@ -4909,7 +5142,7 @@ begin_store-returns-in-Some-clause-came g m c = λ S start k names size st e l a
     let sc = scope_of (me_of c.args.self.now.context.me) names c.args.room.now in
     let b = same (begins _ _ k _ _ _ (shows-store c.args.code.now x.method x.receiver x.name x.args x.at x.is) a) (ap (λ args. On (Eval (erase x.receiver)) (Then (ReceiverToStore (text_of S x.name) (map erase args) x.at) ∷ k) sc c.args.depth c.args.self.now.left) args) in
     let waits = Then (ReceiverToStore (text_of S x.name) (erase first ∷ erase second ∷ []) x.at) ∷ k in
-    let e1 = c.in-Some.ensures.held S _ names size c.args.depth c.args.self.now.left start _ _ waits (me_of c.args.self.now.context.me) fl len c.if-self-gt0.true c.if-depth-lt-MAX_DEPTH.true (rw c.get-receiver.ensures b) in
+    let e1 = c.in-Some-local_collection.ensures.held S _ names size c.args.depth c.args.self.now.left start _ _ waits (me_of c.args.self.now.context.me) fl len c.if-self-gt0.true c.if-depth-lt-MAX_DEPTH.true (rw c.get-receiver.ensures b) in
     c.store_element.ensures.came S start k names size st e (sub _ l right) (on _ (on _ e1 refl) refl)
 
 pub store_element-returns-then-is_left-clause-kept : goal.store_element-returns-then-is_left-clause-kept

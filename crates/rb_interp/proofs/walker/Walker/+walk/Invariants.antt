@@ -446,6 +446,15 @@ decreases-begin_logic g l = 24 * (1001 - l.depth) + 6
 abbrev pub decreases-begin_object_operate : goal.decreases-begin_object_operate
 decreases-begin_object_operate g l = 24 * (1001 - l.depth) + 13
 
+abbrev pub decreases-begin_read_operate : goal.decreases-begin_read_operate
+decreases-begin_read_operate g l = 24 * (1001 - l.depth) + 13
+
+abbrev pub decreases-begin_far_send : goal.decreases-begin_far_send
+decreases-begin_far_send g l = 24 * (1001 - l.depth) + 8
+
+abbrev pub decreases-store_target : goal.decreases-store_target
+decreases-store_target g l = 24 * (1001 - l.depth) + 8
+
 abbrev pub decreases-begin_slow_send : goal.decreases-begin_slow_send
 decreases-begin_slow_send g l = 24 * (1001 - l.depth) + 8
 
