@@ -8,7 +8,7 @@ ghost use Rattle.rb_model.specs.Acts.{SetField};
 ghost use Rattle.rb_machine.specs.Control.{On, Passing, ByName};
 ghost use Rattle.rb_code.specs.Erase.{erase};
 ghost use Rattle.rb_code.specs.Resolved.{fits, every, method_fits};
-ghost use Rattle.rb_walk.specs.Outcome.{Gave, is_left, value_of, outcome};
+ghost use Rattle.rb_walk.specs.Outcome.{Gave, value_of, outcome};
 ghost use Rattle.rb_walk.specs.Carries.{Carries, Keeps, Unread, unnamed, me_of};
 ghost use Rattle.rb_walk.specs.Methods.{IsTarget, HasNone, Enters, EntersWith, Invokes};
 ghost use Rattle.rb_walk.specs.Objects.{Asks};
