@@ -1,6 +1,7 @@
 -- How outcomes go on behind what waits.
 use Rattle.std.proofs.Common.{◌≡◌, ℕ, suc, ◌-◌, ◌<◌, Bool, true, false, cond, List, [], ◌∷◌, ◌++◌, length, refl, sym, ap, ◌∙◌, subst, arith}
 use Rattle.std.specs.Prelude.{ℤ, pos, ◌+ℤ◌, int_lt, take}
+use mathlib.Core.Logic.{inl, inr}
 use Rattle.rb_tree.specs.declared.node.Node.{Node}
 use Rattle.rb_tree.specs.declared.node.Block.{Block}
 use Rattle.rb_model.specs.Values.{Value as Val, Nil, Int}
@@ -9,7 +10,7 @@ use Rattle.rb_model.specs.Ends as ending
 use Rattle.rb_model.specs.Log.{Log}
 use Rattle.rb_model.specs.Private.{Private}
 use Rattle.rb_machine.specs.Scopes.{Script, Scope, fresh, with_locals}
-use Rattle.rb_machine.specs.Control.{State, On, Cont, Then, Test, Again, Turn, Frame, Give, Following, Looping, Turning, Break, Next, Return, Turns, Counting, Step, Rest}
+use Rattle.rb_machine.specs.Control.{State, On, Cont, Then, Test, Again, Turn, Frame, Give, Following, Looping, Turning, Break, Next, Return, Turns, Counting, Step, Rest, Instead}
 use Rattle.rb_machine.specs.Call.{ended}
 use Rattle.rb_machine.specs.Give.{back}
 use Rattle.rb_machine.specs.Turns.{turned, start_turn}
@@ -19,7 +20,7 @@ use Rattle.rb_walk.specs.declared.came.Came.{Came as Registers}
 use Rattle.rb_walk.specs.declared.came.Came.TheVariants as came
 use Rattle.rb_walk.specs.declared.came.Leave.{Leave}
 use Rattle.rb_walk.specs.declared.came.Leave.TheVariants as leave
-use Rattle.rb_walk.specs.Outcome.{Outcome, Gave, Left, Over, Came, is_left, value_of, left_by, outcome}
+use Rattle.rb_walk.specs.Outcome.{Outcome, Gave, Left, Over, Came, Settles, is_left, value_of, left_by, outcome}
 use Rattle.rb_walk.specs.Carries.{goes_on, loop_exit, call_exit}
 use Rattle.rb_walk.proofs.Moves.{on}
 
@@ -64,6 +65,11 @@ module _ {S : Script} {N : ℕ} {start : State} {h : Private} where
   pub given : {l : Log} {k : List Cont} {sc : Scope} {d n : ℕ} (c : Registers) (v : Held) (x : Leave) → is_left c ≡ false → Came S N start l h (outcome c v x) k sc d n → At S 0 N start l h (On (Give (value_of c v)) k sc d n)
   given {l = l} {k = k} {sc = sc} {d = d} {n = n} c v x e a = subst (λ o. Came S N start l h o k sc d n) (gave c v x e) a
 
+-- a call of a method that gives this value or ends comes out so
+pub settled_exit : (v : Val) (o : Outcome) → Settles v o → call_exit o ≡ o
+settled_exit v o (inl e) = ap call_exit e ∙ sym e
+settled_exit v o (inr over) = ap call_exit over.1 ∙ sym over.1
+
 -- what an iteration of a block gave
 abbrev pub turn_value : Outcome → Val
 turn_value (Gave v) = v
@@ -99,6 +105,11 @@ module _ (S : Script) (N : ℕ) (start : State) (h : Private) where
   pub passes : (c : Registers) (v : Held) (x : Leave) (l : Log) (step : Step) (k : List Cont) (sc : Scope) (d n : ℕ) → is_left c ≡ true → Came S N start l h (outcome c v x) (Then step ∷ k) sc d n → Came S N start l h (outcome c v x) k sc d n
   passes c v x l step k sc d n e a =
       comes l k sc d n _ _ (gone c v x e) (passes_by (left_by x v) l step k sc d n (not_given x v) (comes l (Then step ∷ k) sc d n _ _ (sym (gone c v x e)) a))
+
+  -- an assignment that gives its value or ends goes on behind it so
+  pub stored : (v : Val) (o : Outcome) (l : Log) (k : List Cont) (sc : Scope) (d n : ℕ) → Settles v o → Came S N start l h o (Then (Instead v) ∷ k) sc d n → Came S N start l h o k sc d n
+  stored v o l k sc d n (inl e) a = comes l k sc d n (Gave v) o e (on _ (comes l (Then (Instead v) ∷ k) sc d n o (Gave v) (sym e) a) refl)
+  stored v o l k sc d n (inr over) a = passes_by o l (Instead v) k sc d n (ap is_given over.1) a
 
   -- behind the last statement of a body
   pub statements_end : (l : Log) (o : Outcome) (k : List Cont) (sc : Scope) (d n : ℕ) → Came S N start l h o (Then (Rest []) ∷ k) sc d n → Came S N start l h o k sc d n

@@ -15,23 +15,27 @@ use Rattle.rb_model.specs.Private.{Private}
 use Rattle.rb_machine.specs.Scopes.{Script, text_of}
 use Rattle.rb_machine.specs.Control.{State, On, Cont, Then, Under, Eval, ReceiverOf, Argument, OnReceiver, RightOf, WriteTo, OfLocal}
 use Rattle.rb_machine.specs.Call.{operator, read_place, texted, methods_of}
-use Rattle.rb_machine.specs.Methods.{Gives, deed}
+use Rattle.rb_machine.specs.Methods.{Answer, Gives, deed}
 use Rattle.rb_machine.specs.Follows.{At}
 use Rattle.rb_builtin.specs.declared.builtin.Builtin.{Builtin}
+use Rattle.rb_builtin.specs.declared.builtin.Builtin.TheVariants as builtin
 use Rattle.rb_builtin.specs.declared.integer.IntegerAnswer.{IntegerAnswer}
 use Rattle.rb_builtin.specs.Names.{builtin_of}
 use Rattle.rb_builtin.specs.Integers.{answer_of}
-use Rattle.rb_builtin.proofs.Table.{same_is}
+use Rattle.rb_builtin.proofs.Table.{by_number, same_is}
 use Rattle.rb_code.specs.declared.code.Code.{Code}
+use Rattle.rb_code.specs.declared.scripted.CodeScript.{CodeScript}
 use Rattle.rb_code.specs.declared.code.Code.TheVariants as code
 use Rattle.rb_code.specs.Erase.{erase}
 use Rattle.rb_code.specs.Layout.{has_slot}
 use Rattle.rb_code.specs.Resolved.{fits}
+use Rattle.rb_code.specs.Stands.{StandsFor}
 use Rattle.rb_code.proofs.Showing.{shows-operate}
 use Rattle.rb_code.proofs.Fitting.{fits-operate}
 use Rattle.rb_walk.specs.Outcome.{Outcome, Gave, Came}
 use Rattle.rb_walk.specs.Carries.{scope_of, updating}
 use Rattle.rb_walk.specs.Answers.{OrMemory, IsHeld, IsMade, IsQuick, IsSmall, IsTwice, IsUpdated, IsUpdatedOver, outcome_of, method_of, wrote}
+use Rattle.rb_walk.specs.Methods.{IsCompared}
 use Rattle.rb_walk.proofs.Rooms.{read_room}
 use Rattle.rb_walk.proofs.Lists.{fst, snd}
 use Rattle.rb_walk.proofs.Moves.{on, begins, counts, gives, left as leaves}
@@ -66,6 +70,15 @@ module _ (S : Script) (N : ℕ) (start : State) (h : Private) where
       let e2 = js S N names size d (left - 1) start h l (Then (Argument (OnReceiver v (text_of S name) None) [] [] at) ∷ k) me g len (omega (arith, more)) deep (on _ (on _ e1 refl) refl) in
       let twice : left - 2 ≡ left - 1 - 1 = omega arith in
       rw twice (calls S N start h l v (text_of S name) (w ∷ []) at k (scope_of me names room) d (left - 1 - 1) o cl m (on _ (on _ e2 refl) refl))
+
+  -- a local that is compared with nil or with another one
+  pub compares : (c : CodeScript) (l : Log) (k : List Cont) (me : Val) (names : List NameId) (size d left : ℕ) (room : List Held) (method : Option Builtin) (name : NameId) (receiver arg : Code) (at : Span) (answer : Answer)
+      → StandsFor c S → builtin_of (text_of S name) ≡ method → fits S receiver names size ≡ true → fits S arg names size ≡ true → length names ≤ length room → 1 < left → d < 1000
+      → IsCompared c method name receiver arg room answer
+      → At S 0 N start l h (On (Eval (erase receiver)) (Then (ReceiverOf (text_of S name) (erase arg ∷ []) None at) ∷ k) (scope_of me names room) d left) → Came S N start l h (outcome_of answer at) k (scope_of me names room) d (left - 2)
+  compares c l k me names size d left room method name receiver arg at answer st number f g len more deep q a =
+      let is = sym (by_number S.program q.0 (text_of S name) builtin.Equal (q.1 ∷ []) None (number ∙ q.2)) ∙ q.6 in
+      calls_pair l k me names size d left room name receiver arg at q.0 q.1 (outcome_of answer at) (q.3 S st) f g len more deep q.4 q.5 (inl (ap (λ a. outcome_of a at) (sym is))) a
 
   -- a call with one argument over an operation and a leaf
   pub calls_twice : (l : Log) (k : List Cont) (me : Val) (names : List NameId) (size d left : ℕ) (room : List Held) (name : NameId) (receiver arg : Code) (at : Span) (i : ℤ) (w : Val) (o : Outcome)

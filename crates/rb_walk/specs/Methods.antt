@@ -13,8 +13,11 @@ use Rattle.rb_machine.specs.Scopes.{Script, Text, text_of}
 use Rattle.rb_machine.specs.Control.{State, Cont, Then, Instead, OfAttribute}
 use Rattle.rb_machine.specs.Call.{invoke, enter, texted, methods_of, last_value, write_place}
 use Rattle.rb_machine.specs.Follows.{At}
+use Rattle.rb_machine.specs.Methods.{Answer, equal}
 use Rattle.rb_builtin.specs.declared.builtin.Builtin.{Builtin}
+use Rattle.rb_builtin.specs.declared.builtin.Builtin.TheVariants as builtin
 use Rattle.rb_builtin.specs.Names.{builtin_of}
+use Rattle.rb_code.specs.declared.code.Code.{Code}
 use Rattle.rb_code.specs.declared.scripted.CodeMethod.{CodeMethod}
 use Rattle.rb_code.specs.declared.scripted.CodeScript.{CodeScript}
 use Rattle.rb_code.specs.Erase.{erase_method}
@@ -22,6 +25,7 @@ use Rattle.rb_code.specs.Resolved.{method_fits, is_free}
 use Rattle.rb_code.specs.Dispatch.{is_writer}
 use Rattle.rb_code.specs.Stands.{StandsFor}
 use Rattle.rb_walk.specs.Outcome.{Outcome, Came}
+use Rattle.rb_walk.specs.Answers.{IsHeld}
 use Rattle.rb_walk.specs.Carries.{me_of, scope_of}
 
 -- the method of its class that the script finds for a value by a name
@@ -41,6 +45,11 @@ HasNoMethods v = (S : Script) (name : Text) → texted S name (methods_of S v) �
 -- a name finds no method for a value
 abbrev pub HasNone : CodeScript → Val → NameId → Type 0
 HasNone script v name = (S : Script) → StandsFor script S → method_for S v name ≡ None
+
+-- a leaf gives a value for which a name finds no method, and another leaf one, and so the first answers where it is asked whether it is the second
+abbrev pub IsCompared : CodeScript → Option Builtin → NameId → (left right : Code) → List Held → Answer → Type 0
+IsCompared script method name left right room answer =
+    (v : Val) × (w : Val) × (method ≡ Some builtin.Equal) × HasNone script v name × IsHeld left room v × IsHeld right room w × (equal v (w ∷ []) ≡ answer)
 
 -- From where a method begins with the arguments that stand behind the frame, the machine comes to the outcome.
 abbrev pub Enters : CodeScript → Program → ℕ → Val → Val → CodeMethod → (count : ℕ) → Span → (base depth left left' : ℕ) → (room room' : List Held) → (log log' : Log) → (own own' : Private) → Outcome → Type 0

@@ -1,5 +1,5 @@
 -- How a part of a script comes out, and where the machine then stands.
-use Rattle.std.specs.Prelude.{◌≡◌, ℕ, Bool, true, false, List, [], Result, Ok, Err}
+use Rattle.std.specs.Prelude.{◌≡◌, ◌⊎◌, ℕ, Bool, true, false, List, [], Result, Ok, Err}
 use Rattle.rb_model.specs.Values.{Value as Val, Nil, False, True, Int, plain}
 use Rattle.rb_model.specs.declared.value.Value.{Value as Held}
 use Rattle.rb_model.specs.Ends.{End, over}
@@ -64,6 +64,10 @@ fetched (Err c) v l = outcome c v l
 -- the thread has ended
 abbrev pub IsOver : Outcome → Type 0
 IsOver o = (e : End) × (o ≡ Over e)
+
+-- this value is given, or the thread has ended
+abbrev pub Settles : Val → Outcome → Type 0
+Settles v o = (o ≡ Gave v) ⊎ IsOver o
 
 -- Where the machine of the main thread then stands: it gives the value, it leaves, or it has ended; a cut by memory stands somewhere on
 -- the way to the next want, and a refused print in place of that print.

@@ -4,14 +4,12 @@ ghost use Rattle.rb_tree.specs.declared.node.Program.{Program};
 ghost use Rattle.std.specs.Prelude.{◌≡◌, ◌≢◌, ◌<◌, ◌≤◌, ℕ, List, [], ◌∷◌, length, map, slice_get, Some, None, IfSome, true, false};
 ghost use Rattle.rb_tree.specs.declared.node.Node.{out-Node};
 ghost use Rattle.rb_tree.specs.Place.{place};
-ghost use Rattle.rb_model.specs.Values.{Int, Str, plain, truthy};
+ghost use Rattle.rb_model.specs.Values.{Int, plain, truthy};
 ghost use Rattle.rb_model.specs.declared.value.Value.{Value as Held};
 ghost use Rattle.rb_model.specs.declared.value.Value.TheVariants as held;
 ghost use Rattle.rb_machine.specs.Methods.{deed};
-ghost use Rattle.rb_builtin.specs.declared.builtin.Builtin.TheVariants as builtin;
 ghost use Rattle.rb_builtin.specs.Names.{builtin_of};
 ghost use Rattle.rb_builtin.specs.declared.integer.IntegerAnswer.TheVariants as answer;
-ghost use Rattle.rb_builtin.specs.Deeds.{answer_by_number};
 ghost use Rattle.rb_builtin.specs.Integers as integers;
 ghost use Rattle.rb_code.specs.Erase.{erase};
 ghost use Rattle.rb_walk.specs.Outcome.{is_left, value_of};
@@ -155,6 +153,18 @@ pub fn local_at<'r>(code: &Code, room: &'r [Value]) -> Option<&'r Value>
     }
 }
 
+/// The value that a local has, once more. Where as many own its text as can be counted, there is none.
+#[inline(always)]
+pub fn copy_of(code: &Code, room: &[Value]) -> Option<Value>
+    ensures { IfSome result (λ v. IsHeld code.now room.now (plain v)) }
+{
+    let value = local_at(code, room)?;
+    match value.share() {
+        Ok(copy) => Some(copy),
+        Err(_) => None,
+    }
+}
+
 /// Whether a local has an object.
 #[inline(always)]
 pub fn is_object_at(code: &Code, room: &[Value]) -> bool {
@@ -238,62 +248,6 @@ pub fn operation_on(method: Option<Builtin>, receiver: &Value, arg: &Value) -> O
         return None;
     };
     operation_by(method, *m, *n)
-}
-
-/// What a text answers to a method whose answer needs no memory, where this is one.
-#[inline(always)]
-pub fn text_answer(
-    method: Option<Builtin>,
-    receiver: &Value,
-    args: &[Value],
-) -> Option<IntegerAnswer>
-    ensures { IfSome result (λ answer. (program : Program) (name : List ℕ) → builtin_of name ≡ method → deed program (plain receiver.now) name (map plain args.now) None ≡ integers.answer_of answer) }
-{
-    let Value::Str(text) = receiver else {
-        return None;
-    };
-    match method {
-        Some(number) => text_answer_by(number, text, args),
-        None => None,
-    }
-}
-
-/// What a text answers to a method by its number, where that needs no memory.
-#[inline(always)]
-fn text_answer_by(method: Builtin, text: &SharedText, args: &[Value]) -> Option<IntegerAnswer>
-    ensures { IfSome result (λ answer. (program : Program) → answer_by_number program (Str text.now) method (map plain args.now) None ≡ integers.answer_of answer) }
-{
-    match method {
-        Builtin::Length => length_of(text, args),
-        Builtin::Equal => sameness_of(text, args),
-        _ => None,
-    }
-}
-
-/// The length of a text.
-#[inline(always)]
-fn length_of(text: &SharedText, args: &[Value]) -> Option<IntegerAnswer>
-    ensures { IfSome result (λ answer. (program : Program) → answer_by_number program (Str text.now) builtin.Length (map plain args.now) None ≡ integers.answer_of answer) }
-{
-    if !args.is_empty() {
-        return None;
-    }
-    Some(IntegerAnswer::Int(text.characters()))
-}
-
-/// Whether a text is another.
-#[inline(always)]
-fn sameness_of(text: &SharedText, args: &[Value]) -> Option<IntegerAnswer>
-    ensures { IfSome result (λ answer. (program : Program) → answer_by_number program (Str text.now) builtin.Equal (map plain args.now) None ≡ integers.answer_of answer) }
-{
-    let [Value::Str(other)] = args else {
-        return None;
-    };
-    if text.as_slice() == other.as_slice() {
-        Some(IntegerAnswer::True)
-    } else {
-        Some(IntegerAnswer::False)
-    }
 }
 
 /// The only piece of a text, where it is bytes that are not too many.
@@ -467,6 +421,12 @@ pub fn is_operate(code: &Code) -> bool {
         Code::Operate(_, _, _, _, _) => true,
         _ => false,
     }
+}
+
+/// Whether a node is a local.
+#[inline(always)]
+pub fn is_local(code: &Code) -> bool {
+    matches!(code, Code::Local(_, _, _))
 }
 
 /// Whether a node is an integer or a local.

@@ -10,6 +10,7 @@ pub mod ending;
 pub mod gathering;
 pub mod leaf;
 pub mod questions;
+pub mod ready;
 pub mod rounds;
 pub mod slots;
 pub mod target;

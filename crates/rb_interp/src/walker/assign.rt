@@ -283,7 +283,7 @@ impl<'p, O: ThreadStore + Drop> Walker<'p, O> {
             Some(answer) => self.answer(answer, at),
             None => {
                 let args = [arg];
-                self.call_method(receiver, method, args.as_slice(), at)
+                self.call_held(receiver, method, args.as_slice(), at)
             }
         }
     }
@@ -429,6 +429,9 @@ impl<'p, O: ThreadStore + Drop> Walker<'p, O> {
                 return done;
             }
             return came;
+        }
+        if let Some(done) = self.entered_giving(target, came, depth) {
+            return done;
         }
         let value = self.take(came);
         let Ok(copy) = value.share() else {

@@ -21,6 +21,7 @@ use rb_walk::leaf::{
     held_alone, held_at, integer_at, is_combining, is_deep, is_object_at, is_operate, is_read,
     is_send, local_at, method_of, quick, quick_update, update_over,
 };
+use rb_walk::ready::compared;
 use rb_walk::target::{local_collection, local_target, reader_of};
 
 impl<'p, O: ThreadStore + Drop> Walker<'p, O> {
@@ -257,6 +258,17 @@ impl<'p, O: ThreadStore + Drop> Walker<'p, O> {
                 let left = left.get();
                 let right = right.get();
                 if self.left > 1 && depth < MAX_DEPTH {
+                    if let Some(answer) = compared(
+                        self.context.script,
+                        *method,
+                        *name,
+                        left,
+                        right,
+                        room,
+                    ) {
+                        self.left -= 2;
+                        return self.answer(answer, *at);
+                    }
                     if let Some(thing) = local_collection(left, room) {
                         self.left -= 1;
                         return self.operate_collection(
@@ -471,7 +483,8 @@ impl<'p, O: ThreadStore + Drop> Walker<'p, O> {
         }
     }
 
-    /// Any call with a receiver, without a block. To a local without arguments it takes no value out of its slot.
+    /// Any call with a receiver, without a block. What an object of a local has a method for is entered here; to another local without
+    /// arguments it takes no value out of its slot.
     #[cycle(walk)]
     #[inline(never)]
     fn begin_slow_send(&mut self, code: &'p Code, depth: u32, room: &mut [Value]) -> Came
@@ -489,6 +502,12 @@ impl<'p, O: ThreadStore + Drop> Walker<'p, O> {
             Code::Send(method, name, receiver, args, at) => {
                 let receiver = receiver.get();
                 let args = args.as_slice();
+                if self.left > 0 && depth < MAX_DEPTH {
+                    if let Some(target) = local_target(self.context.script, receiver, *name, room) {
+                        self.left -= 1;
+                        return self.send_target(target, *name, args, *at, depth, room);
+                    }
+                }
                 match self.sent(*method, *name, receiver, args, *at, depth, room) {
                     Some(came) => came,
                     None => self.send(*method, *name, receiver, args, *at, depth, room),

@@ -234,6 +234,45 @@ impl<'p, O: ThreadStore + Drop> Walker<'p, O> {
         self.invoke(&receiver, method, name, args.len(), at, depth, room)
     }
 
+    /// A call of a method of the class of an object, which was found, without a block.
+    #[cycle(walk)]
+    #[inline(always)]
+    pub(super) fn send_target(
+        &mut self,
+        target: Target<'p>,
+        name: NameId,
+        args: &'p [Code],
+        at: Span,
+        depth: u32,
+        room: &mut [Value],
+    ) -> Came
+        requires unended { has_end (O.log self.old.store).entries ≡ false }
+        requires steps { self.old.left ≤ self.old.context.steps }
+        requires target { IsTarget self.old.context.script.now (me_of (Some target.object)) name target.object target.method.now }
+        ensures base { self.new.base ≡ self.old.base }
+        ensures context { self.new.context ≡ self.old.context }
+        ensures room { length room.new ≡ length room.old }
+        ensures less { self.new.left ≤ self.old.left }
+        ensures unended { has_end (O.log self.new.store).entries ≡ false }
+        ensures kept { Keeps self.old.context.script.now self.old.context.program.now (λ S. every (map (fits S) args.now)) self.old.base room.old room.new }
+        ensures came { Carries self.old.context.script.now self.old.context.program.now self.old.context.steps (me_of self.old.context.me) (λ S. every (map (fits S) args.now)) (λ S k sc d n. On (Passing (OnReceiver (me_of (Some target.entry.object)) (text_of S name) None) [] (map erase args.now) at) k sc d n) self.old.base depth self.old.left self.new.left room.old room.new (O.log self.old.store) (O.log self.new.store) (O.private self.old.store) (O.private self.new.store) (outcome result self.new.value self.new.leave) }
+    {
+        let before = self.base;
+        let came = self.arguments(args, depth, room);
+        self.base = before;
+        if is_left(came) {
+            return came;
+        }
+        self.enter(
+            target.method,
+            Some(target.object),
+            args.len(),
+            at,
+            depth,
+            room,
+        )
+    }
+
     /// An assignment by the call of a method of an array or a hash, with two arguments.
     #[cycle(walk)]
     #[inline(always)]
@@ -349,6 +388,9 @@ impl<'p, O: ThreadStore + Drop> Walker<'p, O> {
                 return done;
             }
             return came;
+        }
+        if let Some(done) = self.entered_giving(target, came, depth) {
+            return done;
         }
         if self.base >= room.len() {
             return self.over(Cut::Memory);

@@ -18,7 +18,7 @@ use rb_model::{ThreadStore, Value};
 use rb_tree::Boxed;
 use rb_walk::MAX_DEPTH;
 use rb_walk::came::{Came, Cut, Leave, is_left};
-use rb_walk::leaf::tested;
+use rb_walk::leaf::{copy_of, is_local, tested};
 use rb_walk::slots::place;
 use std::mem;
 
@@ -253,6 +253,9 @@ impl<'p, O: ThreadStore + Drop> Walker<'p, O> {
         if slot as usize >= room.len() {
             return self.keep_any(slot, value, depth, room);
         }
+        if is_local(value) {
+            return self.keep_copy(slot, value, depth, room);
+        }
         match self.sent_value(value, depth, room) {
             Some(Ok(sent)) => {
                 place(room, slot as usize, sent);
@@ -261,6 +264,30 @@ impl<'p, O: ThreadStore + Drop> Walker<'p, O> {
             Some(Err(came)) => came,
             None => self.keep_any(slot, value, depth, room),
         }
+    }
+
+    /// The same of the value of another local, which is copied from slot to slot.
+    #[cycle(walk)]
+    #[inline(never)]
+    fn keep_copy(&mut self, slot: u32, value: &'p Code, depth: u32, room: &mut [Value]) -> Came
+        requires unended { has_end (O.log self.old.store).entries ≡ false }
+        requires steps { self.old.left ≤ self.old.context.steps }
+        ensures base { self.new.base ≡ self.old.base }
+        ensures context { self.new.context ≡ self.old.context }
+        ensures room { length room.new ≡ length room.old }
+        ensures less { self.new.left ≤ self.old.left }
+        ensures unended { has_end (O.log self.new.store).entries ≡ false }
+        ensures kept { (name : NameId) → Keeps self.old.context.script.now self.old.context.program.now (at_slot slot name (λ S. fits S value.now)) self.old.base room.old room.new }
+        ensures came { (name : NameId) → Unread result (outcome result self.new.value self.new.leave) (Carries self.old.context.script.now self.old.context.program.now self.old.context.steps (me_of self.old.context.me) (at_slot slot name (λ S. fits S value.now)) (λ S k sc d n. On (Eval (erase value.now)) (Then (AssignTo name) ∷ k) sc d n) self.old.base depth self.old.left self.new.left room.old room.new (O.log self.old.store) (O.log self.new.store) (O.private self.old.store) (O.private self.new.store)) }
+    {
+        if self.left > 0 && depth < MAX_DEPTH && (slot as usize) < room.len() {
+            if let Some(copy) = copy_of(value, room) {
+                self.left -= 1;
+                place(room, slot as usize, copy);
+                return Came::Nil;
+            }
+        }
+        self.keep_any(slot, value, depth, room)
     }
 
     /// The same of any value.

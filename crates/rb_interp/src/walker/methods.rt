@@ -8,7 +8,7 @@ ghost use Rattle.rb_model.specs.Acts.{SetField};
 ghost use Rattle.rb_machine.specs.Control.{On, Passing, ByName};
 ghost use Rattle.rb_code.specs.Erase.{erase};
 ghost use Rattle.rb_code.specs.Resolved.{fits, every, method_fits};
-ghost use Rattle.rb_walk.specs.Outcome.{Gave, value_of, outcome};
+ghost use Rattle.rb_walk.specs.Outcome.{Gave, Settles, is_left, value_of, outcome};
 ghost use Rattle.rb_walk.specs.Carries.{Carries, Keeps, Unread, unnamed, me_of};
 ghost use Rattle.rb_walk.specs.Methods.{IsTarget, HasNone, Enters, EntersWith, Invokes};
 ghost use Rattle.rb_walk.specs.Objects.{Asks};
@@ -174,6 +174,33 @@ impl<'p, O: ThreadStore + Drop> Walker<'p, O> {
         self.left -= 2;
         let done = self.write_integer(target.object, field, n, at);
         Some(self.out_of_call(done))
+    }
+
+    /// What comes of a method that was found for an assignment, where it is entered with what came and only gives it to an instance variable.
+    /// Else nothing is done.
+    #[inline(always)]
+    pub(super) fn entered_giving(
+        &mut self,
+        target: Target<'p>,
+        came: Came,
+        depth: u32,
+    ) -> Option<Came>
+        requires unended { has_end (O.log self.old.store).entries ≡ false }
+        requires came { is_left came ≡ false }
+        ensures none { result ≡ None → self.new ≡ self.old }
+        ensures base { self.new.base ≡ self.old.base }
+        ensures context { self.new.context ≡ self.old.context }
+        ensures less { self.new.left ≤ self.old.left }
+        ensures log { O.log self.new.store ≡ O.log self.old.store }
+        ensures settled { IfSome result (λ done. Settles (value_of came self.old.value) (outcome done self.new.value self.new.leave)) }
+        ensures came { IfSome result (λ done. EntersAtOnce self.old.context.steps (me_of (Some target.entry.object)) target.entry.method.now (value_of came self.old.value ∷ []) depth self.old.left self.new.left (O.log self.old.store) (O.log self.new.store) (O.private self.old.store) (O.private self.new.store) (outcome done self.new.value self.new.leave)) }
+    {
+        if self.left < 2 || depth >= MAX_DEPTH - 1 {
+            return None;
+        }
+        let (field, at) = written_by(target.method)?;
+        self.left -= 2;
+        Some(self.write_value(target.object, field, came, at))
     }
 
     /// The sum that comes of a method that was found, where it is entered with what came, this is an integer and it is only added to an

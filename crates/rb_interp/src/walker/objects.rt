@@ -9,7 +9,7 @@ ghost use Rattle.rb_machine.specs.Control.{On, Then, Step, Eval, Passing, Creati
 ghost use Rattle.rb_machine.specs.Call.{read_place};
 ghost use Rattle.rb_code.specs.Erase.{erase};
 ghost use Rattle.rb_code.specs.Resolved.{fits, every};
-ghost use Rattle.rb_walk.specs.Outcome.{Gave, IsOver, fetched, is_left, value_of, outcome};
+ghost use Rattle.rb_walk.specs.Outcome.{Gave, IsOver, Settles, fetched, is_left, value_of, outcome};
 ghost use Rattle.rb_walk.specs.Carries.{Carries, Keeps, made_by, me_of};
 ghost use Rattle.rb_walk.specs.Objects.{Asks, Fields, Creates, UpdatesField, WritesField};
 
@@ -198,24 +198,24 @@ impl<'p, O: ThreadStore + Drop> Walker<'p, O> {
 
     /// Writes any value that came to an instance variable of an object, and gives it on.
     #[inline(never)]
-    fn write_value(&mut self, object: Ref, name: NameId, came: Came, at: Span) -> Came
+    pub(super) fn write_value(&mut self, object: Ref, name: NameId, came: Came, at: Span) -> Came
         requires unended { has_end (O.log self.old.store).entries ≡ false }
         requires came { is_left came ≡ false }
         ensures base { self.new.base ≡ self.old.base }
         ensures left { self.new.left ≡ self.old.left }
         ensures context { self.new.context ≡ self.old.context }
         ensures log { O.log self.new.store ≡ O.log self.old.store }
+        ensures settled { Settles (value_of came self.old.value) (outcome result self.new.value self.new.leave) }
         ensures came { WritesField self.old.context.steps (me_of (Some object)) name (value_of came self.old.value) at self.old.left (O.log self.old.store) (O.private self.old.store) (O.private self.new.store) (outcome result self.new.value self.new.leave) }
     {
         let value = self.take(came);
         let Ok(copy) = value.share() else {
             return self.over(Cut::Memory);
         };
-        let done = self.ask(object, Act::SetField(name, copy), at);
-        if is_left(done) {
-            return done;
+        match self.fetch(object, Act::SetField(name, copy), at) {
+            Ok(_) => self.give(value),
+            Err(came) => came,
         }
-        self.give(value)
     }
 
     /// An assignment to an instance variable.

@@ -22,7 +22,8 @@ use rb_render::{Form, RenderFault, render};
 use rb_tree::Span;
 use rb_walk::asked::is_text;
 use rb_walk::came::{Came, Cut, Leave, end_by};
-use rb_walk::leaf::{is_true, text_answer};
+use rb_walk::leaf::is_true;
+use rb_walk::ready::ready_answer;
 use rb_walk::slots::put;
 use std::mem;
 
@@ -334,7 +335,7 @@ impl<'p, O: ThreadStore + Drop> Walker<'p, O> {
         }
     }
 
-    /// What a value answers to a method without a block, where it may be a text that answers without memory.
+    /// What a value answers to a method without a block, where the answer may well need no memory.
     #[inline(always)]
     pub(super) fn call_held(
         &mut self,
@@ -349,7 +350,7 @@ impl<'p, O: ThreadStore + Drop> Walker<'p, O> {
         ensures context { self.new.context ≡ self.old.context }
         ensures store { self.new.store ≡ self.old.store }
     {
-        match text_answer(method, receiver, args) {
+        match ready_answer(method, receiver, args) {
             Some(answer) => self.answer(answer, at),
             None => self.call_method(receiver, method, args, at),
         }

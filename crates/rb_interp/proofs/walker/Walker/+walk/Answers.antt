@@ -19,12 +19,12 @@ use Rattle.rb_walk.proofs.Immediates.{reads_element, told_value}
 use Rattle.rb_walk.specs.Answers.{wrote}
 use Rattle.rb_walk.proofs.Lists.{at_end, in_front, two_items, no_items, none_behind, never, two, fst, snd, next_item, len_set, len_map, len_args, get_set, nothing, front, there}
 use Rattle.rb_walk.proofs.Rooms.{args_fit, sub, moved, every_item, lies, frame_back, read_room, room_beyond}
-use Rattle.rb_walk.proofs.Outcomes.{stopped_left, again_unread, statements_end, gave, given, comes, passes, gone, again_out, tested_again, tested_out, called, turn_too_many, turns_end}
+use Rattle.rb_walk.proofs.Outcomes.{stored, stopped_left, again_unread, statements_end, gave, given, comes, passes, gone, again_out, tested_again, tested_out, called, turn_too_many, turns_end}
 use Rattle.rb_walk.proofs.Steps.{and_goes, and_stops, or_goes, or_stops, negated, chosen_first, chosen_second, assigned, kept_write}
 use Rattle.rb_machine.specs.Scopes.{text_of}
 use Rattle.rb_builtin.specs.Names.{builtin_of}
 use Rattle.rb_builtin.proofs.Table.{same_is}
-use Rattle.rb_walk.proofs.Quick.{calls_pair, calls_twice, updates, updates_over}
+use Rattle.rb_walk.proofs.Quick.{compares, calls_pair, calls_twice, updates, updates_over}
 use Rattle.rb_walk.proofs.Calls.{calls, no_such, none_plain}
 use Rattle.rb_walk.proofs.Places.{operator_number, or_else_stays, or_else_goes, and_then_stays, and_then_goes, operates, reads, attribute_is, target_local, target_field, target_element, target_attribute}
 use mathlib.Core.Logic.{inl}
@@ -1961,16 +1961,16 @@ begin_far_send-returns-in-Send-clause-came g m c = λ S start k names size st e 
     let under = sub _ l (rw (c.get-receiver.ensures, c.as_slice-args.ensures) s) in
     c.send.ensures.came S start k names size st e under (rw (c.get-receiver.ensures, c.as_slice-args.ensures) (begins _ _ k _ _ _ (shows-send c.args.code.now x.method x.name x.receiver x.args x.at x.is) a))
 
-pub begin_slow_send-returns-in-Some-clause-came : goal.begin_slow_send-returns-in-Some-clause-came
-begin_slow_send-returns-in-Some-clause-came g m c = λ S start k names size st e l a.
+pub begin_slow_send-returns-in-Some-sent-clause-came : goal.begin_slow_send-returns-in-Some-sent-clause-came
+begin_slow_send-returns-in-Some-sent-clause-came g m c = λ S start k names size st e l a.
     let x = c.in-Send in
     let s = sym (ap (λ d. fits S d names size) x.is ∙ fits-send S names size x.method x.name x.receiver x.args x.at) ∙ l.fits in
     let right : fits S c.get-receiver.result.now names size ≡ true = rw c.get-receiver.ensures (fst _ _ (snd _ _ s)) in
     let len : length names ≤ length c.args.room.now = omega (arith, l.within, l.below, l.room) in
-    let none : x.args ≡ [] = rw c.as_slice-args.ensures at c.in-Some.ensures.empty in
+    let none : x.args ≡ [] = rw c.as_slice-args.ensures at c.in-Some-sent.ensures.empty in
     let number = same_is (builtin_of (text_of S x.name)) x.method (fst _ _ s) in
     let b = same (begins _ _ k _ _ _ (shows-send c.args.code.now x.method x.name x.receiver x.args x.at x.is) a) (ap (λ args. On (Eval (erase x.receiver)) (Then (ReceiverOf (text_of S x.name) (map erase args) None x.at) ∷ k) (scope_of (me_of c.args.self.now.context.me) names c.args.room.now) c.args.depth c.args.self.now.left) none) in
-    c.in-Some.ensures.came S start k names size st e number right len (rw c.get-receiver.ensures b)
+    c.in-Some-sent.ensures.came S start k names size st e number right len (rw c.get-receiver.ensures b)
 
 pub begin_slow_send-returns-in-None-clause-kept : goal.begin_slow_send-returns-in-None-clause-kept
 begin_slow_send-returns-in-None-clause-kept g m c = λ S names size st e l i p q.
@@ -2190,20 +2190,21 @@ store_target-returns-then-self-room-clause-came g m c = λ S start k names size 
     let come = w.ensures.came S start (Then step ∷ k) names size st e l a in
     let g1 = given w.result w.new.self.value w.new.self.leave (sym c.is_left.ensures ∙ c.if-is_left.false) come in
     let o = c.over.ensures in
-    rw (o.gives, o.left, o.store, c.entered_writing.ensures.none c.in_default.is) (_, g1, refl)
+    rw (o.gives, o.left, o.store, c.entered_giving.ensures.none c.in_default-entered_giving.is, c.entered_writing.ensures.none c.in_default.is) (_, g1, refl)
 
 pub store_target-returns-clause-kept : goal.store_target-returns-clause-kept
 store_target-returns-clause-kept g m c = λ S names size st e l i p q.
     let w = c.evaluate-came in
     let y = c.entered_writing.ensures in
+    let z = c.entered_giving.ensures in
     let t = c.move_to.ensures in
-    c.store_with.ensures.kept i (omega (arith, q, t.base, y.base, w.ensures.base))
-    ∙ (ap (λ r. slice_get r i) t.passed.2 ∙ (get_set w.new.room c.entered_writing.new.self.base i t.passed.0 (λ z. omega (arith, z, q, y.base, w.ensures.base)) ∙ w.ensures.kept S names size st e l i p q))
+    c.store_with.ensures.kept i (omega (arith, q, t.base, z.base, y.base, w.ensures.base))
+    ∙ (ap (λ r. slice_get r i) t.passed.2 ∙ (get_set w.new.room c.entered_giving.new.self.base i t.passed.0 (λ s. omega (arith, s, q, z.base, y.base, w.ensures.base)) ∙ w.ensures.kept S names size st e l i p q))
 
 pub store_target-returns-clause-came : goal.store_target-returns-clause-came
 store_target-returns-clause-came g m c = λ S start k names size st e l a.
     let w = c.evaluate-came in
-    let n = c.entered_writing.ensures.none c.in_default.is in
+    let n = c.entered_giving.ensures.none c.in_default-entered_giving.is ∙ c.entered_writing.ensures.none c.in_default.is in
     let t = c.move_to.ensures in
     let p = t.passed in
     let held = rw n at p.1 in
@@ -2218,7 +2219,7 @@ store_target-returns-clause-came g m c = λ S start k names size st e l a.
     let entered = same g2 (ap (λ v. enter S method to (v ∷ []) c.args.at (Then (Instead v) ∷ k) (scope_of (me_of c.args.self.now.context.me) names w.new.room) c.args.depth w.new.self.left) (sym held)) in
     let base = w.new.self.base in
     let below : length names ≤ base = omega (arith, l.within, l.below, w.ensures.base) in
-    let within : base < length w.new.room = omega (arith, c.if-self-room.false, c.entered_writing.ensures.base) in
+    let within : base < length w.new.room = omega (arith, c.if-self-room.false, c.entered_giving.ensures.base, c.entered_writing.ensures.base) in
     let f = rw (t.context, t.left, t.store, t.base, n, w.ensures.context, written) at c.store_with.ensures.came in
     f S start k names st e (target.right S st) below (omega (arith, within, len_set w.new.room base p.0)) (placed_last method to c.args.at k _ _ (me_of c.args.self.now.context.me) names base w.new.room p.0 below within entered)
 
@@ -2974,14 +2975,14 @@ write_member-returns-in-Some-entered_writing-clause-came g m c = λ name S start
     comes S _ start _ _ k _ _ _ _ _ (gave c.args.came y.new.self.value y.new.self.leave c.requires.came ∙ ap Gave (c.in-Some-entered_writing.ensures.integer y.new.self.value c.args.self.now.value)) (on _ g1 refl)
 
 pub write_member-returns-then-is_left-2-clause-kept : goal.write_member-returns-then-is_left-2-clause-kept
-write_member-returns-then-is_left-2-clause-kept g m c = λ i q. c.enter_storing_with-came.ensures.kept i (omega (arith, q, c.take-value.ensures.base, c.entered_writing.ensures.base))
+write_member-returns-then-is_left-2-clause-kept g m c = λ i q. c.enter_storing_with-came.ensures.kept i (omega (arith, q, c.take-value.ensures.base, c.entered_giving.ensures.base, c.entered_writing.ensures.base))
 
 pub write_member-returns-then-is_left-2-clause-came : goal.write_member-returns-then-is_left-2-clause-came
 write_member-returns-then-is_left-2-clause-came g m c = λ name S start k names st e writes free le bound_ a.
     let script = c.args.self.now.context.script.now in
     let v = value_of c.args.came c.args.self.now.value in
     let receiver = plain c.args.receiver.now in
-    let n = c.entered_writing.ensures.none c.in_default-entered_writing.is in
+    let n = c.entered_giving.ensures.none c.in_default-entered_giving.is ∙ c.entered_writing.ensures.none c.in_default-entered_writing.is in
     let t = c.take-value in
     let taken = rw n at t.ensures.value in
     let y = c.enter_storing_with-came in
@@ -2991,18 +2992,18 @@ write_member-returns-then-is_left-2-clause-came g m c = λ name S start k names 
     let entered = same a (by_receiver S receiver to (text_of S name ++ codes "=") (erase_method meth) (v ∷ []) c.args.at (Then (Instead v) ∷ k) _ _ _ (writer_some script S st receiver c.args.writer name c.in-Some.target.object meth writes is) (writer_me script receiver c.args.writer c.in-Some.target.object meth is)) in
     let same_value : plain c.in-Ok.copy ≡ v = c.in-Ok.ensures.value ∙ taken in
     let f = rw (t.ensures.context, t.ensures.left, t.ensures.store, n, same_value) at y.ensures.came in
-    let come = f S start (Then (Instead v) ∷ k) names st e (writer_right script S st receiver c.args.writer c.in-Some.target.object meth is) (omega (arith, le, t.ensures.base, c.entered_writing.ensures.base)) (omega (arith, bound_, t.ensures.base, c.entered_writing.ensures.base)) entered in
+    let come = f S start (Then (Instead v) ∷ k) names st e (writer_right script S st receiver c.args.writer c.in-Some.target.object meth is) (omega (arith, le, t.ensures.base, c.entered_giving.ensures.base, c.entered_writing.ensures.base)) (omega (arith, bound_, t.ensures.base, c.entered_giving.ensures.base, c.entered_writing.ensures.base)) entered in
     passes S _ start _ y.result y.new.self.value y.new.self.leave _ (Instead v) k _ _ _ (sym c.is_left-2.ensures ∙ c.if-is_left-2.true) come
 
 pub write_member-returns-clause-kept : goal.write_member-returns-clause-kept
-write_member-returns-clause-kept g m c = λ i q. c.enter_storing_with-came.ensures.kept i (omega (arith, q, c.take-value.ensures.base, c.entered_writing.ensures.base))
+write_member-returns-clause-kept g m c = λ i q. c.enter_storing_with-came.ensures.kept i (omega (arith, q, c.take-value.ensures.base, c.entered_giving.ensures.base, c.entered_writing.ensures.base))
 
 pub write_member-returns-clause-came : goal.write_member-returns-clause-came
 write_member-returns-clause-came g m c = λ name S start k names st e writes free le bound_ a.
     let script = c.args.self.now.context.script.now in
     let v = value_of c.args.came c.args.self.now.value in
     let receiver = plain c.args.receiver.now in
-    let n = c.entered_writing.ensures.none c.in_default-entered_writing.is in
+    let n = c.entered_giving.ensures.none c.in_default-entered_giving.is ∙ c.entered_writing.ensures.none c.in_default-entered_writing.is in
     let t = c.take-value in
     let taken = rw n at t.ensures.value in
     let y = c.enter_storing_with-came in
@@ -3012,7 +3013,7 @@ write_member-returns-clause-came g m c = λ name S start k names st e writes fre
     let entered = same a (by_receiver S receiver to (text_of S name ++ codes "=") (erase_method meth) (v ∷ []) c.args.at (Then (Instead v) ∷ k) _ _ _ (writer_some script S st receiver c.args.writer name c.in-Some.target.object meth writes is) (writer_me script receiver c.args.writer c.in-Some.target.object meth is)) in
     let same_value : plain c.in-Ok.copy ≡ v = c.in-Ok.ensures.value ∙ taken in
     let f = rw (t.ensures.context, t.ensures.left, t.ensures.store, n, same_value) at y.ensures.came in
-    let come = f S start (Then (Instead v) ∷ k) names st e (writer_right script S st receiver c.args.writer c.in-Some.target.object meth is) (omega (arith, le, t.ensures.base, c.entered_writing.ensures.base)) (omega (arith, bound_, t.ensures.base, c.entered_writing.ensures.base)) entered in
+    let come = f S start (Then (Instead v) ∷ k) names st e (writer_right script S st receiver c.args.writer c.in-Some.target.object meth is) (omega (arith, le, t.ensures.base, c.entered_giving.ensures.base, c.entered_writing.ensures.base)) (omega (arith, bound_, t.ensures.base, c.entered_giving.ensures.base, c.entered_writing.ensures.base)) entered in
     let g1 = given y.result y.new.self.value y.new.self.leave (sym c.is_left-2.ensures ∙ c.if-is_left-2.false) come in
     let o = c.give.ensures in
     rw (o.gives, o.left, o.store, taken) (on _ g1 refl)
@@ -3581,7 +3582,7 @@ write_member-returns-in_default-share-clause-came g m c = λ name S start k name
     let is = c.in-Some.ensures.some in
     let entered = same a (by_receiver S receiver to (text_of S name ++ codes "=") (erase_method meth) (v ∷ []) c.args.at (Then (Instead v) ∷ k) _ _ _ (writer_some script S st receiver c.args.writer name c.in-Some.target.object meth writes is) (writer_me script receiver c.args.writer c.in-Some.target.object meth is)) in
     let o = c.over.ensures in
-    let n = c.entered_writing.ensures.none c.in_default-entered_writing.is in
+    let n = c.entered_giving.ensures.none c.in_default-entered_giving.is ∙ c.entered_writing.ensures.none c.in_default-entered_writing.is in
     let t = c.take-value.ensures in
     rw (o.left, o.store, t.left, t.store, n) (cut S _ start _ _ _ k _ _ _ _ o.gives entered (enter_left S (erase_method meth) to (v ∷ []) c.args.at (Then (Instead v) ∷ k) _ _ _))
 
@@ -5059,16 +5060,16 @@ operate_collection-returns-clause-came g m c = λ S start k names size st e l a.
     let f1 = rw w.ensures.context at o.came in
     rw o.log (calls_builtin S _ start _ _ _ _ _ _ _ _ _ c.args.self.now.context.program.now c.args.method to (text_of S c.args.name) (value_of w.result w.new.self.value ∷ []) c.args.at (c.requires.alone S st) number e f1 (on _ (on _ g1 refl) refl))
 
-pub begin_slow_operate-returns-in-Some-clause-kept : goal.begin_slow_operate-returns-in-Some-clause-kept
-begin_slow_operate-returns-in-Some-clause-kept g m c = λ S names size st e l i p q.
+pub begin_slow_operate-returns-in-Some-local_collection-clause-kept : goal.begin_slow_operate-returns-in-Some-local_collection-clause-kept
+begin_slow_operate-returns-in-Some-local_collection-clause-kept g m c = λ S names size st e l i p q.
     let x = c.in-Operate in
     let s = sym (ap (λ d. fits S d names size) x.is ∙ fits-operate S names size x.method x.name x.left x.right x.at) ∙ l.fits in
     let fr : fits S c.get-right.result.now names size ≡ true = rw c.get-right.ensures (snd _ _ (snd _ _ s)) in
     let right = two _ (fits S c.get-right.result.now names size) (fst _ _ s) fr in
     c.operate_collection.ensures.kept S names size st e (sub _ l right) i p q
 
-pub begin_slow_operate-returns-in-Some-clause-came : goal.begin_slow_operate-returns-in-Some-clause-came
-begin_slow_operate-returns-in-Some-clause-came g m c = λ S start k names size st e l a.
+pub begin_slow_operate-returns-in-Some-local_collection-clause-came : goal.begin_slow_operate-returns-in-Some-local_collection-clause-came
+begin_slow_operate-returns-in-Some-local_collection-clause-came g m c = λ S start k names size st e l a.
     let x = c.in-Operate in
     let s = sym (ap (λ d. fits S d names size) x.is ∙ fits-operate S names size x.method x.name x.left x.right x.at) ∙ l.fits in
     let fl : fits S c.get-left.result.now names size ≡ true = rw c.get-left.ensures (fst _ _ (snd _ _ s)) in
@@ -5077,7 +5078,7 @@ begin_slow_operate-returns-in-Some-clause-came g m c = λ S start k names size s
     let more : 0 < c.args.self.now.left = omega (arith, c.if-self-gt1.true) in
     let b = begins _ _ k _ _ _ (shows-operate c.args.code.now x.method x.name x.left x.right x.at x.is) a in
     let waits = Then (ReceiverOf (text_of S x.name) (erase c.get-right.result.now ∷ []) None x.at) ∷ k in
-    let e1 = c.in-Some.ensures.held S _ names size c.args.depth c.args.self.now.left start _ _ waits (me_of c.args.self.now.context.me) fl len more c.if-depth-lt-MAX_DEPTH.true (rw (c.get-left.ensures, c.get-right.ensures) b) in
+    let e1 = c.in-Some-local_collection.ensures.held S _ names size c.args.depth c.args.self.now.left start _ _ waits (me_of c.args.self.now.context.me) fl len more c.if-depth-lt-MAX_DEPTH.true (rw (c.get-left.ensures, c.get-right.ensures) b) in
     let right = two _ (fits S c.get-right.result.now names size) (fst _ _ s) fr in
     c.operate_collection.ensures.came S start k names size st e (sub _ l right) (on _ (on _ e1 refl) refl)
 
@@ -5290,3 +5291,124 @@ arguments-each-preserved-in-Ok g m c =
           let within : base + loop.arg-index < length loop.room = omega (arith, inv.base, c.if-self-room.true) in
           rw inv.base (joined (me_of c.args.self.now.context.me) names base loop.arg-index loop.room loop.room c.in-Ok.copy (plain c.in-Some-local_at.value.now) c.in-Ok.ensures.value (omega (arith, l.within, l.below)) within (λ j q. refl) e1);
     }
+
+pub store_target-returns-in-Some-entered_giving-clause-kept : goal.store_target-returns-in-Some-entered_giving-clause-kept
+store_target-returns-in-Some-entered_giving-clause-kept g m c = λ S names size st e l i p q. c.evaluate-came.ensures.kept S names size st e l i p q
+
+pub store_target-returns-in-Some-entered_giving-clause-came : goal.store_target-returns-in-Some-entered_giving-clause-came
+store_target-returns-in-Some-entered_giving-clause-came g m c = λ S start k names size st e l a.
+    let w = c.evaluate-came in
+    let n = c.entered_writing.ensures.none c.in_default.is in
+    let to = me_of (Some c.args.target.object) in
+    let x = value_of w.result w.new.self.value in
+    let target = c.requires.target in
+    let come = w.ensures.came S start (Then (Argument (Storing to (text_of S c.args.name)) [] [] c.args.at) ∷ k) names size st e l a in
+    let g1 = given w.result w.new.self.value w.new.self.leave (sym c.is_left.ensures ∙ c.if-is_left.false) come in
+    let g2 = same (on _ (on _ g1 refl) refl) (by_receiver S to to (text_of S c.args.name) (erase_method c.args.target.method.now) (x ∷ []) c.args.at (Then (Instead x) ∷ k) _ _ _ (target.finds S st) refl) in
+    let f = rw (n, w.ensures.context) at c.in-Some-entered_giving.ensures.came in
+    let done = f S start (Then (Instead x) ∷ k) (scope_of (me_of c.args.self.now.context.me) names w.new.room) c.args.at (target.right S st) g2 in
+    stored S _ start _ x _ _ k _ _ _ (rw n at c.in-Some-entered_giving.ensures.settled) done
+
+pub write_member-returns-in-Some-entered_giving-clause-came : goal.write_member-returns-in-Some-entered_giving-clause-came
+write_member-returns-in-Some-entered_giving-clause-came g m c = λ name S start k names st e writes free le bound_ a.
+    let script = c.args.self.now.context.script.now in
+    let v = value_of c.args.came c.args.self.now.value in
+    let receiver = plain c.args.receiver.now in
+    let n = c.entered_writing.ensures.none c.in_default-entered_writing.is in
+    let meth = c.in-Some.target.method.now in
+    let to = me_of (Some c.in-Some.target.object) in
+    let is = c.in-Some.ensures.some in
+    let entered = same a (by_receiver S receiver to (text_of S name ++ codes "=") (erase_method meth) (v ∷ []) c.args.at (Then (Instead v) ∷ k) _ _ _ (writer_some script S st receiver c.args.writer name c.in-Some.target.object meth writes is) (writer_me script receiver c.args.writer c.in-Some.target.object meth is)) in
+    let f = rw n at c.in-Some-entered_giving.ensures.came in
+    let done = f S start (Then (Instead v) ∷ k) (scope_of (me_of c.args.self.now.context.me) names c.args.room.now) c.args.at (writer_right script S st receiver c.args.writer c.in-Some.target.object meth is) entered in
+    stored S _ start _ v _ _ k _ _ _ (rw n at c.in-Some-entered_giving.ensures.settled) done
+
+pub send_target-returns-then-is_left-clause-kept : goal.send_target-returns-then-is_left-clause-kept
+send_target-returns-then-is_left-clause-kept g m c = λ S names size st e l i p q. c.arguments-came.ensures.kept S names size st e l i p q
+
+pub send_target-returns-then-is_left-clause-came : goal.send_target-returns-then-is_left-clause-came
+send_target-returns-then-is_left-clause-came g m c = λ S start k names size st e l a.
+    let both = c.arguments-came.ensures.came (OnReceiver (me_of (Some c.args.target.object)) (text_of S c.args.name) None) c.args.at S start k names size st e l a in
+    both.0 (sym c.is_left.ensures ∙ c.if-is_left.true)
+
+pub send_target-returns-clause-kept : goal.send_target-returns-clause-kept
+send_target-returns-clause-kept g m c = λ S names size st e l i p q.
+    c.enter.ensures.kept i (omega (arith, q)) ∙ c.arguments-came.ensures.kept S names size st e l i p q
+
+pub send_target-returns-clause-came : goal.send_target-returns-clause-came
+send_target-returns-clause-came g m c = λ S start k names size st e l a.
+    let y = c.arguments-came in
+    let to = me_of (Some c.args.target.object) in
+    let both = y.ensures.came (OnReceiver to (text_of S c.args.name) None) c.args.at S start k names size st e l a in
+    let none = sym c.is_left.ensures ∙ c.if-is_left.false in
+    let count = length c.args.args.now in
+    let base = c.args.self.now.base in
+    let long : base + count ≤ length y.new.room = omega (arith, y.ensures.base none, y.ensures.fits l.room) in
+    let t = c.requires.target in
+    let args = map plain (take count (drop base y.new.room)) in
+    let entered = same (on _ (both.1 none) refl) (by_receiver S to to (text_of S c.args.name) (erase_method c.args.target.method.now) args c.args.at k _ _ _ (t.finds S st) refl) in
+    let f = rw y.ensures.context at c.enter.ensures.came in
+    f S start k names st e (t.right S st) (omega (arith, l.within, l.below)) long entered
+
+pub begin_slow_send-returns-in-Some-clause-kept : goal.begin_slow_send-returns-in-Some-clause-kept
+begin_slow_send-returns-in-Some-clause-kept g m c = λ S names size st e l i p q.
+    let x = c.in-Send in
+    let s = sym (ap (λ d. fits S d names size) x.is ∙ fits-send S names size x.method x.name x.receiver x.args x.at) ∙ l.fits in
+    let under = sub _ l (rw c.as_slice-args.ensures (snd _ _ (snd _ _ s))) in
+    c.send_target.ensures.kept S names size st e under i p q
+
+pub begin_slow_send-returns-in-Some-clause-came : goal.begin_slow_send-returns-in-Some-clause-came
+begin_slow_send-returns-in-Some-clause-came g m c = λ S start k names size st e l a.
+    let x = c.in-Send in
+    let s = sym (ap (λ d. fits S d names size) x.is ∙ fits-send S names size x.method x.name x.receiver x.args x.at) ∙ l.fits in
+    let right : fits S c.get-receiver.result.now names size ≡ true = rw c.get-receiver.ensures (fst _ _ (snd _ _ s)) in
+    let under = sub _ l (rw c.as_slice-args.ensures (snd _ _ (snd _ _ s))) in
+    let len : length names ≤ length c.args.room.now = omega (arith, l.within, l.below, l.room) in
+    let b = begins _ _ k _ _ _ (shows-send c.args.code.now x.method x.name x.receiver x.args x.at x.is) a in
+    let waits = Then (ReceiverOf (text_of S x.name) (map erase x.args) None x.at) ∷ k in
+    let e1 = c.in-Some.ensures.held S _ names size c.args.depth c.args.self.now.left start _ _ waits (me_of c.args.self.now.context.me) right len c.if-self-gt0.true c.if-depth-lt-MAX_DEPTH.true (rw c.get-receiver.ensures b) in
+    c.send_target.ensures.came S start k names size st e under (rw c.as_slice-args.ensures (on _ e1 refl))
+
+pub begin_slow_operate-returns-in-Some-clause-came : goal.begin_slow_operate-returns-in-Some-clause-came
+begin_slow_operate-returns-in-Some-clause-came g m c = λ S start k names size st e l a.
+    let x = c.in-Operate in
+    let s = sym (ap (λ d. fits S d names size) x.is ∙ fits-operate S names size x.method x.name x.left x.right x.at) ∙ l.fits in
+    let first = c.get-left.result.now in
+    let second = c.get-right.result.now in
+    let fl : fits S first names size ≡ true = rw c.get-left.ensures (fst _ _ (snd _ _ s)) in
+    let fr : fits S second names size ≡ true = rw c.get-right.ensures (snd _ _ (snd _ _ s)) in
+    let len : length names ≤ length c.args.room.now = omega (arith, l.within, l.below, l.room) in
+    let o = c.answer.ensures in
+    let number = same_is (builtin_of (text_of S x.name)) x.method (fst _ _ s) in
+    let b = begins _ _ k _ _ _ (shows-operate c.args.code.now x.method x.name x.left x.right x.at x.is) a in
+    rw (o.gives, o.left, o.store)
+    (compares S _ start _ c.args.self.now.context.script.now _ k (me_of c.args.self.now.context.me) names size c.args.depth c.args.self.now.left c.args.room.now x.method x.name first second x.at _ st number fl fr len c.if-self-gt1.true c.if-depth-lt-MAX_DEPTH.true c.in-Some.ensures (rw (c.get-left.ensures, c.get-right.ensures) b))
+
+pub keep_local-returns-then-is_local-clause-kept : goal.keep_local-returns-then-is_local-clause-kept
+keep_local-returns-then-is_local-clause-kept g m c = c.keep_copy.ensures.kept
+
+pub keep_local-returns-then-is_local-clause-came : goal.keep_local-returns-then-is_local-clause-came
+keep_local-returns-then-is_local-clause-came g m c = c.keep_copy.ensures.came
+
+pub keep_copy-returns-in-Some-clause-kept : goal.keep_copy-returns-in-Some-clause-kept
+keep_copy-returns-in-Some-clause-kept g m c = λ name S names size st e l i p q.
+    let t = c.place.ensures in
+    let s = slot_within name names c.args.slot (fst _ _ l.fits) in
+    kept_write c.args.slot i _ _ _ _ (λ z. omega (arith, z, s, l.within, p)) (wrote t.0 t.1 t.2)
+
+pub keep_copy-returns-in-Some-clause-came : goal.keep_copy-returns-in-Some-clause-came
+keep_copy-returns-in-Some-clause-came g m c = λ name.
+    let t = c.place.ensures in
+    only_came _ refl (
+      plain c.in-Some.copy,
+      λ S start k names size st e l a.
+          let len : length names ≤ length c.args.room.now = omega (arith, l.within, l.below, l.room) in
+          let come = c.in-Some.ensures S _ names size c.args.depth c.args.self.now.left start _ _ (Then (AssignTo name) ∷ k) (me_of c.args.self.now.context.me) (snd _ _ l.fits) len c.if-self-gt0.true c.if-depth-lt-MAX_DEPTH.true a in
+          assigned name (AssignTo name) names c.args.slot c.args.room.now c.place.new.room (plain c.in-Some.copy) _ _ plainly len (fst _ _ l.fits) (wrote t.0 t.1 t.2) come,
+    )
+
+pub keep_copy-returns-clause-kept : goal.keep_copy-returns-clause-kept
+keep_copy-returns-clause-kept g m c = c.keep_any.ensures.kept
+
+pub keep_copy-returns-clause-came : goal.keep_copy-returns-clause-came
+keep_copy-returns-clause-came g m c = c.keep_any.ensures.came

@@ -429,7 +429,7 @@ abbrev pub decreases-statement : goal.decreases-statement
 decreases-statement g l = 24 * (1001 - l.depth) + 2
 
 abbrev pub decreases-keep_local : goal.decreases-keep_local
-decreases-keep_local g l = 24 * (1001 - l.depth) + 5
+decreases-keep_local g l = 24 * (1001 - l.depth) + 6
 
 abbrev pub decreases-keep_any : goal.decreases-keep_any
 decreases-keep_any g l = 24 * (1001 - l.depth) + 4
@@ -466,3 +466,9 @@ decreases-read_attribute g l = 24 * (1001 - l.depth) + 9
 
 abbrev pub decreases-passage : goal.decreases-passage
 decreases-passage g l = 24 * (1001 - l.depth) + 4
+
+abbrev pub decreases-keep_copy : goal.decreases-keep_copy
+decreases-keep_copy g l = 24 * (1001 - l.depth) + 5
+
+abbrev pub decreases-send_target : goal.decreases-send_target
+decreases-send_target g l = 24 * (1001 - l.depth) + 6
