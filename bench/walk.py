@@ -11,7 +11,7 @@ import sys
 import tempfile
 
 HERE = os.path.dirname(os.path.abspath(__file__))
-FOLDERS = ("walk", "objects", "arrays")
+FOLDERS = ("walk", "objects", "classes", "arrays")
 HOSTS = ("ruby", "mruby")
 
 
