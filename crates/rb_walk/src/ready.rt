@@ -107,7 +107,7 @@ fn is_nil(value: &Value) -> bool
     }
 }
 
-/// Whether a value that is no array and no hash is another. Two arrays, or two hashes, are not always compared.
+/// Whether a value that is no array and no hash is another. Two arrays, or two hashes, that differ are not compared.
 #[inline(always)]
 fn same_as(value: &Value, other: &Value) -> Option<IntegerAnswer>
     ensures { IfSome result (λ answer. equal (plain value.now) (plain other.now ∷ []) ≡ integers.answer_of answer) }
@@ -118,7 +118,7 @@ fn same_as(value: &Value, other: &Value) -> Option<IntegerAnswer>
     Some(truth_of(*value == *other))
 }
 
-/// Whether the value of a local is nil or that of another local, where this is what a call asks, and no class has the method.
+/// Whether the value of a local is nil or that of another local, where a call asks this and the class of the value has no such method.
 #[inline(always)]
 pub fn compared(
     script: &Methods<'_>,
@@ -156,7 +156,7 @@ fn compared_apart(
     }
 }
 
-/// Whether the value of a local is nil or that of another local, where no class has this method.
+/// Whether the value of a local is nil or that of another local, where the class of the value has no such method.
 #[inline(always)]
 fn equality_of(
     script: &Methods<'_>,
