@@ -46,8 +46,8 @@ HasNoMethods v = (S : Script) (name : Text) → texted S name (methods_of S v) �
 abbrev pub HasNone : CodeScript → Val → NameId → Type 0
 HasNone script v name = (S : Script) → StandsFor script S → method_for S v name ≡ None
 
--- One leaf gives a value for which a name finds no method, another leaf gives another value, and this the first answers where it is asked
--- whether it is the second.
+-- One leaf gives a value for which a name finds no method, and another leaf gives a value, which may be the same. Asked by `==` whether it is
+-- the second, the first answers so.
 abbrev pub IsCompared : CodeScript → Option Builtin → NameId → (left right : Code) → List Held → Answer → Type 0
 IsCompared script method name left right room answer =
     (v : Val) × (w : Val) × (method ≡ Some builtin.Equal) × HasNone script v name × IsHeld left room v × IsHeld right room w × (equal v (w ∷ []) ≡ answer)
