@@ -41,7 +41,7 @@ use rb_walk::MAX_DEPTH;
 use rb_walk::came::{Came, Cut, Leave, immediate, is_told};
 use rb_walk::dispatch::Methods;
 use rb_walk::ending::{close, end_of};
-use rb_walk::leaf::{is_leaf, is_operate, is_read, place_of, quick, quick_twice, small, steps_of};
+use rb_walk::leaf::{has_read, is_leaf, is_operate, place_of, quick, quick_twice, small, steps_of};
 use rb_walk::slots::clear;
 use std::alloc::Global;
 
@@ -229,7 +229,7 @@ impl<'p, O: ThreadStore + Drop> Walker<'p, O> {
                         }
                     }
                     self.left -= 1;
-                    if is_read(left) || is_read(right) {
+                    if has_read(left, right) {
                         return self.begin_read_operate(code, depth + 1, room);
                     }
                     return self.begin_slow_operate(code, depth + 1, room);
@@ -253,7 +253,13 @@ impl<'p, O: ThreadStore + Drop> Walker<'p, O> {
                 }
                 self.walk(code, depth, room)
             }
-            Code::Field(_, _) => self.evaluate_operand(code, depth, room),
+            Code::Field(name, at) => {
+                if self.left > 0 && depth < MAX_DEPTH {
+                    self.left -= 1;
+                    return self.field_apart(*name, *at);
+                }
+                self.walk(code, depth, room)
+            }
             Code::Local(_, _, _) => self.evaluate_operand(code, depth, room),
             Code::False(_) => self.evaluate_operand(code, depth, room),
             Code::True(_) => self.evaluate_operand(code, depth, room),

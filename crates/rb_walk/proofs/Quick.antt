@@ -7,15 +7,15 @@ use Rattle.rb_tree.specs.declared.span.Span.{Span}
 use Rattle.rb_tree.specs.declared.span.NameId.{NameId}
 use Rattle.rb_tree.specs.declared.node.AssignOp.{AssignOp}
 use Rattle.rb_tree.specs.declared.node.AssignOp.TheVariants as op
-use Rattle.rb_model.specs.Values.{Value as Val, Int}
+use Rattle.rb_model.specs.Values.{Value as Val, Nil, Int}
 use Rattle.rb_model.specs.declared.value.Value.{Value as Held}
 use Rattle.rb_model.specs.declared.value.Value.TheVariants as held
 use Rattle.rb_model.specs.Log.{Log}
 use Rattle.rb_model.specs.Private.{Private}
-use Rattle.rb_machine.specs.Scopes.{Script, text_of}
-use Rattle.rb_machine.specs.Control.{State, On, Cont, Then, Under, Eval, ReceiverOf, Argument, OnReceiver, RightOf, WriteTo, OfLocal}
+use Rattle.rb_machine.specs.Scopes.{Script, Scope, Text, text_of}
+use Rattle.rb_machine.specs.Control.{State, On, Cont, Then, Under, Eval, Give, ReceiverOf, Argument, OnReceiver, RightOf, WriteTo, OfLocal}
 use Rattle.rb_machine.specs.Call.{operator, read_place, texted, methods_of}
-use Rattle.rb_machine.specs.Methods.{Answer, Gives, deed}
+use Rattle.rb_machine.specs.Methods.{Answer, Gives, deed, equal}
 use Rattle.rb_machine.specs.Follows.{At}
 use Rattle.rb_builtin.specs.declared.builtin.Builtin.{Builtin}
 use Rattle.rb_builtin.specs.declared.builtin.Builtin.TheVariants as builtin
@@ -79,6 +79,14 @@ module _ (S : Script) (N : ℕ) (start : State) (h : Private) where
   compares c l k me names size d left room method name receiver arg at answer st number f g len more deep q a =
       let is = sym (by_number S.program q.0 (text_of S name) builtin.Equal (q.1 ∷ []) None (number ∙ q.2)) ∙ q.6 in
       calls_pair l k me names size d left room name receiver arg at q.0 q.1 (outcome_of answer at) (q.3 S st) f g len more deep q.4 q.5 (inl (ap (λ a. outcome_of a at) (sym is))) a
+
+  -- a value that is asked by `==` whether it is nil
+  pub asks_nil : (l : Log) (k : List Cont) (sc : Scope) (d left : ℕ) (v : Val) (name : Text) (at : Span) (answer : Answer)
+      → texted S name (methods_of S v) ≡ None → builtin_of name ≡ Some builtin.Equal → equal v (Nil ∷ []) ≡ answer
+      → At S 0 N start l h (On (Give Nil) (Then (Argument (OnReceiver v name None) [] [] at) ∷ k) sc d left) → Came S N start l h (outcome_of answer at) k sc d left
+  asks_nil l k sc d left v name at answer none number q a =
+      let is = sym (by_number S.program v name builtin.Equal (Nil ∷ []) None number) ∙ q in
+      calls S N start h l v name (Nil ∷ []) at k sc d left (outcome_of answer at) none (inl (ap (λ a. outcome_of a at) (sym is))) (on _ (on _ a refl) refl)
 
   -- a call with one argument over an operation and a leaf
   pub calls_twice : (l : Log) (k : List Cont) (me : Val) (names : List NameId) (size d left : ℕ) (room : List Held) (name : NameId) (receiver arg : Code) (at : Span) (i : ℤ) (w : Val) (o : Outcome)

@@ -1,5 +1,5 @@
 -- Methods of the classes of objects, by the table of a resolved script.
-use Rattle.std.proofs.Common.{◌≡◌, ℕ, true, [], ◌++◌, Option, Some, None, refl, sym, ap, ◌∙◌}
+use Rattle.std.proofs.Common.{◌≡◌, ℕ, true, false, [], ◌++◌, Option, Some, None, refl, sym, ap, ◌∙◌}
 use Rattle.std.specs.Prelude.{codes}
 use Rattle.std.specs.Option.{option_map}
 use Rattle.std.specs.Str.{bytes_eq}
@@ -22,6 +22,9 @@ use Rattle.rb_code.specs.Erase.{erase_method}
 use Rattle.rb_code.specs.Resolved.{method_fits}
 use Rattle.rb_code.specs.Stands.{StandsFor}
 use Rattle.rb_code.proofs.Dispatched.{by_name, by_writer, by_fits, no_operator, none_empty}
+use Rattle.rb_walk.specs.declared.came.Came.{Came as Registers}
+use Rattle.rb_walk.specs.declared.came.Came.TheVariants as came
+use Rattle.rb_walk.specs.Outcome.{is_left, value_of}
 use Rattle.rb_walk.specs.Carries.{me_of}
 use Rattle.rb_walk.specs.Methods.{IsTarget, HasNone, IsWriter, HasNoWriter}
 
@@ -57,6 +60,15 @@ no_thing c (held.Int n) name f = λ S st. refl
 no_thing c (held.Sym other) name f = λ S st. refl
 no_thing c (held.Str bytes) name f = λ S st. refl
 no_thing c (held.Ref r) name f = absurd (f r refl)
+
+-- nor has one that registers hold
+pub registers_none : (c : CodeScript) (r : Registers) (w : Held) (name : NameId) → is_left r ≡ false → (r ≡ came.Other → ⊥) → HasNone c (value_of r w) name
+registers_none c came.Nil w name h n = λ S st. refl
+registers_none c came.False w name h n = λ S st. refl
+registers_none c came.True w name h n = λ S st. refl
+registers_none c (came.Int i) w name h n = λ S st. refl
+registers_none c came.Other w name h n = absurd (n refl)
+registers_none c came.Left w name h n = absurd (cc)
 
 module _ (c : CodeScript) (S : Script) (st : StandsFor c S) where
   operator_of_sort : (s : Sort) (text : Text) → is_operator text ≡ true → texted S text (methods_of_sort S s) ≡ None

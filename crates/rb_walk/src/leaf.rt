@@ -450,10 +450,23 @@ pub fn is_send(code: &Code) -> bool {
     matches!(code, Code::Send(_, _, _, _, _))
 }
 
-/// Whether a node reads an instance variable or is a call with a receiver, which may read an attribute.
+/// Whether a node reads an instance variable or is a call whose receiver is a local, which may read an attribute.
 #[inline(always)]
-pub fn is_read(code: &Code) -> bool {
-    matches!(code, Code::Field(_, _) | Code::Send(_, _, _, _, _))
+fn is_read(code: &Code) -> bool {
+    match code {
+        Code::Field(_, _) => true,
+        Code::Send(_, _, receiver, _, _) => is_local(receiver.get()),
+        _ => false,
+    }
+}
+
+/// Whether an operand of a call with one argument may be read from an object. Beside nil none is.
+#[inline(always)]
+pub fn has_read(left: &Code, right: &Code) -> bool {
+    match right {
+        Code::Nil(_) => false,
+        _ => is_read(left) || is_read(right),
+    }
 }
 
 /// Whether an operand takes three steps, where it is one that is read or computed at once.

@@ -1,7 +1,7 @@
 // Answers of values that need neither memory nor a thing.
 
 ghost use Rattle.rb_tree.specs.declared.node.Program.{Program};
-ghost use Rattle.std.specs.Prelude.{◌≡◌, ℕ, List, [], ◌∷◌, map, Some, None, IfSome};
+ghost use Rattle.std.specs.Prelude.{◌≡◌, ℕ, List, [], ◌∷◌, map, Some, None, IfSome, true, false};
 ghost use Rattle.rb_model.specs.Values.{Nil, plain, truth, same};
 ghost use Rattle.rb_machine.specs.Methods.{Gives, deed, equal};
 ghost use Rattle.rb_builtin.specs.declared.builtin.Builtin.TheVariants as builtin;
@@ -9,11 +9,15 @@ ghost use Rattle.rb_builtin.specs.Names.{builtin_of};
 ghost use Rattle.rb_builtin.specs.declared.integer.IntegerAnswer.TheVariants as answer;
 ghost use Rattle.rb_builtin.specs.Deeds.{answer_by_number};
 ghost use Rattle.rb_builtin.specs.Integers as integers;
-ghost use Rattle.rb_walk.specs.Methods.{IsCompared};
+ghost use Rattle.rb_walk.specs.Methods.{HasNone, IsCompared};
+ghost use Rattle.rb_walk.specs.Outcome.{is_left, value_of};
+ghost use Rattle.rb_walk.specs.Answers.{IsHeld};
+ghost use Rattle.rb_model.specs.declared.value.Value.{Value as Held};
 
+use crate::came::Came;
 use crate::dispatch::Methods;
 use crate::gathering::is_collection;
-use crate::leaf::local_at;
+use crate::leaf::{held_at, local_at};
 use crate::target::target_of;
 use rb_builtin::{Builtin, IntegerAnswer};
 use rb_code::Code;
@@ -116,6 +120,60 @@ fn same_as(value: &Value, other: &Value) -> Option<IntegerAnswer>
         return None;
     }
     Some(truth_of(*value == *other))
+}
+
+/// Whether a call with one argument asks by `==` whether a value is nil.
+#[inline(always)]
+pub fn is_nil_asked(method: Option<Builtin>, right: &Code) -> bool
+    ensures method { result ≡ true → method ≡ Some builtin.Equal }
+    ensures right { result ≡ true → (room : List Held) → IsHeld right.now room Nil }
+{
+    let Some(Builtin::Equal) = method else {
+        return false;
+    };
+    let Code::Nil(_) = right else {
+        return false;
+    };
+    true
+}
+
+/// Whether what came is nil; `held` is the value that registers do not hold.
+#[inline(always)]
+pub fn nil_came(came: Came, held: &Value) -> IntegerAnswer
+    requires { is_left came ≡ false }
+    ensures { equal (value_of came held.now) (Nil ∷ []) ≡ integers.answer_of result }
+{
+    match came {
+        Came::Nil => IntegerAnswer::True,
+        Came::False | Came::True | Came::Int(_) | Came::Left => IntegerAnswer::False,
+        Came::Other => truth_of(is_nil(held)),
+    }
+}
+
+/// The value of a local that a call without arguments finds no method of a class for: one that is no thing, or any that is asked whether it
+/// is nil.
+#[inline(always)]
+pub fn answering<'r>(
+    script: &Methods<'_>,
+    method: Option<Builtin>,
+    name: NameId,
+    code: &Code,
+    room: &'r [Value],
+) -> Option<&'r Value>
+    ensures held { IfSome result (λ held. IsHeld code.now room.now (plain held.now)) }
+    ensures alone { IfSome result (λ held. HasNone script.now (plain held.now) name) }
+{
+    if let Some(held) = held_at(code, room) {
+        return Some(held);
+    }
+    let Some(Builtin::IsNil) = method else {
+        return None;
+    };
+    let held = local_at(code, room)?;
+    match target_of(script, held, name) {
+        Some(_) => None,
+        None => Some(held),
+    }
 }
 
 /// Whether the value of a local is nil or that of another local, where a call asks this and the class of the value has no such method.

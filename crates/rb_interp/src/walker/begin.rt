@@ -18,10 +18,10 @@ use rb_tree::{NameId, Span};
 use rb_walk::MAX_DEPTH;
 use rb_walk::came::{Came, Cut, Leave, is_left};
 use rb_walk::leaf::{
-    held_alone, held_at, integer_at, is_combining, is_deep, is_object_at, is_operate, is_read,
+    has_read, held_alone, held_at, integer_at, is_combining, is_deep, is_object_at, is_operate,
     is_send, local_at, method_of, quick, quick_update, update_over,
 };
-use rb_walk::ready::compared;
+use rb_walk::ready::{answering, compared};
 use rb_walk::target::{local_collection, local_target, reader_of};
 
 impl<'p, O: ThreadStore + Drop> Walker<'p, O> {
@@ -195,7 +195,7 @@ impl<'p, O: ThreadStore + Drop> Walker<'p, O> {
                 if is_object_at(left, room) {
                     return self.begin_object_operate(code, depth, room);
                 }
-                if is_read(left) || is_read(right) {
+                if has_read(left, right) {
                     return self.begin_read_operate(code, depth, room);
                 }
                 self.begin_slow_operate(code, depth, room)
@@ -385,7 +385,7 @@ impl<'p, O: ThreadStore + Drop> Walker<'p, O> {
         if self.left < 2 || depth >= MAX_DEPTH {
             return None;
         }
-        let held = held_at(receiver, room)?;
+        let held = answering(self.context.script, method, name, receiver, room)?;
         self.left -= 1;
         Some(self.call_held(held, method, &[], at))
     }
@@ -459,7 +459,7 @@ impl<'p, O: ThreadStore + Drop> Walker<'p, O> {
         self.read_attribute(code, depth, room)
     }
 
-    /// A call with a receiver that is no leaf, without a block.
+    /// A call with a receiver, without a block, where the receiver is evaluated as any node is.
     #[cycle(walk)]
     #[inline(never)]
     pub(super) fn begin_far_send(&mut self, code: &'p Code, depth: u32, room: &mut [Value]) -> Came
@@ -510,7 +510,7 @@ impl<'p, O: ThreadStore + Drop> Walker<'p, O> {
                 }
                 match self.sent(*method, *name, receiver, args, *at, depth, room) {
                     Some(came) => came,
-                    None => self.send(*method, *name, receiver, args, *at, depth, room),
+                    None => self.begin_far_send(code, depth, room),
                 }
             }
             _ => self.over(Cut::Memory),

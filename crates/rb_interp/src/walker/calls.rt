@@ -23,6 +23,7 @@ use rb_walk::asked::style_by;
 use rb_walk::bytes::{add_bytes, add_value};
 use rb_walk::came::{Came, Cut, is_left};
 use rb_walk::leaf::{local_at, small, written};
+use rb_walk::ready::{is_nil_asked, nil_came};
 use rb_walk::rounds::Iterations;
 use rb_walk::slots::{last_of, passed, put, start_block};
 use rb_walk::target::{Target, target_of};
@@ -51,7 +52,7 @@ impl<'p, O: ThreadStore + Drop> Walker<'p, O> {
         ensures kept { Keeps self.old.context.script.now self.old.context.program.now (numbered method name (both (λ S. fits S left.now) (λ S. fits S right.now))) self.old.base room.old room.new }
         ensures came { Carries self.old.context.script.now self.old.context.program.now self.old.context.steps (me_of self.old.context.me) (numbered method name (both (λ S. fits S left.now) (λ S. fits S right.now))) (λ S k sc d n. On (Eval (erase left.now)) (Then (ReceiverOf (text_of S name) (erase right.now ∷ []) None at) ∷ k) sc d n) self.old.base depth self.old.left self.new.left room.old room.new (O.log self.old.store) (O.log self.new.store) (O.private self.old.store) (O.private self.new.store) (outcome result self.new.value self.new.leave) }
     {
-        let came = self.evaluate_call(left, depth, room);
+        let came = self.evaluate(left, depth, room);
         if is_left(came) {
             return came;
         }
@@ -93,7 +94,8 @@ impl<'p, O: ThreadStore + Drop> Walker<'p, O> {
         self.operated_by(method, m, came, at)
     }
 
-    /// The argument of a call whose receiver is any value.
+    /// The argument of a call whose receiver is any value. A method that the class of an object has is found before; asked for nil, the value
+    /// stays where it is.
     #[cycle(walk)]
     #[inline(never)]
     pub(super) fn operate_value(
@@ -117,6 +119,16 @@ impl<'p, O: ThreadStore + Drop> Walker<'p, O> {
         ensures kept { Keeps self.old.context.script.now self.old.context.program.now (numbered method name (λ S. fits S right.now)) self.old.base room.old room.new }
         ensures came { Carries self.old.context.script.now self.old.context.program.now self.old.context.steps (me_of self.old.context.me) (numbered method name (λ S. fits S right.now)) (λ S k sc d n. On (Eval (erase right.now)) (Then (Argument (OnReceiver (value_of came self.old.value) (text_of S name) None) [] [] at) ∷ k) sc d n) self.old.base depth self.old.left self.new.left room.old room.new (O.log self.old.store) (O.log self.new.store) (O.private self.old.store) (O.private self.new.store) (outcome result self.new.value self.new.leave) }
     {
+        if self.left > 0 && depth < MAX_DEPTH {
+            if let Some(target) = self.target_now(came, name) {
+                return self.operate_target(target, name, right, at, depth, room);
+            }
+            if is_nil_asked(method, right) {
+                self.left -= 1;
+                let answer = nil_came(came, &self.value);
+                return self.answer(answer, at);
+            }
+        }
         let receiver = self.take(came);
         let came = self.walk(right, depth, room);
         if is_left(came) {
@@ -197,9 +209,10 @@ impl<'p, O: ThreadStore + Drop> Walker<'p, O> {
         self.asked_with(thing, method, came, at, depth)
     }
 
-    /// A call with a receiver, without a block.
+    /// A call with a receiver, without a block. The method that the class of an object has is found while the object is what came.
+    // The depth is tested as each caller of `send_target` does, which need not test it then.
     #[cycle(walk)]
-    #[inline(never)]
+    #[inline(always)]
     pub(super) fn send(
         &mut self,
         method: Option<Builtin>,
@@ -220,9 +233,17 @@ impl<'p, O: ThreadStore + Drop> Walker<'p, O> {
         ensures kept { Keeps self.old.context.script.now self.old.context.program.now (numbered method name (both (λ S. fits S receiver.now) (λ S. every (map (fits S) args.now)))) self.old.base room.old room.new }
         ensures came { Carries self.old.context.script.now self.old.context.program.now self.old.context.steps (me_of self.old.context.me) (numbered method name (both (λ S. fits S receiver.now) (λ S. every (map (fits S) args.now)))) (λ S k sc d n. On (Eval (erase receiver.now)) (Then (ReceiverOf (text_of S name) (map erase args.now) None at) ∷ k) sc d n) self.old.base depth self.old.left self.new.left room.old room.new (O.log self.old.store) (O.log self.new.store) (O.private self.old.store) (O.private self.new.store) (outcome result self.new.value self.new.leave) }
     {
-        let came = self.walk(receiver, depth, room);
+        let came = self.walk_here(receiver, depth, room);
         if is_left(came) {
             return came;
+        }
+        if depth < MAX_DEPTH {
+            if let Some(target) = self.target_now(came, name) {
+                if let Some(read) = self.entered_reader(target, args.len(), depth) {
+                    return read;
+                }
+                return self.send_target(target, name, args, at, depth, room);
+            }
         }
         let receiver = self.take(came);
         let before = self.base;
@@ -310,7 +331,8 @@ impl<'p, O: ThreadStore + Drop> Walker<'p, O> {
         self.stored(thing, method, index, came, at, depth)
     }
 
-    /// An assignment by the call of a method.
+    /// An assignment by the call of a method. What it is of an object, an array or a hash is found while that is what came.
+    // The depth is tested as each caller of `store_target` does, which need not test it then.
     #[cycle(walk)]
     #[inline(never)]
     pub(super) fn store_by(
@@ -336,6 +358,18 @@ impl<'p, O: ThreadStore + Drop> Walker<'p, O> {
         let came = self.walk(receiver, depth, room);
         if is_left(came) {
             return came;
+        }
+        if depth < MAX_DEPTH {
+            if let [only] = args {
+                if let Some(target) = self.target_now(came, name) {
+                    return self.store_target(target, name, only, at, depth, room);
+                }
+            }
+            if let [index, value] = args {
+                if let Some(thing) = self.collection_now(came) {
+                    return self.store_element(thing, method, name, index, value, at, depth, room);
+                }
+            }
         }
         let receiver = self.take(came);
         let before = self.base;

@@ -24,6 +24,7 @@ use rb_tree::Span;
 use rb_walk::came::{Came, Cut, immediate, immediate_of, is_left, is_told};
 use rb_walk::gathering::{collection_of, copies, has_bad_key, pairs_in, parts_of};
 use rb_walk::questions::{index_for, is_element, is_key_put, place_for, put_of, question_of};
+use rb_walk::ready::ready_answer;
 use rb_walk::slots::last_of;
 
 /// How many elements an array may have.
@@ -232,6 +233,9 @@ impl<'p, O: ThreadStore + Drop> Walker<'p, O> {
         ensures log { O.log self.new.store ≡ O.log self.old.store }
         ensures came { CallsBuiltin self.old.context.steps self.old.context.program.now method (plain receiver.now) (map plain args.now) at depth self.old.left self.new.left (O.log self.old.store) (O.private self.old.store) (O.private self.new.store) (outcome result self.new.value self.new.leave) }
     {
+        if let Some(answer) = ready_answer(method, receiver, args) {
+            return self.answer(answer, at);
+        }
         match question_of(receiver, method, args) {
             Some(question) => self.ask_behind(question.thing, question.act, question.behind, at),
             None => self.call_by_table(receiver, method, args, at, depth),

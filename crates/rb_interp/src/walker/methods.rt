@@ -1,6 +1,6 @@
 // Methods of the script: which one a call finds, and how it is entered.
 
-ghost use Rattle.std.specs.Prelude.{◌≡◌, ◌≤◌, ◌<◌, ◌*◌, ℕ, false, List, [], ◌∷◌, length, map, slice_get, IfSome, None};
+ghost use Rattle.std.specs.Prelude.{◌≡◌, ◌≤◌, ◌<◌, ◌*◌, ℕ, false, List, [], ◌∷◌, length, map, slice_get, IfSome, Some, None};
 ghost use Rattle.rb_model.specs.Values.{Int, plain};
 ghost use Rattle.rb_model.specs.declared.value.Value.{Value as Held};
 ghost use Rattle.rb_model.specs.Log.{has_end};
@@ -37,6 +37,20 @@ impl<'p, O: ThreadStore + Drop> Walker<'p, O> {
             None => None,
             Some(object) => target_of(self.context.script, &Value::Ref(object), name),
         }
+    }
+
+    /// The method of its class that a name finds for what came.
+    #[inline(always)]
+    pub(super) fn target_now(&self, came: Came, name: NameId) -> Option<Target<'p>>
+        ensures value { IfSome result (λ t. value_of came self.now.value ≡ me_of (Some t.object)) }
+        ensures target { IfSome result (λ t. IsTarget self.now.context.script.now (me_of (Some t.object)) name t.object t.method.now) }
+        ensures none { is_left came ≡ false → result ≡ None → HasNone self.now.context.script.now (value_of came self.now.value) name }
+    {
+        let Came::Other = came else {
+            return None;
+        };
+        let target = target_of(self.context.script, &self.value, name)?;
+        Some(target)
     }
 
     /// Enters a method with arguments, of which there are so many behind the frame.
@@ -110,7 +124,12 @@ impl<'p, O: ThreadStore + Drop> Walker<'p, O> {
 
     /// What comes of a method that was found, where it is entered without arguments and only reads an instance variable. Else nothing is done.
     #[inline(always)]
-    fn entered_reader(&mut self, target: Target<'p>, count: usize, depth: u32) -> Option<Came>
+    pub(super) fn entered_reader(
+        &mut self,
+        target: Target<'p>,
+        count: usize,
+        depth: u32,
+    ) -> Option<Came>
         requires unended { has_end (O.log self.old.store).entries ≡ false }
         ensures none { result ≡ None → self.new ≡ self.old }
         ensures count { IfSome result (λ _. count ≡ 0) }

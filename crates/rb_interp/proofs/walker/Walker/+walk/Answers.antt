@@ -24,7 +24,7 @@ use Rattle.rb_walk.proofs.Steps.{and_goes, and_stops, or_goes, or_stops, negated
 use Rattle.rb_machine.specs.Scopes.{text_of}
 use Rattle.rb_builtin.specs.Names.{builtin_of}
 use Rattle.rb_builtin.proofs.Table.{same_is}
-use Rattle.rb_walk.proofs.Quick.{compares, calls_pair, calls_twice, updates, updates_over}
+use Rattle.rb_walk.proofs.Quick.{asks_nil, compares, calls_pair, calls_twice, updates, updates_over}
 use Rattle.rb_walk.proofs.Calls.{calls, no_such, none_plain}
 use Rattle.rb_walk.proofs.Places.{operator_number, or_else_stays, or_else_goes, and_then_stays, and_then_goes, operates, reads, attribute_is, target_local, target_field, target_element, target_attribute}
 use mathlib.Core.Logic.{inl}
@@ -39,7 +39,7 @@ use Rattle.rb_machine.specs.Begin.{begin_return}
 use Rattle.rb_walk.proofs.Pieces.{piece_code, shows_text, shows_code, joining, joins_code, text_long, text_joins, whole_text, too_long, not_long, asks_piece}
 use Rattle.std.proofs.lemmas.Int.{ints, to_z-of_z}
 use Rattle.rb_code.specs.Layout.{bound}
-use Rattle.rb_machine.specs.Control.{ForEach, Walking}
+use Rattle.rb_machine.specs.Control.{ForEach, Give, Passing, Walking}
 use Rattle.rb_machine.specs.Turns.{holding}
 use Rattle.rb_machine.specs.Methods.{LoopsOver, EachPairOf}
 use Rattle.rb_model.specs.Values.{To}
@@ -996,18 +996,18 @@ arguments-returns-clause-came g m c = λ aim at S start k names size st e l a.
 
 pub send-returns-then-is_left-clause-kept : goal.send-returns-then-is_left-clause-kept
 send-returns-then-is_left-clause-kept g m c = λ S names size st e l i p q.
-    c.walk-came.ensures.kept S names size st e (sub (fits S c.args.receiver.now) l (fst _ _ (snd _ _ l.fits))) i p q
+    c.walk_here-came.ensures.kept S names size st e (sub (fits S c.args.receiver.now) l (fst _ _ (snd _ _ l.fits))) i p q
 
 pub send-returns-then-is_left-clause-came : goal.send-returns-then-is_left-clause-came
 send-returns-then-is_left-clause-came g m c = λ S start k names size st e l a.
-    let w = c.walk-came in
+    let w = c.walk_here-came in
     let step = ReceiverOf (text_of S c.args.name) (map erase c.args.args.now) None c.args.at in
     let come = w.ensures.came S start (Then step ∷ k) names size st e (sub (fits S c.args.receiver.now) l (fst _ _ (snd _ _ l.fits))) a in
     passes S _ start _ w.result w.new.self.value w.new.self.leave _ step k _ _ _ (sym c.is_left.ensures ∙ c.if-is_left.true) come
 
 pub send-returns-then-is_left-2-clause-kept : goal.send-returns-then-is_left-2-clause-kept
 send-returns-then-is_left-2-clause-kept g m c = λ S names size st e l i p q.
-    let w = c.walk-came in
+    let w = c.walk_here-came in
     let first = w.ensures.kept S names size st e (sub (fits S c.args.receiver.now) l (fst _ _ (snd _ _ l.fits))) i p q in
     let under = moved _ _ (c.take-receiver.ensures.base ∙ w.ensures.base) w.ensures.room (sub (every (map (fits S) c.args.args.now)) l (snd _ _ (snd _ _ l.fits))) in
     let f = rw (c.take-receiver.ensures.context, w.ensures.context) at c.arguments-came.ensures.kept in
@@ -1015,7 +1015,7 @@ send-returns-then-is_left-2-clause-kept g m c = λ S names size st e l i p q.
 
 pub send-returns-then-is_left-2-clause-came : goal.send-returns-then-is_left-2-clause-came
 send-returns-then-is_left-2-clause-came g m c = λ S start k names size st e l a.
-    let w = c.walk-came in
+    let w = c.walk_here-came in
     let step = ReceiverOf (text_of S c.args.name) (map erase c.args.args.now) None c.args.at in
     let come = w.ensures.came S start (Then step ∷ k) names size st e (sub (fits S c.args.receiver.now) l (fst _ _ (snd _ _ l.fits))) a in
     let none = sym c.is_left.ensures ∙ c.if-is_left.false in
@@ -1804,11 +1804,11 @@ begin_operate-returns-in-Some-clause-came g m c = λ S start k names size st e l
     rw (o.gives, o.left, o.store, sym (is.4 S.program (text_of S x.field-1) number))
     (calls_pair S _ start _ _ k _ names size c.args.depth c.args.self.now.left c.args.room.now x.field-1 first second x.at (Int is.0) (Int is.1) _ (none_plain S (Int is.0) (text_of S x.field-1) refl) fl fr len c.if-self-gt1.true c.if-depth-lt-MAX_DEPTH.true is.2 is.3 (inl refl) (rw (c.get-left.ensures, c.get-right.ensures) b))
 
-pub begin_operate-returns-then-is_read-clause-kept : goal.begin_operate-returns-then-is_read-clause-kept
-begin_operate-returns-then-is_read-clause-kept g m c = c.begin_read_operate.ensures.kept
+pub begin_operate-returns-then-has_read-clause-kept : goal.begin_operate-returns-then-has_read-clause-kept
+begin_operate-returns-then-has_read-clause-kept g m c = c.begin_read_operate.ensures.kept
 
-pub begin_operate-returns-then-is_read-clause-came : goal.begin_operate-returns-then-is_read-clause-came
-begin_operate-returns-then-is_read-clause-came g m c = c.begin_read_operate.ensures.came
+pub begin_operate-returns-then-has_read-clause-came : goal.begin_operate-returns-then-has_read-clause-came
+begin_operate-returns-then-has_read-clause-came g m c = c.begin_read_operate.ensures.came
 
 pub begin_read_operate-returns-in_default-clause-came : goal.begin_read_operate-returns-in_default-clause-came
 begin_read_operate-returns-in_default-clause-came g m c = λ S start k names size st e l a.
@@ -1973,34 +1973,24 @@ begin_slow_send-returns-in-Some-sent-clause-came g m c = λ S start k names size
     c.in-Some-sent.ensures.came S start k names size st e number right len (rw c.get-receiver.ensures b)
 
 pub begin_slow_send-returns-in-None-clause-kept : goal.begin_slow_send-returns-in-None-clause-kept
-begin_slow_send-returns-in-None-clause-kept g m c = λ S names size st e l i p q.
-    let x = c.in-Send in
-    let s = sym (ap (λ d. fits S d names size) x.is ∙ fits-send S names size x.method x.name x.receiver x.args x.at) ∙ l.fits in
-    let under = sub _ l (rw (c.get-receiver.ensures, c.as_slice-args.ensures) s) in
-    let kept = rw (c.sent.ensures.none c.in-None.is) at c.send.ensures.kept in
-    kept S names size st e under i p q
+begin_slow_send-returns-in-None-clause-kept g m c = rw (c.sent.ensures.none c.in-None.is) at c.begin_far_send.ensures.kept
 
 pub begin_slow_send-returns-in-None-clause-came : goal.begin_slow_send-returns-in-None-clause-came
-begin_slow_send-returns-in-None-clause-came g m c = λ S start k names size st e l a.
-    let x = c.in-Send in
-    let s = sym (ap (λ d. fits S d names size) x.is ∙ fits-send S names size x.method x.name x.receiver x.args x.at) ∙ l.fits in
-    let under = sub _ l (rw (c.get-receiver.ensures, c.as_slice-args.ensures) s) in
-    let came = rw (c.sent.ensures.none c.in-None.is) at c.send.ensures.came in
-    came S start k names size st e under (rw (c.get-receiver.ensures, c.as_slice-args.ensures) (begins _ _ k _ _ _ (shows-send c.args.code.now x.method x.name x.receiver x.args x.at x.is) a))
+begin_slow_send-returns-in-None-clause-came g m c = rw (c.sent.ensures.none c.in-None.is) at c.begin_far_send.ensures.came
 
 pub operate-returns-then-is_left-clause-came : goal.operate-returns-then-is_left-clause-came
 operate-returns-then-is_left-clause-came g m c = λ S start k names size st e l a.
-    let w = c.evaluate_call-came in
+    let w = c.evaluate-came in
     let e1 = w.ensures.came S start (Then (ReceiverOf (text_of S c.args.name) (erase c.args.right.now ∷ []) None c.args.at) ∷ k) names size st e (sub (fits S c.args.left.now) l (fst _ _ (snd _ _ l.fits))) a in
     passes S _ start _ w.result w.new.self.value w.new.self.leave _ (ReceiverOf (text_of S c.args.name) (erase c.args.right.now ∷ []) None c.args.at) k _ _ _ (sym c.is_left.ensures ∙ c.if-is_left.true) e1
 
 pub operate-returns-then-is_left-clause-kept : goal.operate-returns-then-is_left-clause-kept
 operate-returns-then-is_left-clause-kept g m c = λ S names size st e l i p q.
-    c.evaluate_call-came.ensures.kept S names size st e (sub (fits S c.args.left.now) l (fst _ _ (snd _ _ l.fits))) i p q
+    c.evaluate-came.ensures.kept S names size st e (sub (fits S c.args.left.now) l (fst _ _ (snd _ _ l.fits))) i p q
 
 pub operate-returns-in-Int-clause-kept : goal.operate-returns-in-Int-clause-kept
 operate-returns-in-Int-clause-kept g m c = λ S names size st e l i p q.
-    let w = c.evaluate_call-came in
+    let w = c.evaluate-came in
     let right = two _ (fits S c.args.right.now names size) (fst _ _ l.fits) (snd _ _ (snd _ _ l.fits)) in
     let under = moved _ _ w.ensures.base w.ensures.room (sub (numbered c.args.method c.args.name (λ S. fits S c.args.right.now) S) l right) in
     let f = rw w.ensures.context at c.operate_integer.ensures.kept in
@@ -2008,7 +1998,7 @@ operate-returns-in-Int-clause-kept g m c = λ S names size st e l i p q.
 
 pub operate-returns-in-Int-clause-came : goal.operate-returns-in-Int-clause-came
 operate-returns-in-Int-clause-came g m c = λ S start k names size st e l a.
-    let w = c.evaluate_call-came in
+    let w = c.evaluate-came in
     let e1 = w.ensures.came S start (Then (ReceiverOf (text_of S c.args.name) (erase c.args.right.now ∷ []) None c.args.at) ∷ k) names size st e (sub (fits S c.args.left.now) l (fst _ _ (snd _ _ l.fits))) a in
     let g1 = given w.result w.new.self.value w.new.self.leave (sym c.is_left.ensures ∙ c.if-is_left.false) e1 in
     let z : to_z w64 (of_z w64 c.in-Int.m) ≡ c.in-Int.m = search rules in
@@ -2022,7 +2012,7 @@ operate-returns-in-Int-clause-came g m c = λ S start k names size st e l a.
 
 pub operate-returns-in-None-clause-kept : goal.operate-returns-in-None-clause-kept
 operate-returns-in-None-clause-kept g m c = λ S names size st e l i p q.
-    let w = c.evaluate_call-came in
+    let w = c.evaluate-came in
     let right = two _ (fits S c.args.right.now names size) (fst _ _ l.fits) (snd _ _ (snd _ _ l.fits)) in
     let under = moved _ _ w.ensures.base w.ensures.room (sub (numbered c.args.method c.args.name (λ S. fits S c.args.right.now) S) l right) in
     let f = rw w.ensures.context at c.operate_value.ensures.kept in
@@ -2030,7 +2020,7 @@ operate-returns-in-None-clause-kept g m c = λ S names size st e l i p q.
 
 pub operate-returns-in-None-clause-came : goal.operate-returns-in-None-clause-came
 operate-returns-in-None-clause-came g m c = λ S start k names size st e l a.
-    let w = c.evaluate_call-came in
+    let w = c.evaluate-came in
     let e1 = w.ensures.came S start (Then (ReceiverOf (text_of S c.args.name) (erase c.args.right.now ∷ []) None c.args.at) ∷ k) names size st e (sub (fits S c.args.left.now) l (fst _ _ (snd _ _ l.fits))) a in
     let g1 = given w.result w.new.self.value w.new.self.leave (sym c.is_left.ensures ∙ c.if-is_left.false) e1 in
     let g2 = g1 in
@@ -2468,11 +2458,11 @@ evaluate_call-returns-in-Some-quick_twice-clause-came g m c = λ S start k names
     rw (o.gives, o.left, o.store, sym (is.4 S.program (text_of S x.field-1) number), fifth)
     (left S _ start _ _ _ k _ _ _ _ (calls_twice S _ start _ _ inside _ names size (c.args.depth + 1) (c.args.self.now.left - 1) c.args.room.now x.field-1 first second x.at is.0 (Int is.1) _ fl fr len (omega (arith, c.if-self-gt6.true)) (omega (arith, c.if-depth.true)) is.2 is.3 (inl refl) (rw (c.get-left.ensures, c.get-right.ensures) b)))
 
-pub evaluate_call-returns-then-is_read-clause-kept : goal.evaluate_call-returns-then-is_read-clause-kept
-evaluate_call-returns-then-is_read-clause-kept g m c = c.begin_read_operate.ensures.kept
+pub evaluate_call-returns-then-has_read-clause-kept : goal.evaluate_call-returns-then-has_read-clause-kept
+evaluate_call-returns-then-has_read-clause-kept g m c = c.begin_read_operate.ensures.kept
 
-pub evaluate_call-returns-then-is_read-clause-came : goal.evaluate_call-returns-then-is_read-clause-came
-evaluate_call-returns-then-is_read-clause-came g m c = λ S start k names size st e l a.
+pub evaluate_call-returns-then-has_read-clause-came : goal.evaluate_call-returns-then-has_read-clause-came
+evaluate_call-returns-then-has_read-clause-came g m c = λ S start k names size st e l a.
     left S _ start _ _ _ k _ _ _ _ (c.begin_read_operate.ensures.came S start (Under c.args.depth ∷ k) names size st e l (counts (omega (arith, c.if-self-gt6.true)) (omega (arith, c.if-depth.true)) a))
 
 pub evaluate_call-returns-then-depth-clause-kept : goal.evaluate_call-returns-then-depth-clause-kept
@@ -2521,17 +2511,23 @@ evaluate_call-returns-else-self-gt0-2-clause-kept g m c = c.walk-in-Send.ensures
 pub evaluate_call-returns-else-self-gt0-2-clause-came : goal.evaluate_call-returns-else-self-gt0-2-clause-came
 evaluate_call-returns-else-self-gt0-2-clause-came g m c = c.walk-in-Send.ensures.came
 
-pub evaluate_call-returns-in-Field-clause-kept : goal.evaluate_call-returns-in-Field-clause-kept
-evaluate_call-returns-in-Field-clause-kept g m c = c.evaluate_operand.ensures.kept
+pub evaluate_call-returns-then-depth-lt-MAX_DEPTH-3-clause-came : goal.evaluate_call-returns-then-depth-lt-MAX_DEPTH-3-clause-came
+evaluate_call-returns-then-depth-lt-MAX_DEPTH-3-clause-came g m c = λ S start k names size st e l a.
+    let o = c.field_apart.ensures in
+    let b = begins _ _ (Under c.args.depth ∷ k) _ _ _ (shows-field c.args.code.now c.in-Field.name c.in-Field.at c.in-Field.is) (counts c.if-self-gt0-3.true c.if-depth-lt-MAX_DEPTH-3.true a) in
+    rw (o.left, o.log) (left S _ start _ _ _ k _ _ _ _ (o.came S start (Under c.args.depth ∷ k) _ (c.args.depth + 1) b))
 
-pub evaluate_call-returns-in-Field-clause-came : goal.evaluate_call-returns-in-Field-clause-came
-evaluate_call-returns-in-Field-clause-came g m c = c.evaluate_operand.ensures.came
+pub evaluate_call-returns-else-self-gt0-3-clause-kept : goal.evaluate_call-returns-else-self-gt0-3-clause-kept
+evaluate_call-returns-else-self-gt0-3-clause-kept g m c = c.walk-in-Field.ensures.kept
+
+pub evaluate_call-returns-else-self-gt0-3-clause-came : goal.evaluate_call-returns-else-self-gt0-3-clause-came
+evaluate_call-returns-else-self-gt0-3-clause-came g m c = c.walk-in-Field.ensures.came
 
 pub evaluate_call-returns-in-Local-clause-kept : goal.evaluate_call-returns-in-Local-clause-kept
-evaluate_call-returns-in-Local-clause-kept g m c = c.evaluate_operand-in-Local.ensures.kept
+evaluate_call-returns-in-Local-clause-kept g m c = c.evaluate_operand.ensures.kept
 
 pub evaluate_call-returns-in-Local-clause-came : goal.evaluate_call-returns-in-Local-clause-came
-evaluate_call-returns-in-Local-clause-came g m c = c.evaluate_operand-in-Local.ensures.came
+evaluate_call-returns-in-Local-clause-came g m c = c.evaluate_operand.ensures.came
 
 pub evaluate_call-returns-in-False-clause-kept : goal.evaluate_call-returns-in-False-clause-kept
 evaluate_call-returns-in-False-clause-kept g m c = c.evaluate_operand-in-False.ensures.kept
@@ -2856,8 +2852,8 @@ begin_print-returns-in-Some-clause-came g m c = λ S start k names size st e l a
     let right = printing_is S c.args.form c.args.name (λ s. every (map (fits s) c.args.args.now)) names size l.fits in
     c.own.ensures.came S start k names size st e (sub (every (map (fits S) c.args.args.now)) l right.2) a
 
-pub operate_value-returns-in-Some-clause-kept : goal.operate_value-returns-in-Some-clause-kept
-operate_value-returns-in-Some-clause-kept g m c = λ S names size st e l i p q.
+pub operate_value-returns-in-Some-target_of-clause-kept : goal.operate_value-returns-in-Some-target_of-clause-kept
+operate_value-returns-in-Some-target_of-clause-kept g m c = λ S names size st e l i p q.
     let t = c.take-receiver in
     let w = c.walk-came in
     let u = c.take-arg in
@@ -2865,8 +2861,8 @@ operate_value-returns-in-Some-clause-kept g m c = λ S names size st e l i p q.
     let under = moved _ _ t.ensures.base refl (sub (fits S c.args.right.now) l (snd _ _ l.fits)) in
     c.enter_with.ensures.kept i (omega (arith, q, t.ensures.base, w.ensures.base, u.ensures.base)) ∙ f S names size st e under i p (omega (arith, q, t.ensures.base))
 
-pub operate_value-returns-in-Some-clause-came : goal.operate_value-returns-in-Some-clause-came
-operate_value-returns-in-Some-clause-came g m c = λ S start k names size st e l a.
+pub operate_value-returns-in-Some-target_of-clause-came : goal.operate_value-returns-in-Some-target_of-clause-came
+operate_value-returns-in-Some-target_of-clause-came g m c = λ S start k names size st e l a.
     let t = c.take-receiver in
     let w = c.walk-came in
     let u = c.take-arg in
@@ -2876,15 +2872,15 @@ operate_value-returns-in-Some-clause-came g m c = λ S start k names size st e l
     let come = f S start (Then (Argument (OnReceiver v (text_of S c.args.name) None) [] [] c.args.at) ∷ k) names size st e under a in
     let g1 = given w.result w.new.self.value w.new.self.leave (sym c.is_left.ensures ∙ c.if-is_left.false) come in
     let x = value_of w.result w.new.self.value in
-    let target = rw (u.ensures.context, w.ensures.context, t.ensures.context, t.ensures.value) at c.in-Some.ensures.some in
-    let entered = same (on _ (on _ g1 refl) refl) (by_receiver S v (me_of (Some c.in-Some.target.object)) (text_of S c.args.name) (erase_method c.in-Some.target.method.now) (x ∷ []) c.args.at k _ _ _ (target.finds S st) target.me) in
+    let target = rw (u.ensures.context, w.ensures.context, t.ensures.context, t.ensures.value) at c.in-Some-target_of.ensures.some in
+    let entered = same (on _ (on _ g1 refl) refl) (by_receiver S v (me_of (Some c.in-Some-target_of.target.object)) (text_of S c.args.name) (erase_method c.in-Some-target_of.target.method.now) (x ∷ []) c.args.at k _ _ _ (target.finds S st) target.me) in
     let base = u.ensures.base ∙ (w.ensures.base ∙ t.ensures.base) in
     let h1 = rw (u.ensures.context, w.ensures.context, t.ensures.context, u.ensures.left, u.ensures.store, u.ensures.value) at c.enter_with.ensures.came in
     h1 S start k names st e (target.right S st) (omega (arith, l.within, l.below, base)) (omega (arith, l.room, base, w.ensures.room)) entered
 
 pub send-returns-clause-kept : goal.send-returns-clause-kept
 send-returns-clause-kept g m c = λ S names size st e l i p q.
-    let w = c.walk-came in
+    let w = c.walk_here-came in
     let first = w.ensures.kept S names size st e (sub (fits S c.args.receiver.now) l (fst _ _ (snd _ _ l.fits))) i p q in
     let under = moved _ _ (c.take-receiver.ensures.base ∙ w.ensures.base) w.ensures.room (sub (every (map (fits S) c.args.args.now)) l (snd _ _ (snd _ _ l.fits))) in
     let f = rw (c.take-receiver.ensures.context, w.ensures.context) at c.arguments-came.ensures.kept in
@@ -2892,7 +2888,7 @@ send-returns-clause-kept g m c = λ S names size st e l i p q.
 
 pub send-returns-clause-came : goal.send-returns-clause-came
 send-returns-clause-came g m c = λ S start k names size st e l a.
-    let w = c.walk-came in
+    let w = c.walk_here-came in
     let step = ReceiverOf (text_of S c.args.name) (map erase c.args.args.now) None c.args.at in
     let come = w.ensures.came S start (Then step ∷ k) names size st e (sub (fits S c.args.receiver.now) l (fst _ _ (snd _ _ l.fits))) a in
     let none = sym c.is_left.ensures ∙ c.if-is_left.false in
@@ -3178,8 +3174,8 @@ store_by-returns-then-is_left-2-clause-came g m c = λ S start k names size st e
     let p = f (Storing v (text_of S c.args.name)) c.args.at S start k names size st e under (on _ g1 refl) in
     p.0 (sym c.is_left-2.ensures ∙ c.if-is_left-2.true)
 
-pub store_by-returns-in-Some-clause-kept : goal.store_by-returns-in-Some-clause-kept
-store_by-returns-in-Some-clause-kept g m c = λ S names size st e l i p q.
+pub store_by-returns-in-Some-target_of-clause-kept : goal.store_by-returns-in-Some-target_of-clause-kept
+store_by-returns-in-Some-target_of-clause-kept g m c = λ S names size st e l i p q.
     let w = c.walk-came in
     let t = c.take-receiver in
     let first = w.ensures.kept S names size st e (sub (fits S c.args.receiver.now) l (fst _ _ (snd _ _ l.fits))) i p q in
@@ -3187,8 +3183,8 @@ store_by-returns-in-Some-clause-kept g m c = λ S names size st e l i p q.
     let f = rw (t.ensures.context, w.ensures.context) at c.arguments-came.ensures.kept in
     c.store_with.ensures.kept i (omega (arith, q, t.ensures.base, w.ensures.base)) ∙ (f S names size st e under i p (omega (arith, q, t.ensures.base, w.ensures.base)) ∙ first)
 
-pub store_by-returns-in-Some-clause-came : goal.store_by-returns-in-Some-clause-came
-store_by-returns-in-Some-clause-came g m c = λ S start k names size st e l a.
+pub store_by-returns-in-Some-target_of-clause-came : goal.store_by-returns-in-Some-target_of-clause-came
+store_by-returns-in-Some-target_of-clause-came g m c = λ S start k names size st e l a.
     let w = c.walk-came in
     let step = ReceiverToStore (text_of S c.args.name) (map erase c.args.args.now) c.args.at in
     let come = w.ensures.came S start (Then step ∷ k) names size st e (sub (fits S c.args.receiver.now) l (fst _ _ (snd _ _ l.fits))) a in
@@ -3203,8 +3199,8 @@ store_by-returns-in-Some-clause-came g m c = λ S start k names size st e l a.
     let base = t.new.self.base in
     let long : base + length c.args.args.now ≤ length r.new.room = omega (arith, r.ensures.base came, r.ensures.fits under.room) in
     let values = map plain (take (length c.args.args.now) (drop base r.new.room)) in
-    let target = rw (r.ensures.context, t.ensures.context, w.ensures.context, t.ensures.value) at c.in-Some.ensures.some in
-    let entered = same (on _ (p.1 came) refl) (by_receiver S v (me_of (Some c.in-Some.target.object)) (text_of S c.args.name) (erase_method c.in-Some.target.method.now) values c.args.at (Then (Instead (last_value S values)) ∷ k) _ _ _ (target.finds S st) target.me) in
+    let target = rw (r.ensures.context, t.ensures.context, w.ensures.context, t.ensures.value) at c.in-Some-target_of.ensures.some in
+    let entered = same (on _ (p.1 came) refl) (by_receiver S v (me_of (Some c.in-Some-target_of.target.object)) (text_of S c.args.name) (erase_method c.in-Some-target_of.target.method.now) values c.args.at (Then (Instead (last_value S values)) ∷ k) _ _ _ (target.finds S st) target.me) in
     let h1 = rw (r.ensures.context, t.ensures.context, w.ensures.context) at c.store_with.ensures.came in
     h1 S start k names st e (target.right S st) (omega (arith, under.within, under.below)) long entered
 
@@ -5016,7 +5012,7 @@ send_block-returns-in-Pairs-clause-came g m c =
 
 pub operate-returns-in-Some-clause-kept : goal.operate-returns-in-Some-clause-kept
 operate-returns-in-Some-clause-kept g m c = λ S names size st e l i p q.
-    let w = c.evaluate_call-came in
+    let w = c.evaluate-came in
     let right = two _ (fits S c.args.right.now names size) (fst _ _ l.fits) (snd _ _ (snd _ _ l.fits)) in
     let under = moved _ _ w.ensures.base w.ensures.room (sub (numbered c.args.method c.args.name (λ S. fits S c.args.right.now) S) l right) in
     let f = rw w.ensures.context at c.operate_collection.ensures.kept in
@@ -5024,7 +5020,7 @@ operate-returns-in-Some-clause-kept g m c = λ S names size st e l i p q.
 
 pub operate-returns-in-Some-clause-came : goal.operate-returns-in-Some-clause-came
 operate-returns-in-Some-clause-came g m c = λ S start k names size st e l a.
-    let w = c.evaluate_call-came in
+    let w = c.evaluate-came in
     let e1 = w.ensures.came S start (Then (ReceiverOf (text_of S c.args.name) (erase c.args.right.now ∷ []) None c.args.at) ∷ k) names size st e (sub (fits S c.args.left.now) l (fst _ _ (snd _ _ l.fits))) a in
     let g1 = given w.result w.new.self.value w.new.self.leave (sym c.is_left.ensures ∙ c.if-is_left.false) e1 in
     let g2 = gives (me_of (Some c.in-Some.thing)) c.in-Some.ensures.value g1 in
@@ -5412,3 +5408,127 @@ keep_copy-returns-clause-kept g m c = c.keep_any.ensures.kept
 
 pub keep_copy-returns-clause-came : goal.keep_copy-returns-clause-came
 keep_copy-returns-clause-came g m c = c.keep_any.ensures.came
+
+pub operate_value-returns-in-Some-clause-kept : goal.operate_value-returns-in-Some-clause-kept
+operate_value-returns-in-Some-clause-kept g m c = λ S names size st e l i p q.
+    c.operate_target.ensures.kept S names size st e (sub (fits S c.args.right.now) l (snd _ _ l.fits)) i p q
+
+pub operate_value-returns-in-Some-clause-came : goal.operate_value-returns-in-Some-clause-came
+operate_value-returns-in-Some-clause-came g m c = λ S start k names size st e l a.
+    let sc = scope_of (me_of c.args.self.now.context.me) names c.args.room.now in
+    let right = c.args.right.now in
+    let b = same a (ap (λ v. On (Eval (erase right)) (Then (Argument (OnReceiver v (text_of S c.args.name) None) [] [] c.args.at) ∷ k) sc c.args.depth c.args.self.now.left) c.in-Some.ensures.value) in
+    c.operate_target.ensures.came S start k names size st e (sub (fits S right) l (snd _ _ l.fits)) b
+
+pub operate_value-returns-then-is_nil_asked-clause-came : goal.operate_value-returns-then-is_nil_asked-clause-came
+operate_value-returns-then-is_nil_asked-clause-came g m c = λ S start k names size st e l a.
+    let v = value_of c.args.came c.args.self.now.value in
+    let text = text_of S c.args.name in
+    let asked = c.is_nil_asked.ensures in
+    let len : length names ≤ length c.args.room.now = omega (arith, l.within, l.below, l.room) in
+    let waits = Then (Argument (OnReceiver v text None) [] [] c.args.at) ∷ k in
+    let e1 = asked.right c.if-is_nil_asked.true c.args.room.now S _ names size c.args.depth c.args.self.now.left start _ _ waits (me_of c.args.self.now.context.me) (snd _ _ l.fits) len c.if-self-gt0.true c.if-depth-lt-MAX_DEPTH.true a in
+    let number = same_is (builtin_of text) c.args.method (fst _ _ l.fits) ∙ asked.method c.if-is_nil_asked.true in
+    let o = c.answer.ensures in
+    rw (o.gives, o.left, o.store)
+    (asks_nil S _ start _ _ k _ _ _ v text c.args.at _ (c.target_now.ensures.none c.requires.came c.in_default.is S st) number c.nil_came-answer.ensures e1)
+
+pub send-returns-in-Some-entered_reader-clause-kept : goal.send-returns-in-Some-entered_reader-clause-kept
+send-returns-in-Some-entered_reader-clause-kept g m c = λ S names size st e l i p q.
+    c.walk_here-came.ensures.kept S names size st e (sub (fits S c.args.receiver.now) l (fst _ _ (snd _ _ l.fits))) i p q
+
+pub send-returns-in-Some-entered_reader-clause-came : goal.send-returns-in-Some-entered_reader-clause-came
+send-returns-in-Some-entered_reader-clause-came g m c = λ S start k names size st e l a.
+    let w = c.walk_here-came in
+    let text = text_of S c.args.name in
+    let step = ReceiverOf text (map erase c.args.args.now) None c.args.at in
+    let come = w.ensures.came S start (Then step ∷ k) names size st e (sub (fits S c.args.receiver.now) l (fst _ _ (snd _ _ l.fits))) a in
+    let g1 = given w.result w.new.self.value w.new.self.leave (sym c.is_left.ensures ∙ c.if-is_left.false) come in
+    let to = me_of (Some c.in-Some.target.object) in
+    let g2 = on _ (gives to c.in-Some.ensures.value g1) refl in
+    let sc = scope_of (me_of c.args.self.now.context.me) names w.new.room in
+    let none = no_items c.args.args.now c.in-Some-entered_reader.ensures.count in
+    let g3 = same g2 (ap (λ args. On (Passing (OnReceiver to text None) [] (map erase args) c.args.at) k sc c.args.depth w.new.self.left) none) in
+    let target = rw w.ensures.context at c.in-Some.ensures.target in
+    let entered = same (on _ g3 refl) (by_receiver S to to text (erase_method c.in-Some.target.method.now) [] c.args.at k _ _ _ (target.finds S st) refl) in
+    let f = rw w.ensures.context at c.in-Some-entered_reader.ensures.came in
+    f S start k sc c.args.at (target.right S st) entered
+
+pub send-returns-in-Some-clause-kept : goal.send-returns-in-Some-clause-kept
+send-returns-in-Some-clause-kept g m c = λ S names size st e l i p q.
+    let w = c.walk_here-came in
+    let first = w.ensures.kept S names size st e (sub (fits S c.args.receiver.now) l (fst _ _ (snd _ _ l.fits))) i p q in
+    let under = moved _ _ w.ensures.base w.ensures.room (sub (every (map (fits S) c.args.args.now)) l (snd _ _ (snd _ _ l.fits))) in
+    let f = rw (c.entered_reader.ensures.none c.in_default-entered_reader.is, w.ensures.context) at c.send_target.ensures.kept in
+    f S names size st e under i p (omega (arith, q, w.ensures.base)) ∙ first
+
+pub send-returns-in-Some-clause-came : goal.send-returns-in-Some-clause-came
+send-returns-in-Some-clause-came g m c = λ S start k names size st e l a.
+    let w = c.walk_here-came in
+    let step = ReceiverOf (text_of S c.args.name) (map erase c.args.args.now) None c.args.at in
+    let come = w.ensures.came S start (Then step ∷ k) names size st e (sub (fits S c.args.receiver.now) l (fst _ _ (snd _ _ l.fits))) a in
+    let g1 = given w.result w.new.self.value w.new.self.leave (sym c.is_left.ensures ∙ c.if-is_left.false) come in
+    let g2 = gives (me_of (Some c.in-Some.target.object)) c.in-Some.ensures.value g1 in
+    let under = moved _ _ w.ensures.base w.ensures.room (sub (every (map (fits S) c.args.args.now)) l (snd _ _ (snd _ _ l.fits))) in
+    let f = rw (c.entered_reader.ensures.none c.in_default-entered_reader.is, w.ensures.context) at c.send_target.ensures.came in
+    f S start k names size st e under (on _ g2 refl)
+
+pub store_by-returns-in-Some-clause-kept : goal.store_by-returns-in-Some-clause-kept
+store_by-returns-in-Some-clause-kept g m c = λ S names size st e l i p q.
+    let w = c.walk-came in
+    let first = w.ensures.kept S names size st e (sub (fits S c.args.receiver.now) l (fst _ _ (snd _ _ l.fits))) i p q in
+    let args = single _ _ _ refl c.in-len1.len_at_least c.in-len1.len_below c.only-item.is in
+    let all : every (map (fits S) c.args.args.now) names size ≡ true = snd _ _ (snd _ _ l.fits) in
+    let fit : fits S c.only-item.result names size ≡ true = fst _ _ (rw args at all) in
+    let under = moved _ _ w.ensures.base w.ensures.room (sub (fits S c.only-item.result) l fit) in
+    let f = rw w.ensures.context at c.store_target.ensures.kept in
+    f S names size st e under i p (omega (arith, q, w.ensures.base)) ∙ first
+
+pub store_by-returns-in-Some-clause-came : goal.store_by-returns-in-Some-clause-came
+store_by-returns-in-Some-clause-came g m c = λ S start k names size st e l a.
+    let w = c.walk-came in
+    let text = text_of S c.args.name in
+    let step = ReceiverToStore text (map erase c.args.args.now) c.args.at in
+    let come = w.ensures.came S start (Then step ∷ k) names size st e (sub (fits S c.args.receiver.now) l (fst _ _ (snd _ _ l.fits))) a in
+    let g1 = given w.result w.new.self.value w.new.self.leave (sym c.is_left.ensures ∙ c.if-is_left.false) come in
+    let to = me_of (Some c.in-Some.target.object) in
+    let g2 = gives to c.in-Some.ensures.value g1 in
+    let args = single _ _ _ refl c.in-len1.len_at_least c.in-len1.len_below c.only-item.is in
+    let all : every (map (fits S) c.args.args.now) names size ≡ true = snd _ _ (snd _ _ l.fits) in
+    let fit : fits S c.only-item.result names size ≡ true = fst _ _ (rw args at all) in
+    let sc = scope_of (me_of c.args.self.now.context.me) names w.new.room in
+    let g3 = same g2 (ap (λ args. On (Give to) (Then (ReceiverToStore text (map erase args) c.args.at) ∷ k) sc c.args.depth w.new.self.left) args) in
+    let under = moved _ _ w.ensures.base w.ensures.room (sub (fits S c.only-item.result) l fit) in
+    let f = rw w.ensures.context at c.store_target.ensures.came in
+    f S start k names size st e under (on _ (on _ g3 refl) refl)
+
+pub store_by-returns-in-Some-collection_now-clause-kept : goal.store_by-returns-in-Some-collection_now-clause-kept
+store_by-returns-in-Some-collection_now-clause-kept g m c = λ S names size st e l i p q.
+    let w = c.walk-came in
+    let first = w.ensures.kept S names size st e (sub (fits S c.args.receiver.now) l (fst _ _ (snd _ _ l.fits))) i p q in
+    let args = two_items _ _ c.index-item.result c.value-item.result refl c.in-len2.len_at_least c.in-len2.len_below c.index-item.is c.value-item.is in
+    let all : every (map (fits S) c.args.args.now) names size ≡ true = snd _ _ (snd _ _ l.fits) in
+    let right = two _ _ (fst _ _ l.fits) (args_fit S c.index-item.result c.value-item.result names size (rw args at all)) in
+    let under = moved _ _ w.ensures.base w.ensures.room (sub _ l right) in
+    let f = rw w.ensures.context at c.store_element.ensures.kept in
+    f S names size st e under i p (omega (arith, q, w.ensures.base)) ∙ first
+
+pub store_by-returns-in-Some-collection_now-clause-came : goal.store_by-returns-in-Some-collection_now-clause-came
+store_by-returns-in-Some-collection_now-clause-came g m c = λ S start k names size st e l a.
+    let w = c.walk-came in
+    let text = text_of S c.args.name in
+    let step = ReceiverToStore text (map erase c.args.args.now) c.args.at in
+    let come = w.ensures.came S start (Then step ∷ k) names size st e (sub (fits S c.args.receiver.now) l (fst _ _ (snd _ _ l.fits))) a in
+    let g1 = given w.result w.new.self.value w.new.self.leave (sym c.is_left.ensures ∙ c.if-is_left.false) come in
+    let to = me_of (Some c.in-Some-collection_now.thing) in
+    let g2 = gives to c.in-Some-collection_now.ensures.value g1 in
+    let first = c.index-item.result in
+    let second = c.value-item.result in
+    let args = two_items _ _ first second refl c.in-len2.len_at_least c.in-len2.len_below c.index-item.is c.value-item.is in
+    let all : every (map (fits S) c.args.args.now) names size ≡ true = snd _ _ (snd _ _ l.fits) in
+    let right = two _ _ (fst _ _ l.fits) (args_fit S first second names size (rw args at all)) in
+    let sc = scope_of (me_of c.args.self.now.context.me) names w.new.room in
+    let g3 = same g2 (ap (λ args. On (Give to) (Then (ReceiverToStore text (map erase args) c.args.at) ∷ k) sc c.args.depth w.new.self.left) args) in
+    let under = moved _ _ w.ensures.base w.ensures.room (sub _ l right) in
+    let f = rw w.ensures.context at c.store_element.ensures.came in
+    f S start k names size st e under (on _ (on _ g3 refl) refl)

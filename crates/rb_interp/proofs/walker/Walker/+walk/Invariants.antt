@@ -43,7 +43,7 @@ abbrev pub decreases-send : goal.decreases-send
 decreases-send g l = 24 * (1001 - l.depth) + 7
 
 abbrev pub decreases-store_by : goal.decreases-store_by
-decreases-store_by g l = 24 * (1001 - l.depth) + 8
+decreases-store_by g l = 24 * (1001 - l.depth) + 9
 
 abbrev pub decreases-send_block : goal.decreases-send_block
 decreases-send_block g l = 24 * (1001 - l.depth) + 8
@@ -169,7 +169,7 @@ abbrev pub decreases-begin_slow_operate : goal.decreases-begin_slow_operate
 decreases-begin_slow_operate g l = 24 * (1001 - l.depth) + 12
 
 abbrev pub decreases-begin_send : goal.decreases-begin_send
-decreases-begin_send g l = 24 * (1001 - l.depth) + 11
+decreases-begin_send g l = 24 * (1001 - l.depth) + 12
 
 abbrev pub decreases-begin_function : goal.decreases-begin_function
 decreases-begin_function g l = 24 * (1001 - l.depth) + 8
@@ -202,7 +202,7 @@ abbrev pub decreases-evaluate_sent : goal.decreases-evaluate_sent
 decreases-evaluate_sent g l = 24 * (1001 - l.depth) + 2
 
 abbrev pub decreases-begin_operand : goal.decreases-begin_operand
-decreases-begin_operand g l = 24 * (1001 - l.depth) + 12
+decreases-begin_operand g l = 24 * (1001 - l.depth) + 13
 
 abbrev pub decreases-begin_other : goal.decreases-begin_other
 decreases-begin_other g l = 24 * (1001 - l.depth) + 16
@@ -423,7 +423,7 @@ abbrev pub decreases-operate_collection : goal.decreases-operate_collection
 decreases-operate_collection g l = 24 * (1001 - l.depth) + 6
 
 abbrev pub decreases-begin_store : goal.decreases-begin_store
-decreases-begin_store g l = 24 * (1001 - l.depth) + 9
+decreases-begin_store g l = 24 * (1001 - l.depth) + 10
 
 abbrev pub decreases-statement : goal.decreases-statement
 decreases-statement g l = 24 * (1001 - l.depth) + 2
@@ -456,13 +456,13 @@ abbrev pub decreases-store_target : goal.decreases-store_target
 decreases-store_target g l = 24 * (1001 - l.depth) + 8
 
 abbrev pub decreases-begin_slow_send : goal.decreases-begin_slow_send
-decreases-begin_slow_send g l = 24 * (1001 - l.depth) + 8
+decreases-begin_slow_send g l = 24 * (1001 - l.depth) + 9
 
 abbrev pub decreases-begin_read : goal.decreases-begin_read
-decreases-begin_read g l = 24 * (1001 - l.depth) + 10
+decreases-begin_read g l = 24 * (1001 - l.depth) + 11
 
 abbrev pub decreases-read_attribute : goal.decreases-read_attribute
-decreases-read_attribute g l = 24 * (1001 - l.depth) + 9
+decreases-read_attribute g l = 24 * (1001 - l.depth) + 10
 
 abbrev pub decreases-passage : goal.decreases-passage
 decreases-passage g l = 24 * (1001 - l.depth) + 4

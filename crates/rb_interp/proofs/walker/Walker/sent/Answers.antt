@@ -1,7 +1,6 @@
 use Rattle.std.proofs.Common.{◌<◌, sym, arith}
 use Rattle.rb_model.specs.Values.{plain}
 use Rattle.rb_machine.specs.Scopes.{text_of}
-use Rattle.rb_walk.proofs.Calls.{none_plain}
 use Rattle.rb_walk.proofs.Quick.{calls_held}
 use Rattle.rb_interp.proofs.walker.Walker.sent.Goals as goal
 
@@ -13,4 +12,4 @@ returns-clause-came g c = λ S start k names size st e m f len a.
     let deep : c.args.depth < 1000 = omega (arith, c.if-depth-ge-MAX_DEPTH.false) in
     rw (o.left, o.store)
     (calls_held S _ start _ _ k _ names size c.args.depth c.args.self.now.left c.args.room.now c.args.name c.args.receiver.now c.args.at (plain c.in_ok-held.held.now) _
-    (none_plain S (plain c.in_ok-held.held.now) (text_of S c.args.name) c.in_ok-held.ensures.plain) f len more deep c.in_ok-held.ensures.held given a)
+    (c.in_ok-held.ensures.alone S st) f len more deep c.in_ok-held.ensures.held given a)
