@@ -1,4 +1,4 @@
-use Rattle.std.proofs.Common.{◌≡◌, ◌<◌, get_or, ◌+◌, ◌-◌, ◌∷◌, ◌∙◌, List, Some, length, map, refl, sym, ap, subst, arith}
+use Rattle.std.proofs.Common.{◌≡◌, ◌<◌, get_or, ◌-◌, ◌∷◌, ◌∙◌, List, Some, length, map, refl, sym, ap, subst, arith}
 use Rattle.std.proofs.lemmas.List.{drop_all}
 use Rattle.std.specs.List.{AllByRecursion}
 use Rattle.rb_model.specs.Values.{Nil, plain}

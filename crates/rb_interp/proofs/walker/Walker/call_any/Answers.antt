@@ -1,6 +1,5 @@
 use Rattle.std.proofs.Common.{ap, sym, ◌∙◌, map, None}
 use Rattle.rb_model.specs.Values.{plain}
-use Rattle.rb_machine.specs.Call.{answered}
 use Rattle.rb_machine.specs.Methods.{deed}
 use Rattle.rb_walk.specs.Answers.{outcome_of}
 use Rattle.rb_walk.proofs.Calls.{answers}

@@ -1,5 +1,4 @@
-use Rattle.std.proofs.Common.{◌≡◌, Some, ◌∷◌, [], of_z, to_z, w64, ap, rules}
-use Rattle.rb_model.specs.Values.{Int}
+use Rattle.std.proofs.Common.{◌≡◌, Some, of_z, to_z, w64, ap, rules}
 use Rattle.rb_machine.specs.Call.{enter}
 use Rattle.rb_code.specs.Erase.{erase_method}
 use Rattle.rb_walk.specs.Carries.{me_of}
