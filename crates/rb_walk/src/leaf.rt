@@ -460,7 +460,7 @@ fn is_read(code: &Code) -> bool {
     }
 }
 
-/// Whether an operand of a call with one argument may be read from an object. Beside nil none is.
+/// Whether an operand of a call with one argument may be read from an object. Where the argument is nil, none is.
 #[inline(always)]
 pub fn has_read(left: &Code, right: &Code) -> bool {
     match right {

@@ -137,7 +137,7 @@ pub fn is_nil_asked(method: Option<Builtin>, right: &Code) -> bool
     true
 }
 
-/// Whether what came is nil; `held` is the value that registers do not hold.
+/// What `== nil` answers for what came; `held` is the value where registers do not hold it.
 #[inline(always)]
 pub fn nil_came(came: Came, held: &Value) -> IntegerAnswer
     requires { is_left came ≡ false }

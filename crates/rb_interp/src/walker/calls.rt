@@ -94,8 +94,8 @@ impl<'p, O: ThreadStore + Drop> Walker<'p, O> {
         self.operated_by(method, m, came, at)
     }
 
-    /// The argument of a call whose receiver is any value. A method that the class of an object has is found before; asked for nil, the value
-    /// stays where it is.
+    /// The argument of a call whose receiver is any value. An object whose class has the method is not taken out of the walker for it, nor is a
+    /// value that is only compared with nil.
     #[cycle(walk)]
     #[inline(never)]
     pub(super) fn operate_value(
@@ -210,7 +210,7 @@ impl<'p, O: ThreadStore + Drop> Walker<'p, O> {
     }
 
     /// A call with a receiver, without a block. The method that the class of an object has is found while the object is what came.
-    // The depth is tested as each caller of `send_target` does, which need not test it then.
+    // Every caller of `send_target` tests the depth, so that the compiler can leave the test out of that function.
     #[cycle(walk)]
     #[inline(always)]
     pub(super) fn send(
@@ -331,8 +331,8 @@ impl<'p, O: ThreadStore + Drop> Walker<'p, O> {
         self.stored(thing, method, index, came, at, depth)
     }
 
-    /// An assignment by the call of a method. What it is of an object, an array or a hash is found while that is what came.
-    // The depth is tested as each caller of `store_target` does, which need not test it then.
+    /// An assignment by the call of a method. An object whose class has it, an array or a hash is not taken out of the walker for it.
+    // Every caller of `store_target` tests the depth, so that the compiler can leave the test out of that function.
     #[cycle(walk)]
     #[inline(never)]
     pub(super) fn store_by(
