@@ -4,8 +4,6 @@
 mod characters;
 mod fault;
 mod front;
-#[cfg(test)]
-mod front_tests;
 mod integers;
 mod keywords;
 mod lexer;
