@@ -1,22 +1,18 @@
 // The walk.
 
-ghost use Rattle.std.specs.Prelude.{◌≡◌, ◌≤◌, ◌<◌, ◌+◌, ℕ, true, false, List, [], ◌∷◌, ◌++◌, length, Some, None};
-ghost use Rattle.rb_tree.specs.declared.node.Node.{out-Node};
+ghost use Rattle.std.specs.Prelude.{◌≡◌, ◌≤◌, ◌<◌, ◌+◌, true, List, [], length, Some, None};
 ghost use Rattle.rb_model.specs.Values.{Nil, Int};
-ghost use Rattle.rb_model.specs.Ends.{Full, Sink, over};
-ghost use Rattle.rb_model.specs.Log.{has_end};
+ghost use Rattle.rb_model.specs.Ends.{over};
 ghost use Rattle.rb_model.specs.Log as log;
 ghost use Rattle.rb_model.specs.Private.{bare};
 ghost use Rattle.rb_machine.specs.Scopes.{Script, fresh};
-ghost use Rattle.rb_machine.specs.Follows.{At, Follows};
-ghost use Rattle.rb_machine.specs.Alone.{opening};
+ghost use Rattle.rb_machine.specs.Follows.{At};
 ghost use Rattle.rb_code.specs.Stands.{StandsFor};
-ghost use Rattle.rb_machine.specs.Control.{State, Cont, On, Eval, Following};
+ghost use Rattle.rb_interp.specs.Going.{GoesOut};
+ghost use Rattle.rb_machine.specs.Control.{State, Cont, On, Following};
 ghost use Rattle.rb_machine.specs.Begin.{begin};
-ghost use Rattle.rb_code.specs.Erase.{erase};
-ghost use Rattle.rb_code.specs.Resolved.{fits};
-ghost use Rattle.rb_walk.specs.Outcome.{outcome, Over, Came as Comes};
-ghost use Rattle.rb_walk.specs.Carries.{Carries, Keeps, scope_of, goes_on, me_of};
+ghost use Rattle.rb_walk.specs.Outcome.{outcome, Came as Comes};
+ghost use Rattle.rb_walk.specs.Carries.{scope_of, goes_on};
 
 mod assign;
 mod begin;
@@ -40,8 +36,9 @@ use rb_tree::Program;
 use rb_walk::MAX_DEPTH;
 use rb_walk::came::{Came, Cut, Leave, immediate, is_told};
 use rb_walk::dispatch::Methods;
-use rb_walk::ending::{close, end_of};
+use rb_walk::ending::end_of;
 use rb_walk::leaf::{has_read, is_leaf, is_operate, place_of, quick, quick_twice, small, steps_of};
+use rb_walk::live::Live;
 use rb_walk::slots::clear;
 use std::alloc::Global;
 
@@ -68,9 +65,9 @@ struct Running<'p> {
 
 /// The walk of the main thread of a script over its store.
 #[derive(Drop)]
-struct Walker<'p, O> {
+struct Walker<'p, O: ThreadStore + Drop> {
     context: Running<'p>,
-    store: O,
+    store: Live<O>,
     /// Where the frame of the running method ends, and what is free begins.
     base: usize,
     /// How many steps are left.
@@ -79,23 +76,22 @@ struct Walker<'p, O> {
     value: Value,
     /// How a node was left.
     leave: Leave,
+    ghost within: { left ≤ context.steps },
 }
 
 impl<'p, O: ThreadStore + Drop> Walker<'p, O> {
+    ghost use Rattle.rb_interp.specs.Walks.{Walks, at_node, begun, node_fits};
+
     /// Evaluates a node.
     #[cycle(walk)]
     #[inline(never)]
     fn walk(&mut self, code: &'p Code, depth: u32, room: &mut [Value]) -> Came
-        requires unended { has_end (O.log self.old.store).entries ≡ false }
-        requires steps { self.old.left ≤ self.old.context.steps }
         ensures counted { goes_on (outcome result self.new.value self.new.leave) ≡ true → self.new.left < self.old.left }
         ensures base { self.new.base ≡ self.old.base }
         ensures context { self.new.context ≡ self.old.context }
         ensures room { length room.new ≡ length room.old }
         ensures less { self.new.left ≤ self.old.left }
-        ensures unended { has_end (O.log self.new.store).entries ≡ false }
-        ensures kept { Keeps self.old.context.script.now self.old.context.program.now (λ S. fits S code.now) self.old.base room.old room.new }
-        ensures came { Carries self.old.context.script.now self.old.context.program.now self.old.context.steps (me_of self.old.context.me) (λ S. fits S code.now) (λ S k sc d n. On (Eval (erase code.now)) k sc d n) self.old.base depth self.old.left self.new.left room.old room.new (O.log self.old.store) (O.log self.new.store) (O.private self.old.store) (O.private self.new.store) (outcome result self.new.value self.new.leave) }
+        ensures came { Walks (node_fits code.now) (at_node code.now) self.old self.new room.old room.new depth result }
     {
         self.walk_here(code, depth, room)
     }
@@ -104,16 +100,12 @@ impl<'p, O: ThreadStore + Drop> Walker<'p, O> {
     #[cycle(walk)]
     #[inline(always)]
     fn walk_here(&mut self, code: &'p Code, depth: u32, room: &mut [Value]) -> Came
-        requires unended { has_end (O.log self.old.store).entries ≡ false }
-        requires steps { self.old.left ≤ self.old.context.steps }
         ensures counted { goes_on (outcome result self.new.value self.new.leave) ≡ true → self.new.left < self.old.left }
         ensures base { self.new.base ≡ self.old.base }
         ensures context { self.new.context ≡ self.old.context }
         ensures room { length room.new ≡ length room.old }
         ensures less { self.new.left ≤ self.old.left }
-        ensures unended { has_end (O.log self.new.store).entries ≡ false }
-        ensures kept { Keeps self.old.context.script.now self.old.context.program.now (λ S. fits S code.now) self.old.base room.old room.new }
-        ensures came { Carries self.old.context.script.now self.old.context.program.now self.old.context.steps (me_of self.old.context.me) (λ S. fits S code.now) (λ S k sc d n. On (Eval (erase code.now)) k sc d n) self.old.base depth self.old.left self.new.left room.old room.new (O.log self.old.store) (O.log self.new.store) (O.private self.old.store) (O.private self.new.store) (outcome result self.new.value self.new.leave) }
+        ensures came { Walks (node_fits code.now) (at_node code.now) self.old self.new room.old room.new depth result }
     {
         if self.left == 0 {
             return self.over(Cut::Steps);
@@ -129,16 +121,12 @@ impl<'p, O: ThreadStore + Drop> Walker<'p, O> {
     #[cycle(walk)]
     #[inline(always)]
     fn evaluate(&mut self, code: &'p Code, depth: u32, room: &mut [Value]) -> Came
-        requires unended { has_end (O.log self.old.store).entries ≡ false }
-        requires steps { self.old.left ≤ self.old.context.steps }
         ensures counted { goes_on (outcome result self.new.value self.new.leave) ≡ true → self.new.left < self.old.left }
         ensures base { self.new.base ≡ self.old.base }
         ensures context { self.new.context ≡ self.old.context }
         ensures room { length room.new ≡ length room.old }
         ensures less { self.new.left ≤ self.old.left }
-        ensures unended { has_end (O.log self.new.store).entries ≡ false }
-        ensures kept { Keeps self.old.context.script.now self.old.context.program.now (λ S. fits S code.now) self.old.base room.old room.new }
-        ensures came { Carries self.old.context.script.now self.old.context.program.now self.old.context.steps (me_of self.old.context.me) (λ S. fits S code.now) (λ S k sc d n. On (Eval (erase code.now)) k sc d n) self.old.base depth self.old.left self.new.left room.old room.new (O.log self.old.store) (O.log self.new.store) (O.private self.old.store) (O.private self.new.store) (outcome result self.new.value self.new.leave) }
+        ensures came { Walks (node_fits code.now) (at_node code.now) self.old self.new room.old room.new depth result }
     {
         if self.left > 0 && depth < MAX_DEPTH {
             if let Some(n) = small(code, room) {
@@ -153,16 +141,12 @@ impl<'p, O: ThreadStore + Drop> Walker<'p, O> {
     #[cycle(walk)]
     #[inline(always)]
     fn evaluate_leaf(&mut self, code: &'p Code, depth: u32, room: &mut [Value]) -> Came
-        requires unended { has_end (O.log self.old.store).entries ≡ false }
-        requires steps { self.old.left ≤ self.old.context.steps }
         ensures counted { goes_on (outcome result self.new.value self.new.leave) ≡ true → self.new.left < self.old.left }
         ensures base { self.new.base ≡ self.old.base }
         ensures context { self.new.context ≡ self.old.context }
         ensures room { length room.new ≡ length room.old }
         ensures less { self.new.left ≤ self.old.left }
-        ensures unended { has_end (O.log self.new.store).entries ≡ false }
-        ensures kept { Keeps self.old.context.script.now self.old.context.program.now (λ S. fits S code.now) self.old.base room.old room.new }
-        ensures came { Carries self.old.context.script.now self.old.context.program.now self.old.context.steps (me_of self.old.context.me) (λ S. fits S code.now) (λ S k sc d n. On (Eval (erase code.now)) k sc d n) self.old.base depth self.old.left self.new.left room.old room.new (O.log self.old.store) (O.log self.new.store) (O.private self.old.store) (O.private self.new.store) (outcome result self.new.value self.new.leave) }
+        ensures came { Walks (node_fits code.now) (at_node code.now) self.old self.new room.old room.new depth result }
     {
         if self.left > 0 && depth < MAX_DEPTH {
             if let Some(n) = small(code, room) {
@@ -177,16 +161,12 @@ impl<'p, O: ThreadStore + Drop> Walker<'p, O> {
     #[cycle(walk)]
     #[inline(never)]
     fn evaluate_apart(&mut self, code: &'p Code, depth: u32, room: &mut [Value]) -> Came
-        requires unended { has_end (O.log self.old.store).entries ≡ false }
-        requires steps { self.old.left ≤ self.old.context.steps }
         ensures counted { goes_on (outcome result self.new.value self.new.leave) ≡ true → self.new.left < self.old.left }
         ensures base { self.new.base ≡ self.old.base }
         ensures context { self.new.context ≡ self.old.context }
         ensures room { length room.new ≡ length room.old }
         ensures less { self.new.left ≤ self.old.left }
-        ensures unended { has_end (O.log self.new.store).entries ≡ false }
-        ensures kept { Keeps self.old.context.script.now self.old.context.program.now (λ S. fits S code.now) self.old.base room.old room.new }
-        ensures came { Carries self.old.context.script.now self.old.context.program.now self.old.context.steps (me_of self.old.context.me) (λ S. fits S code.now) (λ S k sc d n. On (Eval (erase code.now)) k sc d n) self.old.base depth self.old.left self.new.left room.old room.new (O.log self.old.store) (O.log self.new.store) (O.private self.old.store) (O.private self.new.store) (outcome result self.new.value self.new.leave) }
+        ensures came { Walks (node_fits code.now) (at_node code.now) self.old self.new room.old room.new depth result }
     {
         self.evaluate_call(code, depth, room)
     }
@@ -195,16 +175,12 @@ impl<'p, O: ThreadStore + Drop> Walker<'p, O> {
     #[cycle(walk)]
     #[inline(always)]
     fn evaluate_call(&mut self, code: &'p Code, depth: u32, room: &mut [Value]) -> Came
-        requires unended { has_end (O.log self.old.store).entries ≡ false }
-        requires steps { self.old.left ≤ self.old.context.steps }
         ensures counted { goes_on (outcome result self.new.value self.new.leave) ≡ true → self.new.left < self.old.left }
         ensures base { self.new.base ≡ self.old.base }
         ensures context { self.new.context ≡ self.old.context }
         ensures room { length room.new ≡ length room.old }
         ensures less { self.new.left ≤ self.old.left }
-        ensures unended { has_end (O.log self.new.store).entries ≡ false }
-        ensures kept { Keeps self.old.context.script.now self.old.context.program.now (λ S. fits S code.now) self.old.base room.old room.new }
-        ensures came { Carries self.old.context.script.now self.old.context.program.now self.old.context.steps (me_of self.old.context.me) (λ S. fits S code.now) (λ S k sc d n. On (Eval (erase code.now)) k sc d n) self.old.base depth self.old.left self.new.left room.old room.new (O.log self.old.store) (O.log self.new.store) (O.private self.old.store) (O.private self.new.store) (outcome result self.new.value self.new.leave) }
+        ensures came { Walks (node_fits code.now) (at_node code.now) self.old self.new room.old room.new depth result }
     {
         match code {
             Code::Operate(method, _, left, right, at) => {
@@ -274,16 +250,12 @@ impl<'p, O: ThreadStore + Drop> Walker<'p, O> {
     #[cycle(walk)]
     #[inline(never)]
     fn evaluate_logic(&mut self, code: &'p Code, depth: u32, room: &mut [Value]) -> Came
-        requires unended { has_end (O.log self.old.store).entries ≡ false }
-        requires steps { self.old.left ≤ self.old.context.steps }
         ensures counted { goes_on (outcome result self.new.value self.new.leave) ≡ true → self.new.left < self.old.left }
         ensures base { self.new.base ≡ self.old.base }
         ensures context { self.new.context ≡ self.old.context }
         ensures room { length room.new ≡ length room.old }
         ensures less { self.new.left ≤ self.old.left }
-        ensures unended { has_end (O.log self.new.store).entries ≡ false }
-        ensures kept { Keeps self.old.context.script.now self.old.context.program.now (λ S. fits S code.now) self.old.base room.old room.new }
-        ensures came { Carries self.old.context.script.now self.old.context.program.now self.old.context.steps (me_of self.old.context.me) (λ S. fits S code.now) (λ S k sc d n. On (Eval (erase code.now)) k sc d n) self.old.base depth self.old.left self.new.left room.old room.new (O.log self.old.store) (O.log self.new.store) (O.private self.old.store) (O.private self.new.store) (outcome result self.new.value self.new.leave) }
+        ensures came { Walks (node_fits code.now) (at_node code.now) self.old self.new room.old room.new depth result }
     {
         if self.left > 0 && depth < MAX_DEPTH {
             self.left -= 1;
@@ -296,16 +268,12 @@ impl<'p, O: ThreadStore + Drop> Walker<'p, O> {
     #[cycle(walk)]
     #[inline(never)]
     fn evaluate_operand(&mut self, code: &'p Code, depth: u32, room: &mut [Value]) -> Came
-        requires unended { has_end (O.log self.old.store).entries ≡ false }
-        requires steps { self.old.left ≤ self.old.context.steps }
         ensures counted { goes_on (outcome result self.new.value self.new.leave) ≡ true → self.new.left < self.old.left }
         ensures base { self.new.base ≡ self.old.base }
         ensures context { self.new.context ≡ self.old.context }
         ensures room { length room.new ≡ length room.old }
         ensures less { self.new.left ≤ self.old.left }
-        ensures unended { has_end (O.log self.new.store).entries ≡ false }
-        ensures kept { Keeps self.old.context.script.now self.old.context.program.now (λ S. fits S code.now) self.old.base room.old room.new }
-        ensures came { Carries self.old.context.script.now self.old.context.program.now self.old.context.steps (me_of self.old.context.me) (λ S. fits S code.now) (λ S k sc d n. On (Eval (erase code.now)) k sc d n) self.old.base depth self.old.left self.new.left room.old room.new (O.log self.old.store) (O.log self.new.store) (O.private self.old.store) (O.private self.new.store) (outcome result self.new.value self.new.leave) }
+        ensures came { Walks (node_fits code.now) (at_node code.now) self.old self.new room.old room.new depth result }
     {
         if self.left > 0 && depth < MAX_DEPTH {
             self.left -= 1;
@@ -319,16 +287,12 @@ impl<'p, O: ThreadStore + Drop> Walker<'p, O> {
     #[cycle(walk)]
     #[inline(always)]
     fn evaluate_sent(&mut self, code: &'p Code, depth: u32, room: &mut [Value]) -> Came
-        requires unended { has_end (O.log self.old.store).entries ≡ false }
-        requires steps { self.old.left ≤ self.old.context.steps }
         ensures counted { goes_on (outcome result self.new.value self.new.leave) ≡ true → self.new.left < self.old.left }
         ensures base { self.new.base ≡ self.old.base }
         ensures context { self.new.context ≡ self.old.context }
         ensures room { length room.new ≡ length room.old }
         ensures less { self.new.left ≤ self.old.left }
-        ensures unended { has_end (O.log self.new.store).entries ≡ false }
-        ensures kept { Keeps self.old.context.script.now self.old.context.program.now (λ S. fits S code.now) self.old.base room.old room.new }
-        ensures came { Carries self.old.context.script.now self.old.context.program.now self.old.context.steps (me_of self.old.context.me) (λ S. fits S code.now) (λ S k sc d n. On (Eval (erase code.now)) k sc d n) self.old.base depth self.old.left self.new.left room.old room.new (O.log self.old.store) (O.log self.new.store) (O.private self.old.store) (O.private self.new.store) (outcome result self.new.value self.new.leave) }
+        ensures came { Walks (node_fits code.now) (at_node code.now) self.old self.new room.old room.new depth result }
     {
         if self.left > 0 && depth < MAX_DEPTH {
             self.left -= 1;
@@ -341,15 +305,11 @@ impl<'p, O: ThreadStore + Drop> Walker<'p, O> {
     #[cycle(walk)]
     #[inline(always)]
     fn begin(&mut self, code: &'p Code, depth: u32, room: &mut [Value]) -> Came
-        requires unended { has_end (O.log self.old.store).entries ≡ false }
-        requires steps { self.old.left ≤ self.old.context.steps }
         ensures base { self.new.base ≡ self.old.base }
         ensures context { self.new.context ≡ self.old.context }
         ensures room { length room.new ≡ length room.old }
         ensures less { self.new.left ≤ self.old.left }
-        ensures unended { has_end (O.log self.new.store).entries ≡ false }
-        ensures kept { Keeps self.old.context.script.now self.old.context.program.now (λ S. fits S code.now) self.old.base room.old room.new }
-        ensures came { Carries self.old.context.script.now self.old.context.program.now self.old.context.steps (me_of self.old.context.me) (λ S. fits S code.now) (λ S k sc d n. begin S (out-Node (erase code.now)) k sc d n) self.old.base depth self.old.left self.new.left room.old room.new (O.log self.old.store) (O.log self.new.store) (O.private self.old.store) (O.private self.new.store) (outcome result self.new.value self.new.leave) }
+        ensures came { Walks (node_fits code.now) (begun code.now) self.old self.new room.old room.new depth result }
     {
         match code {
             Code::Nil(_) => Came::Nil,
@@ -377,15 +337,12 @@ impl<'p, O: ThreadStore + Drop> Walker<'p, O> {
 
     /// The top level of the script, whose locals are nil in the beginning.
     fn top(&mut self, room: &mut [Value]) -> Came
-        requires unended { has_end (O.log self.old.store).entries ≡ false }
-        requires steps { self.old.left ≤ self.old.context.steps }
         requires base { self.old.base ≡ self.old.context.script.now.main_size }
         requires me { self.old.context.me ≡ None }
         ensures context { self.new.context ≡ self.old.context }
-        ensures unended { has_end (O.log self.new.store).entries ≡ false }
         ensures less { self.new.left ≤ self.old.left }
         ensures came { (S : Script) (start : State) (k : List Cont) → StandsFor self.old.context.script.now S → S.program ≡ self.old.context.program.now
-            → At S 0 self.old.context.steps start (O.log self.old.store) (O.private self.old.store) (On (Following Nil S.program.main) k (record { me = Nil; locals = fresh S.main_names [] }) 0 self.old.left)
+            → At S self.old.context.steps start (O.log self.old.store) (O.private self.old.store) (On (Following Nil S.program.main) k (record { me = Nil; locals = fresh S.main_names [] }) 0 self.old.left)
             → Comes S self.old.context.steps start (O.log self.new.store) (O.private self.new.store) (outcome result self.new.value self.new.leave) k (scope_of Nil S.main_names room.new) 0 self.new.left }
     {
         let script = self.context.script.script();
@@ -398,17 +355,18 @@ impl<'p, O: ThreadStore + Drop> Walker<'p, O> {
     }
 }
 
-/// Runs the top level of a script, in this row of slots, to its end entry. Answers the store, and how the script ended.
+/// Runs the top level of a script, in this row of slots. Answers the store, how many steps were begun, and how the work went out: its end
+/// entry is still to be made.
 pub fn run_main<'p, O: ThreadStore + Drop>(
     context: Context<'p>,
     store: O,
     room: &mut [Value],
-) -> (O, End)
+) -> (O, u64, End)
+    requires live { O.live store }
     requires begun { O.log store ≡ log.fresh }
     requires made { O.private store ≡ bare 0 }
-    ensures follows { (S : Script) → StandsFor context.entry.script.now S → S.program ≡ context.entry.program.now → Follows S 0 context.entry.steps (opening S context.entry.steps) (O.log result.0) (over result.1) (O.private result.0) }
-    ensures refused { (S : Script) → StandsFor context.entry.script.now S → S.program ≡ context.entry.program.now → over result.1 ≡ Sink → (before : List log.Refusal) × (r : log.Refusal) × ((O.log result.0).refusals ≡ before ++ r ∷ []) }
-    ensures never_full { (S : Script) → StandsFor context.entry.script.now S → S.program ≡ context.entry.program.now → (used asked : ℕ) → over result.1 ≡ Full used asked → ⊥ }
+    ensures live { O.live result.0 }
+    ensures goes { (S : Script) → StandsFor context.entry.script.now S → S.program ≡ context.entry.program.now → GoesOut S context.entry.steps (O.log result.0) (O.private result.0) (over result.2) result.1 }
 {
     let Context {
         alloc,
@@ -428,12 +386,12 @@ fn run_by<O: ThreadStore + Drop>(
     steps: u64,
     store: O,
     room: &mut [Value],
-) -> (O, End)
+) -> (O, u64, End)
+    requires live { O.live store }
     requires begun { O.log store ≡ log.fresh }
     requires made { O.private store ≡ bare 0 }
-    ensures follows { (S : Script) → StandsFor methods.now S → S.program ≡ program.now → Follows S 0 steps (opening S steps) (O.log result.0) (over result.1) (O.private result.0) }
-    ensures refused { (S : Script) → StandsFor methods.now S → S.program ≡ program.now → over result.1 ≡ Sink → (before : List log.Refusal) × (r : log.Refusal) × ((O.log result.0).refusals ≡ before ++ r ∷ []) }
-    ensures never_full { (S : Script) → StandsFor methods.now S → S.program ≡ program.now → (used asked : ℕ) → over result.1 ≡ Full used asked → ⊥ }
+    ensures live { O.live result.0 }
+    ensures goes { (S : Script) → StandsFor methods.now S → S.program ≡ program.now → GoesOut S steps (O.log result.0) (O.private result.0) (over result.2) result.1 }
 {
     let mut walker = Walker {
         context: Running {
@@ -443,7 +401,7 @@ fn run_by<O: ThreadStore + Drop>(
             steps,
             me: None,
         },
-        store,
+        store: Live::of(store),
         base: methods.script().main_size as usize,
         left: steps,
         value: Value::Nil,
@@ -456,5 +414,5 @@ fn run_by<O: ThreadStore + Drop>(
         leave,
         ..
     } = walker;
-    close(store, steps - left, end_of(came, leave))
+    (store.into_store(), steps - left, end_of(came, leave))
 }

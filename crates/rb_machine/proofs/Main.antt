@@ -6,15 +6,15 @@ use Rattle.shape_core.specs.Shape.{Shape}
 use Rattle.std.proofs.lemmas.List.{append-nil}
 use Rattle.std.proofs.lemmas.Bool.{and_parts, and_from}
 use Rattle.std.proofs.lemmas.Grind.{flat_map-append}
-use Rattle.rb_model.specs.Values.{To, Reference}
+use Rattle.rb_model.specs.Values.{Value as Val, To, Reference}
 use Rattle.rb_model.specs.declared.value.Id.{Id}
 use Rattle.rb_model.specs.Acts.{Act, Done}
 use Rattle.rb_model.specs.Acts as reply
 use Rattle.rb_model.specs.Ends.{End}
 use Rattle.rb_model.specs.Things.{Thing, Object, becomes, gives}
 use Rattle.rb_model.specs.Paths.{shape_made, shape_behind}
-use Rattle.rb_model.specs.Private.{Private, held, or_none, entered, acted, with_shape_of}
-use Rattle.rb_model.specs.Log.{Log, Entry, printed, prints}
+use Rattle.rb_model.specs.Private.{Private, Item, Leaves, nothing_waits, no_thing, elsewhere, moves, bare, held, or_none, entered, acted, with_shape_of}
+use Rattle.rb_model.specs.Log.{Log, Deed, printed, prints}
 use Rattle.rb_machine.specs.Scopes.{Script}
 use Rattle.rb_machine.specs.Control.{State}
 use Rattle.rb_machine.specs.Move.{Go, Make, Ask, Show, Stop, move, replied}
@@ -27,21 +27,21 @@ use Rattle.rb_machine.proofs.Once.{front}
 
 -- ---- one entry more
 
-prints_more : (es : List Entry) (e : Entry) → prints (es ++ e ∷ []) ≡ prints es ++ printed e.call
-prints_more es e = flat_map-append (λ (e : Entry). printed e.call) es (e ∷ []) ∙ ap (λ l. prints es ++ l) (append-nil (printed e.call))
+prints_more : (es : List Deed) (e : Deed) → prints (es ++ e ∷ []) ≡ prints es ++ printed e.call
+prints_more es e = flat_map-append (λ (e : Deed). printed e.call) es (e ∷ []) ∙ ap (λ l. prints es ++ l) (append-nil (printed e.call))
 
 -- an entry that shows nothing
-prints_same : (es : List Entry) (e : Entry) → printed e.call ≡ [] → prints (es ++ e ∷ []) ≡ prints es
+prints_same : (es : List Deed) (e : Deed) → printed e.call ≡ [] → prints (es ++ e ∷ []) ≡ prints es
 prints_same es e h = prints_more es e ∙ ap (λ l. prints es ++ l) h ∙ append-nil (prints es)
 
-keeps_more : (es : List Entry) (e : Entry) → keeps_to_itself (es ++ e ∷ []) ≡ true → (keeps_to_itself es ≡ true) × (not (asks_thing e.call) ≡ true)
+keeps_more : (es : List Deed) (e : Deed) → keeps_to_itself (es ++ e ∷ []) ≡ true → (keeps_to_itself es ≡ true) × (not (asks_thing e.call) ≡ true)
 keeps_more [] e h = (refl, (and_parts (not (asks_thing e.call)) true h).0)
 keeps_more (f ∷ es) e h =
     let p = and_parts (not (asks_thing f.call)) (keeps_to_itself (es ++ e ∷ [])) h in
     let q = keeps_more es e p.1 in
     (and_from (not (asks_thing f.call)) (keeps_to_itself es) p.0 q.0, q.1)
 
-last_step_more : (es : List Entry) (e : Entry) → last_step (es ++ e ∷ []) ≡ e.step
+last_step_more : (es : List Deed) (e : Deed) → last_step (es ++ e ∷ []) ≡ e.step
 last_step_more [] e = refl
 last_step_more (f ∷ []) e = refl
 last_step_more (f ∷ g ∷ es) e = last_step_more (g ∷ es) e
@@ -81,6 +81,13 @@ abbrev Beside : Script → ℕ → List ℕ → Private → State → Type 0
 Beside S N b h s =
     (xs : List (Option Thing)) × (fs : List (Option Shape)) × (ss : List Shape) × (h ≡ bare_before xs fs ss) × Runs S N b (globals_before xs fs ss) s
 
+-- what leaves leaves the thread
+leaves_thread : {h h' : Private} {vs : List Val} {ms : List Item} → Leaves h vs ms h' → h'.thread ≡ h.thread
+leaves_thread (nothing_waits h) = refl
+leaves_thread (no_thing h h' v vs ms f g) = leaves_thread g
+leaves_thread (elsewhere h h' r vs ms f g) = leaves_thread g
+leaves_thread (moves h h' r thing vs ms f g) = leaves_thread g
+
 module _ (S : Script) (N : ℕ) where
   makes_beside : (b : List ℕ) (h : Private) (s : State) (thing : Thing) → Beside S N b h s → move S s ≡ Make thing
       → Beside S N b (entered h thing) (replied s (reply.Value (To (next_thing h thing))))
@@ -108,31 +115,31 @@ module _ (S : Script) (N : ℕ) where
   goes_beside : (b : List ℕ) (h : Private) (s s' : State) → Beside S N b h s → move S s ≡ Go s' → Beside S N b h s'
   goes_beside b h s s' (xs, fs, ss, is, r) e = (xs, fs, ss, is, run.goes b (globals_before xs fs ss) s s' r e)
 
-  shows_beside : (es : List Entry) (e : Entry) (h : Private) (s : State) (bytes : List ℕ) → Beside S N (prints es) h s → move S s ≡ Show bytes → printed e.call ≡ bytes
+  shows_beside : (es : List Deed) (e : Deed) (h : Private) (s : State) (bytes : List ℕ) → Beside S N (prints es) h s → move S s ≡ Show bytes → printed e.call ≡ bytes
       → Beside S N (prints (es ++ e ∷ [])) h (replied s Done)
   shows_beside es e h s bytes (xs, fs, ss, is, r) m p =
       (xs, fs, ss, is, subst (λ b. Runs S N b (globals_before xs fs ss) (replied s Done)) (sym (prints_more es e ∙ ap (λ b. prints es ++ b) p)) (run.shows (prints es) (globals_before xs fs ss) s bytes r m))
 
-  beside : {l : Log} {h : Private} {s : State} → At S 0 N (opening S N) l h s → keeps_to_itself l.entries ≡ true → Beside S N (prints l.entries) h s
-  beside thread.here k = ([], [], [], refl, run.begins)
-  beside (thread.goes l h s s' a e) k = goes_beside (prints l.entries) h s s' (beside a k) e
-  beside (thread.makes l h s thing a e) k = makes_beside (prints l.entries) h s thing (beside a k) e
-  beside (thread.acts l h s r act thing a e f) k = acts_beside (prints l.entries) h s r act thing (beside a k) e f
-  beside (thread.asks l h h' s r act moved answer a e f g) k = let wrong : false ≡ true = (keeps_more l.entries _ k).1 in absurd (cc)
-  beside (thread.prints l h s bytes a e) k = shows_beside l.entries _ h s bytes (beside a (keeps_more l.entries _ k).0) e refl
+  beside : {l : Log} {h : Private} {s : State} → At S N (opening S N) l h s → h.thread ≡ 0 → keeps_to_itself l.entries ≡ true → Beside S N (prints l.entries) h s
+  beside (thread.here t) z k = subst (λ n. Beside S N [] (bare n) (opening S N)) (sym z) ([], [], [], refl, run.begins)
+  beside (thread.goes l h s s' a e) z k = goes_beside (prints l.entries) h s s' (beside a z k) e
+  beside (thread.makes l h s thing a e) z k = makes_beside (prints l.entries) h s thing (beside a z k) e
+  beside (thread.acts l h s r act thing a e f) z k = acts_beside (prints l.entries) h s r act thing (beside a z k) e f
+  beside (thread.asks l h h' s r act moved answer a e f g) z k = let wrong : false ≡ true = (keeps_more l.entries _ k).1 in absurd (cc)
+  beside (thread.prints l h s bytes a e) z k = shows_beside l.entries _ h s bytes (beside a z (keeps_more l.entries _ k).0) e refl
 
   -- ---- its own end
 
-  own_alone : (l : Log) (h : Private) (s : State) (e : End) → Beside S N (prints l.entries) h s → move S s ≡ Stop e → Alone S N (prints l.entries) e (step_of S 0 N (opening S N) s)
+  own_alone : (l : Log) (h : Private) (s : State) (e : End) → Beside S N (prints l.entries) h s → move S s ≡ Stop e → Alone S N (prints l.entries) e (step_of S N (opening S N) s)
   own_alone l h s e (xs, fs, ss, is, r) stop = record { store = globals_before xs fs ss; last = s; run = r; ends = stop; counted = refl }
 
-  own_end : {l : Log} {h : Private} {how : End} {n : ℕ} → Comes S 0 N (opening S N) l h how n → keeps_to_itself l.entries ≡ true → is_cut how ≡ false → Alone S N (prints l.entries) how n
-  own_end (ends l h s e a stop) k c = own_alone l h s e (beside a k) stop
-  own_end (cut l h want n a w le) k c = let wrong : true ≡ false = c in absurd (cc)
-  own_end (fills l h h' s r act moved used asked a e f g) k c = let wrong : true ≡ false = c in absurd (cc)
-  own_end (refuses l h s bytes a e) k c = let wrong : true ≡ false = c in absurd (cc)
+  own_end : {l : Log} {h : Private} {how : End} {n : ℕ} → Comes S N (opening S N) l h how n → h.thread ≡ 0 → keeps_to_itself l.entries ≡ true → is_cut how ≡ false → Alone S N (prints l.entries) how n
+  own_end (ends l h s e a stop) z k c = own_alone l h s e (beside a z k) stop
+  own_end (cut l h want n a w le) z k c = let wrong : true ≡ false = c in absurd (cc)
+  own_end (fills l h h' s r act moved used asked a e f g) z k c = let wrong : true ≡ false = c in absurd (cc)
+  own_end (refuses l h s bytes a e) z k c = let wrong : true ≡ false = c in absurd (cc)
 
-  closed_alone : (l : Log) (how : End) (n : ℕ) (last : Entry) → printed last.call ≡ [] → last.step ≡ n → Alone S N (prints l.entries) how n
+  closed_alone : (l : Log) (how : End) (n : ℕ) (last : Deed) → printed last.call ≡ [] → last.step ≡ n → Alone S N (prints l.entries) how n
       → Alone S N (prints (l.entries ++ last ∷ [])) how (last_step (l.entries ++ last ∷ []))
   closed_alone l how n last silent at alone =
       subst (λ m. Alone S N (prints (l.entries ++ last ∷ [])) how m) (sym (last_step_more l.entries last ∙ at))
@@ -147,29 +154,29 @@ module _ (S : Script) (N : ℕ) where
   shown_beside : (b : List ℕ) (h : Private) (s : State) → Beside S N b h s → Shown b
   shown_beside b h s (xs, fs, ss, is, r) = (globals_before xs fs ss, s, r)
 
-  shown_at : (l : Log) (h : Private) (s : State) → At S 0 N (opening S N) l h s → keeps_to_itself l.entries ≡ true → Shown (prints l.entries)
-  shown_at l h s a k = shown_beside (prints l.entries) h s (beside a k)
+  shown_at : (l : Log) (h : Private) (s : State) → At S N (opening S N) l h s → h.thread ≡ 0 → keeps_to_itself l.entries ≡ true → Shown (prints l.entries)
+  shown_at l h s a z k = shown_beside (prints l.entries) h s (beside a z k)
 
-  shown_in : {l : Log} {h : Private} {how : End} {n : ℕ} → Comes S 0 N (opening S N) l h how n → keeps_to_itself l.entries ≡ true → Shown (prints l.entries)
-  shown_in (ends l h s e a stop) k = shown_at l h s a k
-  shown_in (cut l h want n a w le) k = shown_at l h want a k
-  shown_in (fills l h h' s r act moved used asked a e f g) k = shown_at l h s a k
-  shown_in (refuses l h s bytes a e) k = shown_at l h s a k
+  shown_in : {l : Log} {h : Private} {how : End} {n : ℕ} → Comes S N (opening S N) l h how n → h.thread ≡ 0 → keeps_to_itself l.entries ≡ true → Shown (prints l.entries)
+  shown_in (ends l h s e a stop) z k = shown_at l h s a z k
+  shown_in (cut l h want n a w le) z k = shown_at l h want a z k
+  shown_in (fills l h h' s r act moved used asked a e f g) z k = shown_at l h s a z k
+  shown_in (refuses l h s bytes a e) z k = shown_at l h s a z k
 
-  shown_closed : (es : List Entry) (last : Entry) → printed last.call ≡ [] → keeps_to_itself (es ++ last ∷ []) ≡ true → (keeps_to_itself es ≡ true → Shown (prints es))
+  shown_closed : (es : List Deed) (last : Deed) → printed last.call ≡ [] → keeps_to_itself (es ++ last ∷ []) ≡ true → (keeps_to_itself es ≡ true → Shown (prints es))
       → Shown (prints (es ++ last ∷ []))
   shown_closed es last silent k shown = subst Shown (sym (prints_same es last silent)) (shown (keeps_more es last k).0)
 
-  shown_by : {l : Log} {how : End} {h : Private} → Follows S 0 N (opening S N) l how h → keeps_to_itself l.entries ≡ true → Shown (prints l.entries)
-  shown_by (closes l h h' e n moved c g) k = shown_closed l.entries _ refl k (shown_in c)
-  shown_by (late l h v n c) k = shown_closed l.entries _ refl k (shown_in c)
-  shown_by (full l h h' v n used asked moved c g) k = shown_closed l.entries _ refl k (shown_in c)
+  shown_by : {l : Log} {how : End} {h : Private} → Follows S N (opening S N) l how h → h.thread ≡ 0 → keeps_to_itself l.entries ≡ true → Shown (prints l.entries)
+  shown_by (closes l h h' e n moved c g) z k = shown_closed l.entries _ refl k (shown_in c (sym (leaves_thread g) ∙ z))
+  shown_by (late l h v n c) z k = shown_closed l.entries _ refl k (shown_in c z)
+  shown_by (full l h h' v n used asked moved c g) z k = shown_closed l.entries _ refl k (shown_in c z)
 
 pub does_as_alone : DoesAsAlone
-does_as_alone S N l how o (closes m h h' e n moved c g) k own =
-    closed_alone S N m e n (last_entry S 0 N (opening S N) n e moved) refl refl (own_end S N c (keeps_more m.entries _ k).0 own)
-does_as_alone S N l how o (late m h v n c) k own = let wrong : true ≡ false = own in absurd (cc)
-does_as_alone S N l how o (full m h h' v n used asked moved c g) k own = let wrong : true ≡ false = own in absurd (cc)
+does_as_alone S N l how o (closes m h h' e n moved c g) z k own =
+    closed_alone S N m e n (last_entry S N (opening S N) n e moved) refl refl (own_end S N c (sym (leaves_thread g) ∙ z) (keeps_more m.entries _ k).0 own)
+does_as_alone S N l how o (late m h v n c) z k own = let wrong : true ≡ false = own in absurd (cc)
+does_as_alone S N l how o (full m h h' v n used asked moved c g) z k own = let wrong : true ≡ false = own in absurd (cc)
 
 pub shows_a_front : ShowsAFront
-shows_a_front S N l how o bytes own steps f k alone = let p = shown_by S N f k in front S N (prints l.entries) bytes p.0 p.1 own steps p.2 alone
+shows_a_front S N l how o bytes own steps f z k alone = let p = shown_by S N f z k in front S N (prints l.entries) bytes p.0 p.1 own steps p.2 alone

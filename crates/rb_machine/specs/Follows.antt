@@ -8,7 +8,7 @@ use Rattle.rb_model.specs.Acts as reply
 use Rattle.rb_model.specs.Ends.{End as Ending, Value, Full, Sink, Memory, told}
 use Rattle.rb_model.specs.Things.{Thing, gives, Object, Elements, Pairs, Mutex}
 use Rattle.rb_model.specs.Private.{Private, Item, Leaves, bare, held, next_id, entered, acted}
-use Rattle.rb_model.specs.Log.{Log, Entry, Call, On, Print, End, fresh, logged, refused}
+use Rattle.rb_model.specs.Log.{Log, Deed, Call, On, Print, End, fresh, logged, refused}
 use Rattle.rb_machine.specs.Scopes.{Script}
 use Rattle.rb_machine.specs.Control.{State}
 use Rattle.rb_machine.specs.Move.{Go, Make, Ask, Show, Stop, move, replied, left_in, IsWant}
@@ -24,19 +24,19 @@ sort_of (Mutex owner) = sort.Mutex
 abbrev pub next_thing : Private → Thing → Reference
 next_thing h thing = record { sort = sort_of thing; id = next_id h }
 
--- Thread t of a script makes at most N steps, and its machine begins with a state.
-module _ (S : Script) (t N : ℕ) (start : State) where
+-- A thread of a script makes at most N steps, and its machine begins with a state.
+module _ (S : Script) (N : ℕ) (start : State) where
   -- how many steps were begun
   abbrev pub step_of : State → ℕ
   step_of s = N - left_in s
 
   -- the entry of a call of this thread
-  abbrev pub entry : State → Call → List Item → Reply → Entry
-  entry s call moved r = record { thread = t; step = step_of s; call = call; moved = moved; reply = r }
+  abbrev pub entry : State → Call → List Item → Reply → Deed
+  entry s call moved r = record { step = step_of s; call = call; moved = moved; reply = r }
 
   -- the thread comes to a state of its machine, with this log and this private store
   pub data At : Log → Private → State → Type 0 where
-    here : At fresh (bare t) start
+    here : (t : ℕ) → At fresh (bare t) start
     -- a silent move
     goes : (l : Log) (h : Private) (s s' : State) → At l h s → move S s ≡ Go s' → At l h s'
     -- a thing enters the private store under the next id
@@ -62,8 +62,8 @@ module _ (S : Script) (t N : ℕ) (start : State) where
     refuses : (l : Log) (h : Private) (s : State) (bytes : List ℕ) → At l h s → move S s ≡ Show bytes → Comes (refused l (Print bytes) []) h Sink (step_of s)
 
   -- the last entry of a thread
-  abbrev pub last_entry : ℕ → Ending → List Item → Entry
-  last_entry step e moved = record { thread = t; step = step; call = End e; moved = moved; reply = Done }
+  abbrev pub last_entry : ℕ → Ending → List Item → Deed
+  last_entry step e moved = record { step = step; call = End e; moved = moved; reply = Done }
 
   -- what a thread does from its start to its End entry, with the private store that it leaves; what its end tells moves
   pub data Follows : Log → Ending → Private → Type 0 where

@@ -20,7 +20,7 @@ use Rattle.rb_model.specs.Private.{Private, held}
 use Rattle.rb_model.specs.Things.{Object, Elements, Pairs, gathered}
 use Rattle.rb_model.specs.Ends.{End, Steps, Raised}
 use Rattle.rb_model.specs.Ends as ending
-use Rattle.rb_model.specs.Log.{Call, Entry, Log, prints}
+use Rattle.rb_model.specs.Log.{Call, Deed, Log, prints}
 use Rattle.rb_model.specs.Log as log
 use Rattle.rb_machine.specs.Scopes.{Script, Scope, Text, text_of, Locals, with_locals, found, look, assign, fresh}
 use Rattle.rb_machine.specs.Control.{Control, State, On, Eval, Give, Leave, Following, Looping, Turning, Passing, Break, Next, Return, Turns, Counting, Cont, Then, Under, Test, Again, Turn, Frame, Aim, OnReceiver, Creating, Place, Argument, Initialize, Instead, Making, ReceiverOf, RightOfAnd, RightOfOr, ReadOf, WriteTo, PieceOf, JoinTo, WriteBehind, TextOf, Joining, Drafting, Lines, Plain, EachPair, WithElement, Ended, max_depth}
@@ -425,12 +425,12 @@ asks_thing (log.On thing act) = true
 asks_thing call = false
 
 -- whether a thread asked nothing of what is shared
-abbrev pub keeps_to_itself : List Entry → Bool
+abbrev pub keeps_to_itself : List Deed → Bool
 keeps_to_itself [] = true
 keeps_to_itself (e ∷ es) = not (asks_thing e.call) && keeps_to_itself es
 
 -- the step of the last entry
-abbrev pub last_step : List Entry → ℕ
+abbrev pub last_step : List Deed → ℕ
 last_step [] = 0
 last_step (e ∷ []) = e.step
 last_step (e ∷ f ∷ es) = last_step (f ∷ es)
@@ -445,10 +445,10 @@ is_cut own = false
 -- A main thread that asks nothing of what is shared does what its script does alone: the bytes of its prints, its end, and the step of
 -- its last entry are the same.
 abbrev pub DoesAsAlone : Type 0
-DoesAsAlone = (S : Script) (N : ℕ) (l : Log) (how : End) (h : Private) → Follows S 0 N (opening S N) l how h → keeps_to_itself l.entries ≡ true → is_cut how ≡ false
+DoesAsAlone = (S : Script) (N : ℕ) (l : Log) (how : End) (h : Private) → Follows S N (opening S N) l how h → h.thread ≡ 0 → keeps_to_itself l.entries ≡ true → is_cut how ≡ false
     → Alone S N (prints l.entries) how (last_step l.entries)
 
 -- Where it is cut short, it has shown a front of what its script shows alone.
 abbrev pub ShowsAFront : Type 0
-ShowsAFront = (S : Script) (N : ℕ) (l : Log) (how : End) (h : Private) (bytes : List ℕ) (own : End) (steps : ℕ) → Follows S 0 N (opening S N) l how h → keeps_to_itself l.entries ≡ true
+ShowsAFront = (S : Script) (N : ℕ) (l : Log) (how : End) (h : Private) (bytes : List ℕ) (own : End) (steps : ℕ) → Follows S N (opening S N) l how h → h.thread ≡ 0 → keeps_to_itself l.entries ≡ true
     → Alone S N bytes own steps → (behind : List ℕ) × (bytes ≡ prints l.entries ++ behind)

@@ -21,9 +21,8 @@ abbrev pub asked : Held → Call
 asked (held.Print bytes) = Print bytes
 asked (held.End e) = End (over e)
 
--- One call of a thread: its number, how many steps it had begun, what was asked, the things that moved with it, and the reply.
-pub record Entry : Type 0 where
-  pub thread : ℕ
+-- One call of a thread: how many steps it had begun, what was asked, the things that moved with it, and the reply. Whose it is stands beside it.
+pub record Deed : Type 0 where
   pub step : ℕ
   pub call : Call
   pub moved : List Item
@@ -37,14 +36,14 @@ pub record Refusal : Type 0 where
 
 -- the calls that were done, and those that were refused
 pub record Log : Type 0 where
-  pub entries : List Entry
+  pub entries : List Deed
   pub refusals : List Refusal
 
 abbrev pub fresh : Log
 fresh = record { entries = []; refusals = [] }
 
 -- one more entry
-abbrev pub logged : Log → Entry → Log
+abbrev pub logged : Log → Deed → Log
 logged l e = record { entries = l.entries ++ e ∷ []; refusals = l.refusals }
 
 -- one more refusal
@@ -52,23 +51,23 @@ abbrev pub refused : Log → Call → List Item → Log
 refused l call moved = record { entries = l.entries; refusals = l.refusals ++ record { call = call; moved = moved; before = length l.entries } ∷ [] }
 
 -- the entry of a call of the main thread that moves nothing and is done
-abbrev pub plain_entry : ℕ → Call → Entry
-plain_entry step call = record { thread = 0; step = step; call = call; moved = []; reply = Done }
+abbrev pub plain_entry : ℕ → Call → Deed
+plain_entry step call = record { step = step; call = call; moved = []; reply = Done }
 
 abbrev pub printed : Call → List ℕ
 printed (Print bytes) = bytes
 printed call = []
 
 -- the bytes of the prints, in order
-abbrev pub prints : List Entry → List ℕ
-prints entries = flat_map (λ (e : Entry). printed e.call) entries
+abbrev pub prints : List Deed → List ℕ
+prints entries = flat_map (λ (e : Deed). printed e.call) entries
 
 abbrev pub is_end : Call → Bool
 is_end (End how) = true
 is_end call = false
 
 -- whether a thread has ended
-abbrev pub has_end : List Entry → Bool
+abbrev pub has_end : List Deed → Bool
 has_end [] = false
 has_end (e ∷ es) = is_end e.call || has_end es
 

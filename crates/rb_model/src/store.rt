@@ -8,11 +8,12 @@ ghost use Rattle.rb_model.specs.Doing.{doing, said, made, sort_of};
 ghost use Rattle.rb_model.specs.Immediates.{told_answer, list_answered, reference, value_told};
 ghost use Rattle.std.specs.Option.{option_map};
 ghost use Rattle.rb_model.specs.Private.{Private, Gives, Becomes, held, entered, next_id};
-ghost use Rattle.rb_model.specs.Log.{Log as Calls, Answers, is_sure, has_end, asked};
+ghost use Rattle.rb_model.specs.Log.{Log as Calls, Answers, Print, is_sure, has_end, asked};
 
 use crate::act::{Act, Make, Reply};
 use crate::call::{Answer, Call};
 use crate::immediate::Immediate;
+use crate::shared_text::SharedText;
 use crate::value::{Id, Ref, Value};
 use rb_tree::NameId;
 use std::alloc::AllocError;
@@ -42,16 +43,20 @@ pub trait ThreadStore {
     /// The private things.
     ghost private: { Self → Private };
 
-    /// Makes one entry, of the main thread at this step, exactly where it answers `Done`.
-    fn call(&mut self, step: u64, call: &Call) -> Answer
-        requires open { has_end (log self.old).entries ≡ false }
-        ensures answers { Answers result step (asked call.now) (log self.old) (log self.new) }
-        // Room for an end that is no value was taken before.
-        ensures sure { is_sure (asked call.now) ≡ true → result ≡ Answer.Done }
-        ensures private { private self.new ≡ private self.old };
+    /// The thread goes on: all that a store needs for its next call, and nothing that the walk looks into.
+    ghost live: { Self → Type 0 };
+
+    /// Prints a text: one entry at this step, exactly where it answers `Done`.
+    fn print(&mut self, step: u64, text: SharedText) -> Answer
+        requires live { live self.old }
+        ensures live { live self.new }
+        ensures private { private self.new ≡ private self.old }
+        ensures answers { Answers result step (Print text) (log self.old) (log self.new) };
 
     /// Makes a thing, under the next number.
     fn make(&mut self, make: Make) -> Result<Ref, AllocError>
+        requires live { live self.old }
+        ensures live { live self.new }
         ensures id { IfOk result (λ thing. thing.id ≡ next_id (private self.old)) }
         ensures sort { IfOk result (λ thing. thing.sort ≡ sort_of make) }
         ensures private { OnOk result (private self.new ≡ entered (private self.old) (made make)) }
@@ -91,6 +96,8 @@ pub trait ThreadStore {
     /// Gives an element of a list that is private here an immediate value, where the list has the element and it fits where it stands. Else
     /// nothing is done.
     fn put_immediate(&mut self, id: Id, index: i64, value: Immediate) -> bool
+        requires live { live self.old }
+        ensures live { live self.new }
         ensures there { result ≡ true → is_some (held (private self.old) id) ≡ true }
         ensures gives { result ≡ true → IfSome (value_told value) (λ v. Gives (private self.old) id (Put index v) answer.Done) }
         ensures private { result ≡ true → IfSome (value_told value) (λ v. Becomes (private self.old) id (Put index v) (private self.new)) }
@@ -101,6 +108,8 @@ pub trait ThreadStore {
     /// Adds an integer to a field of an object that is private here, where its place holds integers alone and the sum is one. Else nothing is
     /// done. Answers the sum.
     fn add_to_field(&mut self, id: Id, name: NameId, n: i64) -> Option<i64>
+        requires live { live self.old }
+        ensures live { live self.new }
         ensures there { IfSome result (λ sum. is_some (held (private self.old) id) ≡ true) }
         ensures gave { IfSome result (λ sum. Gives (private self.old) id (GetField name) (answer.Value (Int (sum -ℤ n)))) }
         ensures read { Becomes (private self.old) id (GetField name) (private self.old) }
@@ -111,7 +120,9 @@ pub trait ThreadStore {
 
     /// Does what is asked of a thing that is private here.
     fn apply(&mut self, id: Id, act: Act) -> Result<Reply, AllocError>
-        requires { IsSome (held (private self.old) id) }
+        requires live { live self.old }
+        requires there { IsSome (held (private self.old) id) }
+        ensures live { live self.new }
         ensures reply { IfOk result (λ reply. Gives (private self.old) id (doing act) (said reply)) }
         ensures private { OnOk result (Becomes (private self.old) id (doing act) (private self.new)) }
         ensures err { OnErr result (private self.new ≡ private self.old) }

@@ -1,2 +1,4 @@
+pub mod Closing
 pub mod Held
+pub mod Keeping
 pub mod Running

@@ -5,7 +5,7 @@ use Rattle.rb_tree.specs.declared.node.Program.{Program}
 use Rattle.rb_model.specs.Ends.{End}
 use Rattle.shape_core.specs.Shape.{Shape}
 use Rattle.rb_model.specs.Private.{Private}
-use Rattle.rb_model.specs.Log.{Log, Entry, Refusal, Call, On, Print, End as Ending}
+use Rattle.rb_model.specs.Log.{Log, Deed, Refusal, Call, On, Print, End as Ending}
 use Rattle.rb_machine.specs.Follows.{Follows}
 use Rattle.rb_machine.specs.Alone.{opening}
 use Rattle.rb_machine.specs.Laws.{asks_thing, keeps_to_itself}
@@ -29,21 +29,22 @@ own_call (Print bytes) own = refl
 own_call (Ending how) own = refl
 
 -- a thread that only prints and ends asks nothing of what is shared
-keeps : (es : List Entry) → only_prints es ≡ true → keeps_to_itself es ≡ true
+keeps : (es : List Deed) → only_prints es ≡ true → keeps_to_itself es ≡ true
 keeps [] own = refl
 keeps (e ∷ es) own = let o = of_both (is_own e.call) (only_prints es) own in both_true (not (asks_thing e.call)) (keeps_to_itself es) (own_call e.call o.0) (keeps es o.1)
 
-pub is_run : (program : Program) (steps : ℕ) (old new : Option (List ℕ)) (log : Log) (how : End) (shapes : List Shape) (store : Private) → store.shapes ≡ shapes → only_prints log.entries ≡ true → Written old new log
-    → Follows (script_of program) 0 steps (opening (script_of program) steps) log how store → IsRunOf program steps old new log how shapes
-is_run program steps old new log how shapes store shaped own written follows =
+pub is_run : (program : Program) (steps : ℕ) (old new : Option (List ℕ)) (log : Log) (how : End) (shapes : List Shape) (store : Private) → store.shapes ≡ shapes → store.thread ≡ 0 → only_prints log.entries ≡ true → Written old new log
+    → Follows (script_of program) steps (opening (script_of program) steps) log how store → IsRunOf program steps old new log how shapes
+is_run program steps old new log how shapes store shaped main own written follows =
     let apart = keeps log.entries own in
     record {
       store = store;
       follows = follows;
+      main = main;
       shaped = shaped;
       written = written;
-      alone = does_as_alone (script_of program) steps log how store follows apart;
-      front = λ bytes last count a. shows_a_front (script_of program) steps log how store bytes last count follows apart a;
+      alone = does_as_alone (script_of program) steps log how store follows main apart;
+      front = λ bytes last count a. shows_a_front (script_of program) steps log how store bytes last count follows main apart a;
     }
 
 none_last : (before : List Refusal) (r : Refusal) → [] ≡ before ++ r ∷ [] → ⊥

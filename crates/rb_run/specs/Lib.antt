@@ -1,2 +1,4 @@
+pub mod Going
+pub mod Last
 pub mod Row
 pub mod Run

@@ -1,6 +1,7 @@
 //! A program, run from its first step to its end.
 #![tactic(auto)]
 
+mod last;
 mod row;
 mod run;
 mod thread;

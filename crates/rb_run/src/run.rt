@@ -13,6 +13,7 @@ ghost use Rattle.rb_edge.specs.Edge.{Rose};
 ghost use Rattle.rb_store.specs.Written.{Caused, Written, only_prints};
 ghost use Rattle.rb_run.specs.Run.{IsRunOf};
 
+use crate::last::close;
 use crate::row::row_of;
 use crate::thread::MainThread;
 use local_heap::LocalHeap;
@@ -61,7 +62,7 @@ fn run_with<K: Sink + Drop, B: Begun>(
     requires told { K.told out ≡ B.told }
     requires faults { K.faults out ≡ B.faults }
     ensures follows { IfOk result (λ ran. (S : Script) → StandsFor code.now S → S.program ≡ program.now
-        → (store : Private) × (store.shapes ≡ ran.shapes) × Follows S 0 steps (opening S steps) ran.front (over ran.end) store) }
+        → (store : Private) × (store.shapes ≡ ran.shapes) × (store.thread ≡ 0) × Follows S steps (opening S steps) ran.front (over ran.end) store) }
     ensures refused { IfOk result (λ ran. (S : Script) → StandsFor code.now S → S.program ≡ program.now
         → over ran.end ≡ ending.Sink → (before : List Refusal) × (r : Refusal) × (ran.front.refusals ≡ before ++ r ∷ [])) }
     ensures never_full { IfOk result (λ ran. (S : Script) → StandsFor code.now S → S.program ≡ program.now
@@ -89,8 +90,9 @@ fn run_with<K: Sink + Drop, B: Begun>(
         script: code,
         steps,
     };
-    let (store, end) = run_main(context, store, row.as_mut_slice());
-    let MainThread { calls, things } = store;
+    let (store, step, end) = run_main(context, store, row.as_mut_slice());
+    let MainThread { mut calls, things } = store;
+    let end = close(&mut calls, step, end);
     let shapes = things.into_shapes();
     let (out, front) = calls.into_parts();
     Ok(Ran {

@@ -8,10 +8,13 @@ ghost use Rattle.rb_model.specs.Doing.{doing, said, made, sort_of};
 ghost use Rattle.rb_model.specs.Immediates.{list_answered, reference, told_answer, value_told};
 ghost use Rattle.std.specs.Option.{option_map};
 ghost use Rattle.rb_model.specs.Private.{Gives, Becomes, held, entered, next_id};
-ghost use Rattle.rb_model.specs.Log.{Answers, is_sure, has_end, asked};
+ghost use Rattle.rb_model.specs.Log.{Answers, Print};
+ghost use Rattle.rb_run.specs.Going.{GoesOn};
 
 use local_heap::LocalHeap;
-use rb_model::{Act, Answer, Call, Id, Immediate, Make, OneStore, Ref, Reply, ThreadStore, Value};
+use rb_model::{
+    Act, Answer, Call, Id, Immediate, Make, OneStore, Ref, Reply, SharedText, ThreadStore, Value,
+};
 use rb_tree::NameId;
 use shape_tree::ShapeStore;
 use std::alloc::AllocError;
@@ -28,17 +31,22 @@ impl<O: OneStore, S: ShapeStore> ThreadStore for MainThread<O, S> {
 
     ghost private = { λ t. t.things };
 
-    fn call(&mut self, step: u64, call: &Call) -> Answer
-        requires open { has_end (O.log self.old.calls).entries ≡ false }
-        ensures answers { Answers result step (asked call.now) (O.log self.old.calls) (O.log self.new.calls) }
-        ensures sure { is_sure (asked call.now) ≡ true → result ≡ Answer.Done }
+    ghost live = { λ t. GoesOn (O.log t.calls) t.things };
+
+    #[inline(always)]
+    fn print(&mut self, step: u64, text: SharedText) -> Answer
+        requires live { GoesOn (O.log self.old.calls) self.old.things }
+        ensures live { GoesOn (O.log self.new.calls) self.new.things }
         ensures private { self.new.things ≡ self.old.things }
+        ensures answers { Answers result step (Print text) (O.log self.old.calls) (O.log self.new.calls) }
     {
-        self.calls.call(step, call)
+        self.calls.call(step, &Call::Print(text))
     }
 
     #[inline(always)]
     fn make(&mut self, make: Make) -> Result<Ref, AllocError>
+        requires live { GoesOn (O.log self.old.calls) self.old.things }
+        ensures live { GoesOn (O.log self.new.calls) self.new.things }
         ensures id { IfOk result (λ thing. thing.id ≡ next_id self.old.things) }
         ensures sort { IfOk result (λ thing. thing.sort ≡ sort_of make) }
         ensures private { OnOk result (self.new.things ≡ entered self.old.things (made make)) }
@@ -101,6 +109,8 @@ impl<O: OneStore, S: ShapeStore> ThreadStore for MainThread<O, S> {
 
     #[inline(always)]
     fn put_immediate(&mut self, id: Id, index: i64, value: Immediate) -> bool
+        requires live { GoesOn (O.log self.old.calls) self.old.things }
+        ensures live { GoesOn (O.log self.new.calls) self.new.things }
         ensures there { result ≡ true → is_some (held self.old.things id) ≡ true }
         ensures gives { result ≡ true → IfSome (value_told value) (λ v. Gives self.old.things id (Put index v) answer.Done) }
         ensures private { result ≡ true → IfSome (value_told value) (λ v. Becomes self.old.things id (Put index v) self.new.things) }
@@ -113,6 +123,8 @@ impl<O: OneStore, S: ShapeStore> ThreadStore for MainThread<O, S> {
 
     #[inline(always)]
     fn add_to_field(&mut self, id: Id, name: NameId, n: i64) -> Option<i64>
+        requires live { GoesOn (O.log self.old.calls) self.old.things }
+        ensures live { GoesOn (O.log self.new.calls) self.new.things }
         ensures there { IfSome result (λ sum. is_some (held self.old.things id) ≡ true) }
         ensures gave { IfSome result (λ sum. Gives self.old.things id (GetField name) (answer.Value (Int (sum -ℤ n)))) }
         ensures read { Becomes self.old.things id (GetField name) self.old.things }
@@ -126,7 +138,9 @@ impl<O: OneStore, S: ShapeStore> ThreadStore for MainThread<O, S> {
 
     #[inline(always)]
     fn apply(&mut self, id: Id, act: Act) -> Result<Reply, AllocError>
-        requires { IsSome (held self.old.things id) }
+        requires live { GoesOn (O.log self.old.calls) self.old.things }
+        requires there { IsSome (held self.old.things id) }
+        ensures live { GoesOn (O.log self.new.calls) self.new.things }
         ensures reply { IfOk result (λ reply. Gives self.old.things id (doing act) (said reply)) }
         ensures private { OnOk result (Becomes self.old.things id (doing act) self.new.things) }
         ensures err { OnErr result (self.new.things ≡ self.old.things) }

@@ -64,11 +64,11 @@ module _ (S : Script) (N : ℕ) (start : State) where
 
   -- an instance variable that holds an integer gets the sum of it and what a node gives in one step
   adds_given : (l : Log) (h h' : Private) (k : List Cont) (object : Ref) (locals : List (NameId × Val)) (d left : ℕ) (name : NameId) (value : Node) (at : Span) (n sum : ℤ)
-      → ((waits : List Cont) → At S 0 N start l h (On (Eval value) waits (scope_on object locals) d left) → At S 0 N start l h (On (Give (Int n)) waits (scope_on object locals) d (left - 1))) → SFits w64 sum
+      → ((waits : List Cont) → At S N start l h (On (Eval value) waits (scope_on object locals) d left) → At S N start l h (On (Give (Int n)) waits (scope_on object locals) d (left - 1))) → SFits w64 sum
       → is_some (held h object.id) ≡ true → Gives h object.id (GetField name) (Value (Int (sum -ℤ n))) → Becomes h object.id (GetField name) h
       → Gives h object.id (SetField name (Int sum)) Done → Becomes h object.id (SetField name (Int sum)) h'
-      → At S 0 N start l h (read_place S (OfField name) op.Plus value at k (scope_on object locals) d left)
-      → At S 0 N start l h' (On (Give (Int sum)) k (scope_on object locals) d (left - 1))
+      → At S N start l h (read_place S (OfField name) op.Plus value at k (scope_on object locals) d left)
+      → At S N start l h' (On (Give (Int sum)) k (scope_on object locals) d (left - 1))
   adds_given l h h' k object locals d left name value at n sum is long there gave read done put a =
       let sc = scope_on object locals in
       let m = sum -ℤ n in
@@ -87,8 +87,8 @@ module _ (S : Script) (N : ℕ) (start : State) where
       → IsSmall value room n → fits S value names size ≡ true → length names ≤ length room → 0 < left → d < 1000 → SFits w64 sum
       → is_some (held h object.id) ≡ true → Gives h object.id (GetField name) (Value (Int (sum -ℤ n))) → Becomes h object.id (GetField name) h
       → Gives h object.id (SetField name (Int sum)) Done → Becomes h object.id (SetField name (Int sum)) h'
-      → At S 0 N start l h (read_place S (OfField name) op.Plus (erase value) at k (scope_of (me_of (Some object)) names room) d left)
-      → At S 0 N start l h' (On (Give (Int sum)) k (scope_of (me_of (Some object)) names room) d (left - 1))
+      → At S N start l h (read_place S (OfField name) op.Plus (erase value) at k (scope_of (me_of (Some object)) names room) d left)
+      → At S N start l h' (On (Give (Int sum)) k (scope_of (me_of (Some object)) names room) d (left - 1))
   adds l h h' k object names size d left room name value at n sum is f len more deep long there gave read done put a =
       adds_given l h h' k object (bound names (map plain room)) d left name (erase value) at n sum
       (λ waits b. is S N names size d left start h l waits (me_of (Some object)) f len more deep b) long there gave read done put a
@@ -98,8 +98,8 @@ module _ (S : Script) (N : ℕ) (start : State) where
       → Adds m field place → method_fits S m ≡ true → 1 < n → d < 999 → SFits w64 sum
       → is_some (held h object.id) ≡ true → Gives h object.id (GetField field) (Value (Int (sum -ℤ w))) → Becomes h object.id (GetField field) h
       → Gives h object.id (SetField field (Int sum)) Done → Becomes h object.id (SetField field (Int sum)) h'
-      → At S 0 N start l h (enter S (erase_method m) (me_of (Some object)) (Int w ∷ []) at k sc d n)
-      → At S 0 N start l h' (On (Give (Int sum)) k sc d (n - 2))
+      → At S N start l h (enter S (erase_method m) (me_of (Some object)) (Int w ∷ []) at k sc d n)
+      → At S N start l h' (On (Give (Int sum)) k sc d (n - 2))
   enters_adder l h h' k sc d n object m field place at w sum r right more deep long there gave read done put a =
       let names = S.method_names (erase_method m) in
       let locals = fresh names (Int w ∷ []) in
@@ -114,7 +114,7 @@ module _ (S : Script) (N : ℕ) (start : State) where
       let e2 = same e1 (ap (λ (ns : List Code). On (Following Nil (map erase ns)) (Frame sc ∷ k) inner d n) r.body) in
       let e3 = begins (erase set) _ behind inner (d + 1) (n - 1) (shows-update_field set field op.Plus local place refl) (counts (omega (arith, more)) (omega (arith, deep)) (on _ e2 refl)) in
       let e4 = same e3 (target_field S field op.Plus (erase local) place behind inner (d + 1) (n - 1)) in
-      let leaf : (waits : List Cont) → At S 0 N start l h (On (Eval (erase local)) waits inner (d + 1) (n - 1)) → At S 0 N start l h (On (Give (Int w)) waits inner (d + 1) (n - 1 - 1)) = λ waits b. on _ (gives (Int w) argument (begins (erase local) (node.«Node::Local» r.name r.from) (Under (d + 1) ∷ waits) inner (d + 1 + 1) (n - 1 - 1) (shows-local local 0 r.name r.from refl) (counts (omega (arith, more)) (omega (arith, deep)) b))) refl in
+      let leaf : (waits : List Cont) → At S N start l h (On (Eval (erase local)) waits inner (d + 1) (n - 1)) → At S N start l h (On (Give (Int w)) waits inner (d + 1) (n - 1 - 1)) = λ waits b. on _ (gives (Int w) argument (begins (erase local) (node.«Node::Local» r.name r.from) (Under (d + 1) ∷ waits) inner (d + 1 + 1) (n - 1 - 1) (shows-local local 0 r.name r.from refl) (counts (omega (arith, more)) (omega (arith, deep)) b))) refl in
       let e5 = adds_given l h h' behind object locals (d + 1) (n - 1) field (erase local) place w sum leaf long there gave read done put e4 in
       let twice : n - 1 - 1 ≡ n - 2 = omega arith in
       closes S N start h' l k sc inner d (n - 2) (Int sum) (on _ (on _ (rw twice at e5) refl) refl)

@@ -43,16 +43,16 @@ one_arg base room w q =
 module _ {S : Script} {N : ℕ} {start : State} {h : Private} where
   -- a method is entered with it
   pub placed : {l : Log} (m : Method) (to : Val) (at : Span) (k : List Cont) (d n : ℕ) (me : Val) (names : List NameId) (base : ℕ) (room : List Held) (w : Held) → length names ≤ base → base < length room
-      → At S 0 N start l h (enter S m to (plain w ∷ []) at k (scope_of me names room) d n)
-      → At S 0 N start l h (enter S m to (map plain (take 1 (drop base (slice_set room base w)))) at k (scope_of me names (slice_set room base w)) d n)
+      → At S N start l h (enter S m to (plain w ∷ []) at k (scope_of me names room) d n)
+      → At S N start l h (enter S m to (map plain (take 1 (drop base (slice_set room base w)))) at k (scope_of me names (slice_set room base w)) d n)
   placed m to at k d n me names base room w b q a =
       same a (ap (λ vs. enter S m to vs at k (scope_of me names room) d n) (sym (one_arg base room w q))
       ∙ ap (λ ls. enter S m to (map plain (take 1 (drop base (slice_set room base w)))) at k (record { me = me; locals = ls }) d n) (sym (room_beyond names room base w b)))
 
   -- the same for an assignment, whose value it is
   pub placed_last : {l : Log} (m : Method) (to : Val) (at : Span) (k : List Cont) (d n : ℕ) (me : Val) (names : List NameId) (base : ℕ) (room : List Held) (w : Held) → length names ≤ base → base < length room
-      → At S 0 N start l h (enter S m to (plain w ∷ []) at (Then (Instead (plain w)) ∷ k) (scope_of me names room) d n)
-      → At S 0 N start l h (enter S m to (map plain (take 1 (drop base (slice_set room base w)))) at (Then (Instead (last_value S (map plain (take 1 (drop base (slice_set room base w)))))) ∷ k) (scope_of me names (slice_set room base w)) d n)
+      → At S N start l h (enter S m to (plain w ∷ []) at (Then (Instead (plain w)) ∷ k) (scope_of me names room) d n)
+      → At S N start l h (enter S m to (map plain (take 1 (drop base (slice_set room base w)))) at (Then (Instead (last_value S (map plain (take 1 (drop base (slice_set room base w)))))) ∷ k) (scope_of me names (slice_set room base w)) d n)
   placed_last m to at k d n me names base room w b q a =
       let args = map plain (take 1 (drop base (slice_set room base w))) in
       same (placed m to at (Then (Instead (plain w)) ∷ k) d n me names base room w b q a)
@@ -60,18 +60,18 @@ module _ {S : Script} {N : ℕ} {start : State} {h : Private} where
 
 module _ {S : Script} {N : ℕ} {start : State} {h : Private} where
   -- the arguments that are left, under another name
-  pub passing : {l : Log} {aim : Aim} {vs : List Val} {ns : List Node} {at : Span} {k : List Cont} {sc : Scope} {d n : ℕ} (ms : List Node) → ms ≡ ns → At S 0 N start l h (On (Passing aim vs ns at) k sc d n) → At S 0 N start l h (On (Passing aim vs ms at) k sc d n)
+  pub passing : {l : Log} {aim : Aim} {vs : List Val} {ns : List Node} {at : Span} {k : List Cont} {sc : Scope} {d n : ℕ} (ms : List Node) → ms ≡ ns → At S N start l h (On (Passing aim vs ns at) k sc d n) → At S N start l h (On (Passing aim vs ms at) k sc d n)
   passing {aim = aim} {vs = vs} {at = at} {k = k} {sc = sc} {d = d} {n = n} ms e a = same a (ap (λ ns. On (Passing aim vs ns at) k sc d n) (sym e))
 
   -- the values that came, under another name
-  pub passed : {l : Log} {aim : Aim} {vs : List Val} {ns : List Node} {at : Span} {k : List Cont} {sc : Scope} {d n : ℕ} (ws : List Val) → ws ≡ vs → At S 0 N start l h (On (Passing aim vs ns at) k sc d n) → At S 0 N start l h (On (Passing aim ws ns at) k sc d n)
+  pub passed : {l : Log} {aim : Aim} {vs : List Val} {ns : List Node} {at : Span} {k : List Cont} {sc : Scope} {d n : ℕ} (ws : List Val) → ws ≡ vs → At S N start l h (On (Passing aim vs ns at) k sc d n) → At S N start l h (On (Passing aim ws ns at) k sc d n)
   passed {aim = aim} {ns = ns} {at = at} {k = k} {sc = sc} {d = d} {n = n} ws e a = same a (ap (λ vs. On (Passing aim vs ns at) k sc d n) (sym e))
 
   -- a value that is written behind the frame and those before it joins the arguments that came
   pub joined : {l : Log} {aim : Aim} {rest : List Node} {at : Span} {k : List Cont} {d n : ℕ} (me : Val) (names : List NameId) (base i : ℕ) (before after : List Held) (w : Held) (v : Val) → plain w ≡ v → length names ≤ base → base + i < length after
       → ((j : ℕ) → j < i → slice_get after (base + j) ≡ slice_get before (base + j))
-      → At S 0 N start l h (On (Give v) (Then (Argument aim (map plain (take i (drop base before))) rest at) ∷ k) (scope_of me names after) d n)
-      → At S 0 N start l h (On (Passing aim (map plain (take (i + 1) (drop base (slice_set after (base + i) w)))) rest at) k (scope_of me names (slice_set after (base + i) w)) d n)
+      → At S N start l h (On (Give v) (Then (Argument aim (map plain (take i (drop base before))) rest at) ∷ k) (scope_of me names after) d n)
+      → At S N start l h (On (Passing aim (map plain (take (i + 1) (drop base (slice_set after (base + i) w)))) rest at) k (scope_of me names (slice_set after (base + i) w)) d n)
   joined {aim = aim} {rest = rest} {at = at} {k = k} {d = d} {n = n} me names base i before after w v e b q g a =
       let scope : bound names (map plain (slice_set after (base + i) w)) ≡ bound names (map plain after) = room_beyond names after (base + i) w (omega (arith, b)) in
       let moved = on (On (Passing aim (map plain (take i (drop base before)) ++ v ∷ []) rest at) k (scope_of me names after) d n) a refl in

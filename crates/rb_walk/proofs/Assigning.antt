@@ -72,16 +72,16 @@ module _ (S : Script) (N : ℕ) (start : State) (h : Private) where
 
   -- the method is entered with as many arguments as it has parameters
   pub opens : (l : Log) (k : List Cont) (sc : Scope) (d n : ℕ) (v : Val) (m : CodeMethod) (args : List Val) (at : Span) → length args ≡ length m.params
-      → At S 0 N start l h (enter S (erase_method m) v args at k sc d n)
-      → At S 0 N start l h (On (Following Nil (map erase m.body)) (Frame sc ∷ k) (callee_of v m args) d n)
+      → At S N start l h (enter S (erase_method m) v args at k sc d n)
+      → At S N start l h (On (Following Nil (map erase m.body)) (Frame sc ∷ k) (callee_of v m args) d n)
   opens l k sc d n v m args at e a =
       same a (ap (λ b. cond b (On (Following Nil (map erase m.body)) (Frame sc ∷ k) (callee_of v m args) d n) (raised ArgumentCount at n)) (eq-eqb _ _ e))
 
   -- a statement comes to where the argument is written to the variable
   pub assigning : (l : Log) (k : List Cont) (sc : Scope) (d n : ℕ) (v u w : Val) (m : CodeMethod) (args : List Val) (c : Code) (rest : List Node) (field : NameId) (slot : ℕ) (place : Span)
       → AssignsField c field slot place → fits S c (S.method_names (erase_method m)) m.size ≡ true → slice_get args slot ≡ Some w → 1 < n → d < 999
-      → At S 0 N start l h (On (Following u (erase c ∷ rest)) (Frame sc ∷ k) (callee_of v m args) d n)
-      → At S 0 N start l h (ask_of v (SetField field w) place (Then (Instead w) ∷ Under d ∷ Then (Rest rest) ∷ Frame sc ∷ k) (callee_of v m args) (d + 1) (n - 2))
+      → At S N start l h (On (Following u (erase c ∷ rest)) (Frame sc ∷ k) (callee_of v m args) d n)
+      → At S N start l h (ask_of v (SetField field w) place (Then (Instead w) ∷ Under d ∷ Then (Rest rest) ∷ Frame sc ∷ k) (callee_of v m args) (d + 1) (n - 2))
   assigning l k sc d n v u w m args c rest field slot place r right held more deep a =
       let names = S.method_names (erase_method m) in
       let inner = callee_of v m args in
@@ -97,8 +97,8 @@ module _ (S : Script) (N : ℕ) (start : State) (h : Private) where
   -- the same of the statement at an index
   pub assigning_at : (l : Log) (k : List Cont) (sc : Scope) (d n : ℕ) (v u : Val) (m : CodeMethod) (args : List Held) (i : ℕ) (c : Code) (w : Held) (field : NameId) (slot : ℕ) (place : Span)
       → i < length m.body → c ≡ get_or m.body i c → AssignsField c field slot place → slot < length args → w ≡ get_or args slot w → method_fits S m ≡ true → 1 < n → d < 999
-      → At S 0 N start l h (On (Following u (map erase (drop i m.body))) (Frame sc ∷ k) (callee_of v m (map plain args)) d n)
-      → At S 0 N start l h (ask_of v (SetField field (plain w)) place (Then (Instead (plain w)) ∷ Under d ∷ Then (Rest (map erase (drop (i + 1) m.body))) ∷ Frame sc ∷ k) (callee_of v m (map plain args)) (d + 1) (n - 2))
+      → At S N start l h (On (Following u (map erase (drop i m.body))) (Frame sc ∷ k) (callee_of v m (map plain args)) d n)
+      → At S N start l h (ask_of v (SetField field (plain w)) place (Then (Instead (plain w)) ∷ Under d ∷ Then (Rest (map erase (drop (i + 1) m.body))) ∷ Frame sc ∷ k) (callee_of v m (map plain args)) (d + 1) (n - 2))
   assigning_at l k sc d n v u m args i c w field slot place short is r below arg right more deep a =
       let inner = callee_of v m (map plain args) in
       let held = get_map plain args slot (Some w) (slice_get_read args _ slot w refl below arg) in
@@ -109,7 +109,7 @@ module _ (S : Script) (N : ℕ) (start : State) (h : Private) where
   -- where a value came of that, the next statement is begun
   pub assigned : (l : Log) (k : List Cont) (sc inner : Scope) (d d' n : ℕ) (w : Val) (rest : List Node) (r : Registers) (x : Held) (y : Leave) → is_left r ≡ false
       → Came S N start l h (outcome r x y) (Then (Instead w) ∷ Under d ∷ Then (Rest rest) ∷ Frame sc ∷ k) inner d' n
-      → At S 0 N start l h (On (Following w rest) (Frame sc ∷ k) inner d n)
+      → At S N start l h (On (Following w rest) (Frame sc ∷ k) inner d n)
   assigned l k sc inner d d' n w rest r x y none a = on _ (on _ (on _ (given r x y none a) refl) refl) refl
 
   -- and where none came, the method is left
@@ -122,5 +122,5 @@ module _ (S : Script) (N : ℕ) (start : State) (h : Private) where
       called S N start h (outcome r x y) l sc k inner d n (passes S N start h r x y l (Rest rest) (Frame sc ∷ k) inner d n gone e2)
 
   -- behind the last statement the method gives its value
-  pub closes : (l : Log) (k : List Cont) (sc inner : Scope) (d n : ℕ) (w : Val) → At S 0 N start l h (On (Following w []) (Frame sc ∷ k) inner d n) → At S 0 N start l h (On (Give w) k sc d n)
+  pub closes : (l : Log) (k : List Cont) (sc inner : Scope) (d n : ℕ) (w : Val) → At S N start l h (On (Following w []) (Frame sc ∷ k) inner d n) → At S N start l h (On (Give w) k sc d n)
   closes l k sc inner d n w a = on _ (on _ a refl) refl

@@ -61,7 +61,7 @@ left_answered S (Inspects collection) at k sc d n = refl
 
 module _ (S : Script) (N : ℕ) (start : State) (h : Private) where
   -- what a method without a block answers
-  pub answers : (l : Log) (a : Answer) (at : Span) (k : List Cont) (sc : Scope) (d n : ℕ) → At S 0 N start l h (answered S a None at k sc d n) → Came S N start l h (outcome_of a at) k sc d n
+  pub answers : (l : Log) (a : Answer) (at : Span) (k : List Cont) (sc : Scope) (d n : ℕ) → At S N start l h (answered S a None at k sc d n) → Came S N start l h (outcome_of a at) k sc d n
   answers l (Gives v) at k sc d n a = a
   answers l (Raises fault) at k sc d n a = a
   answers l (Loops turns) at k sc d n a = a
@@ -73,13 +73,13 @@ module _ (S : Script) (N : ℕ) (start : State) (h : Private) where
   answers l (Inspects collection) at k sc d n a = (_, a, refl)
 
   -- an outcome, or a cut by memory at a state with as many steps left
-  pub or_memory : (l : Log) (k : List Cont) (sc : Scope) (d n : ℕ) (wanted o : Outcome) (s : State) → OrMemory wanted o → At S 0 N start l h s → left_in s ≡ n → Came S N start l h wanted k sc d n → Came S N start l h o k sc d n
+  pub or_memory : (l : Log) (k : List Cont) (sc : Scope) (d n : ℕ) (wanted o : Outcome) (s : State) → OrMemory wanted o → At S N start l h s → left_in s ≡ n → Came S N start l h wanted k sc d n → Came S N start l h o k sc d n
   or_memory l k sc d n wanted o s (inl e) a q c = subst (λ o. Came S N start l h o k sc d n) (sym e) c
   or_memory l k sc d n wanted o s (inr e) a q c = subst (λ o. Came S N start l h o k sc d n) (sym e) (s, a, q)
 
   -- a call of a method of a value without a block comes out so
   pub calls : (l : Log) (v : Val) (name : Text) (args : List Val) (at : Span) (k : List Cont) (sc : Scope) (d n : ℕ) (o : Outcome) → texted S name (methods_of S v) ≡ None
-      → OrMemory (outcome_of (deed S.program v name args None) at) o → At S 0 N start l h (invoke S v name args None at k sc d n) → Came S N start l h o k sc d n
+      → OrMemory (outcome_of (deed S.program v name args None) at) o → At S N start l h (invoke S v name args None at k sc d n) → Came S N start l h o k sc d n
   calls l v name args at k sc d n o e m a =
       let answer = deed S.program v name args None in
       let b = same a (by_table S v name args None at k sc d n e) in

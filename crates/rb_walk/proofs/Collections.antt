@@ -48,22 +48,22 @@ next_is thing m h id sort =
 module _ (S : Script) (N : ℕ) (start : State) where
   -- a thing is made, and a reference to it is given
   pub made_at : (l : Log) (h h' : Private) (thing : Ref) (m : Make) (k : List Cont) (sc : Scope) (d n : ℕ) → thing.id ≡ next_id h → thing.sort ≡ doing.sort_of m → h' ≡ entered h (made m)
-      → At S 0 N start l h (On (Making (made m)) k sc d n) → At S 0 N start l h' (On (Give (To (thing_of thing))) k sc d n)
+      → At S N start l h (On (Making (made m)) k sc d n) → At S N start l h' (On (Give (To (thing_of thing))) k sc d n)
   made_at l h h' thing m k sc d n id sort new come =
       let b = makes l h (On (Making (made m)) k sc d n) (made m) come refl in
-      subst (λ y. At S 0 N start l y (On (Give (To (thing_of thing))) k sc d n)) (sym new) (moves.gives (To (thing_of thing)) (next_is thing m h id sort) b)
+      subst (λ y. At S N start l y (On (Give (To (thing_of thing))) k sc d n)) (sym new) (moves.gives (To (thing_of thing)) (next_is thing m h id sort) b)
 
 -- ---- collections that are read
 
 module _ (S : Script) (N : ℕ) (start : State) where
   -- a private collection is read by one copy
   pub read_at : (l : Log) (h h' : Private) (r : Reference) (a : Answered) (purpose : Use) (at : Span) (k : List Cont) (sc : Scope) (d n : ℕ) → is_some (held h r.id) ≡ true → Gives h r.id Copy (said a) → Becomes h r.id Copy h'
-      → At S 0 N start l h (On (Reading r purpose at) k sc d n) → At S 0 N start l h' (used purpose r (said a) at k sc d n)
+      → At S N start l h (On (Reading r purpose at) k sc d n) → At S N start l h' (used purpose r (said a) at k sc d n)
   read_at l h h' r a purpose at k sc d n there gave become come =
       let x = there_is (held h r.id) there in
       let b = acts l h (On (Reading r purpose at) k sc d n) r Copy x.0 come refl x.1 in
-      subst (λ y. At S 0 N start l h' (used purpose r y at k sc d n)) (sym (gave x.0 x.1))
-      (subst (λ y. At S 0 N start l y (used purpose r (gives x.0 Copy) at k sc d n)) (sym (become x.0 x.1)) b)
+      subst (λ y. At S N start l h' (used purpose r y at k sc d n)) (sym (gave x.0 x.1))
+      (subst (λ y. At S N start l y (used purpose r (gives x.0 Copy) at k sc d n)) (sym (become x.0 x.1)) b)
 
 -- ---- what is done behind a reply
 

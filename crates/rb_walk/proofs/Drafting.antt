@@ -38,43 +38,43 @@ use Rattle.rb_walk.proofs.Calls.{or_memory}
 
 module _ (S : Script) (N : ℕ) (start : State) (h : Private) (l : Log) (program : Program) (t : Draft) (at : Span) (k : List Cont) (sc : Scope) (d n : ℕ) (p : S.program ≡ program) where
   -- by what it needs next
-  by_need : (need : Needs) → needs program t ≡ need → At S 0 N start l h (On (Drafting t at) k sc d n) → At S 0 N start l h (drafted S need at k sc d n)
+  by_need : (need : Needs) → needs program t ≡ need → At S N start l h (On (Drafting t at) k sc d n) → At S N start l h (drafted S need at k sc d n)
   by_need need e a = on _ a (ap (λ x. Go (drafted S x at k sc d n)) (ap (λ q. needs q t) p ∙ e))
 
-  pub text_goes : (new : Draft) → needs program t ≡ Goes (Some new) → At S 0 N start l h (On (Drafting t at) k sc d n) → At S 0 N start l h (On (Drafting new at) k sc d n)
+  pub text_goes : (new : Draft) → needs program t ≡ Goes (Some new) → At S N start l h (On (Drafting t at) k sc d n) → At S N start l h (On (Drafting new at) k sc d n)
   text_goes new e a = by_need (Goes (Some new)) e a
 
   -- no text comes of it
-  pub text_ends : (f : RenderFault) → (f ≡ fault.TooLong → needs program t ≡ Goes None) → At S 0 N start l h (On (Drafting t at) k sc d n) → Came S N start l h (text_end f at) k sc d n
+  pub text_ends : (f : RenderFault) → (f ≡ fault.TooLong → needs program t ≡ Goes None) → At S N start l h (On (Drafting t at) k sc d n) → Came S N start l h (text_end f at) k sc d n
   text_ends fault.TooLong e a = by_need (Goes None) (e refl) a
   text_ends fault.Memory e a = (On (Drafting t at) k sc d n, a, refl)
 
   -- it is given
-  pub text_given : (text : Text) (o : Outcome) → needs program t ≡ Finished text → OrMemory (Gave (Str text)) o → At S 0 N start l h (On (Drafting t at) k sc d n) → Came S N start l h o k sc d n
+  pub text_given : (text : Text) (o : Outcome) → needs program t ≡ Finished text → OrMemory (Gave (Str text)) o → At S N start l h (On (Drafting t at) k sc d n) → Came S N start l h o k sc d n
   text_given text o e m a =
       let b = by_need (Finished text) e a in
       or_memory S N start h l k sc d n (Gave (Str text)) o (On (Give (Str text)) k sc d n) m b refl b
 
   -- a value is asked for its text, which is a line
-  pub text_asked : (v : Val) (new : Draft) → needs program t ≡ Asks v new → At S 0 N start l h (On (Drafting t at) k sc d n) → At S 0 N start l h (give_text S v at (Under d ∷ Then (LineOf new at) ∷ k) sc (d + length new.begun) n)
+  pub text_asked : (v : Val) (new : Draft) → needs program t ≡ Asks v new → At S N start l h (On (Drafting t at) k sc d n) → At S N start l h (give_text S v at (Under d ∷ Then (LineOf new at) ∷ k) sc (d + length new.begun) n)
   text_asked v new e a = by_need (Asks v new) e a
 
   -- an element begins, where a step is left
-  pub no_step : (new : Draft) → needs program t ≡ Element new → n ≡ 0 → At S 0 N start l h (On (Drafting t at) k sc d n) → At S 0 N start l h (ended ending.Steps n)
+  pub no_step : (new : Draft) → needs program t ≡ Element new → n ≡ 0 → At S N start l h (On (Drafting t at) k sc d n) → At S N start l h (ended ending.Steps n)
   no_step new e z a = same (by_need (Element new) e a) (ap (start_element new at k sc d) z ∙ ap (ended ending.Steps) (sym z))
 
-  pub element_begun : (new : Draft) → needs program t ≡ Element new → 0 < n → At S 0 N start l h (On (Drafting t at) k sc d n) → At S 0 N start l h (On (Drafting new at) k sc d (n - 1))
+  pub element_begun : (new : Draft) → needs program t ≡ Element new → 0 < n → At S N start l h (On (Drafting t at) k sc d n) → At S N start l h (On (Drafting new at) k sc d (n - 1))
   element_begun new e q a =
       let f : n ≡ suc (n - 1) = omega arith in
       same (by_need (Element new) e a) (ap (start_element new at k sc d) f)
 
   -- a collection is read, where there are not too many
-  pub reads : (thing : Reference) (new : Draft) → needs program t ≡ Copies thing new → d + length new.begun < 1000 → At S 0 N start l h (On (Drafting t at) k sc d n) → At S 0 N start l h (On (Reading thing (ForText new) at) k sc d n)
+  pub reads : (thing : Reference) (new : Draft) → needs program t ≡ Copies thing new → d + length new.begun < 1000 → At S N start l h (On (Drafting t at) k sc d n) → At S N start l h (On (Reading thing (ForText new) at) k sc d n)
   reads thing new e q a =
       let f : nat_lt (d + length new.begun) 1000 ≡ true = grind (arith, nat_tests) in
       same (by_need (Copies thing new) e a) (ap (λ b. cond b (On (Reading thing (ForText new) at) k sc d n) (raised TooDeep at n)) f)
 
-  pub too_deep : (thing : Reference) (new : Draft) → needs program t ≡ Copies thing new → 1000 ≤ d + length new.begun → At S 0 N start l h (On (Drafting t at) k sc d n) → At S 0 N start l h (raised TooDeep at n)
+  pub too_deep : (thing : Reference) (new : Draft) → needs program t ≡ Copies thing new → 1000 ≤ d + length new.begun → At S N start l h (On (Drafting t at) k sc d n) → At S N start l h (raised TooDeep at n)
   too_deep thing new e q a =
       let f : nat_lt (d + length new.begun) 1000 ≡ false = grind (arith, nat_tests) in
       same (by_need (Copies thing new) e a) (ap (λ b. cond b (On (Reading thing (ForText new) at) k sc d n) (raised TooDeep at n)) f)
@@ -220,7 +220,7 @@ module _ (at : Span) (k : List Cont) (sc : Scope) (d n : ℕ) where
   text_left t thing (reply.Failed f) = refl
 
   pub read_ends : (S : Script) (N : ℕ) (start : State) (h : Private) (l : Log) (thing : Reference) (r : Reply) (t : Draft) (f : RenderFault) → (f ≡ fault.TooLong → ReadsTo thing r t (λ at k sc d left. raised TextTooLong at left))
-      → At S 0 N start l h (used (ForText t) thing r at k sc d n) → Came S N start l h (text_end f at) k sc d n
+      → At S N start l h (used (ForText t) thing r at k sc d n) → Came S N start l h (text_end f at) k sc d n
   read_ends S N start h l thing r t fault.TooLong e a = same a (e refl at k sc d n)
   read_ends S N start h l thing r t fault.Memory e a = (used (ForText t) thing r at k sc d n, a, text_left t thing r)
 
@@ -254,25 +254,25 @@ module _ (S : Script) (N : ℕ) (start : State) (h : Private) (l : Log) (all vs 
 
   -- its inspected form is given, where it is not read
   pub form_given : (program : Program) (v : Val) → S.program ≡ program → is_collection v ≡ false
-      → At S 0 N start l h (write S (Inspecting all) bytes (v ∷ vs) at k sc d n) → At S 0 N start l h (On (Give (Str (inspected program v))) (Then (WriteBehind (Inspecting all) bytes vs at) ∷ k) sc d n)
+      → At S N start l h (write S (Inspecting all) bytes (v ∷ vs) at k sc d n) → At S N start l h (On (Give (Str (inspected program v))) (Then (WriteBehind (Inspecting all) bytes vs at) ∷ k) sc d n)
   form_given program v p e a =
-      subst (λ P. At S 0 N start l h (On (Give (Str (inspected P v))) behind sc d n)) p
+      subst (λ P. At S N start l h (On (Give (Str (inspected P v))) behind sc d n)) p
       (same a (ap (λ b. cond b (On (Drafting (draft_of Inspected v) at) behind sc d n) (On (Give (Str (inspected S.program v))) behind sc d n)) e))
 
   -- a text is made where it is
   pub form_drafted : (v : Val) → is_collection v ≡ true
-      → At S 0 N start l h (write S (Inspecting all) bytes (v ∷ vs) at k sc d n) → At S 0 N start l h (On (Drafting (draft_of Inspected v) at) (Then (WriteBehind (Inspecting all) bytes vs at) ∷ k) sc d n)
+      → At S N start l h (write S (Inspecting all) bytes (v ∷ vs) at k sc d n) → At S N start l h (On (Drafting (draft_of Inspected v) at) (Then (WriteBehind (Inspecting all) bytes vs at) ∷ k) sc d n)
   form_drafted v e a = same a (ap (λ b. cond b (On (Drafting (draft_of Inspected v) at) behind sc d n) (On (Give (Str (inspected S.program v))) behind sc d n)) e)
 
   -- the text is written as a line, or it is too long for it
   pub line_written : (v : Val) (new : Text) → new ≡ bytes ++ (bytes_of S v ++ 10 ∷ []) → length new ≤ max_bytes
-      → At S 0 N start l h (On (Give v) (Then (WriteBehind (Inspecting all) bytes vs at) ∷ k) sc d n) → At S 0 N start l h (write S (Inspecting all) new vs at k sc d n)
+      → At S N start l h (On (Give v) (Then (WriteBehind (Inspecting all) bytes vs at) ∷ k) sc d n) → At S N start l h (write S (Inspecting all) new vs at k sc d n)
   line_written v new e q a =
-      subst (λ b. At S 0 N start l h (write S (Inspecting all) b vs at k sc d n)) (sym e)
+      subst (λ b. At S N start l h (write S (Inspecting all) b vs at k sc d n)) (sym e)
       (same (on (write_behind S (Inspecting all) bytes (bytes_of S v) vs at k sc d n) a refl) (behind_fits S (Inspecting all) bytes (bytes_of S v) vs at k sc d n (subst (λ b. length b ≤ max_bytes) e q)))
 
   pub line_ends : (v : Val) (f : RenderFault) → (f ≡ fault.TooLong → max_bytes < length (bytes ++ (bytes_of S v ++ 10 ∷ [])))
-      → At S 0 N start l h (On (Give v) (Then (WriteBehind (Inspecting all) bytes vs at) ∷ k) sc d n) → Came S N start l h (text_end f at) k sc d n
+      → At S N start l h (On (Give v) (Then (WriteBehind (Inspecting all) bytes vs at) ∷ k) sc d n) → Came S N start l h (text_end f at) k sc d n
   line_ends v fault.TooLong e a =
       same (on (write_behind S (Inspecting all) bytes (bytes_of S v) vs at k sc d n) a refl) (behind_long S (Inspecting all) bytes (bytes_of S v) vs at k sc d n (e refl))
   line_ends v fault.Memory e a = (On (Give v) behind sc d n, a, refl)

@@ -58,7 +58,7 @@ module _ (S : Script) (N : ℕ) (start : State) where
   pub calls_fetched : (script : CodeScript) (l : Log) (own : Private) (k : List Cont) (me : Val) (names : List NameId) (size d left steps_first steps_second : ℕ) (room : List Held) (name : NameId) (first second : Code) (at : Span) (m n : ℤ) (o : Outcome)
       → StandsFor script S → fits S first names size ≡ true → fits S second names size ≡ true → length names ≤ length room → steps_first ≤ 3 → 5 < left → d < 999
       → Fetches script me steps_first first room own m → Fetches script me steps_second second room own n → OrMemory (outcome_of (deed S.program (Int m) (text_of S name) (Int n ∷ []) None) at) o
-      → At S 0 N start l own (On (Eval (erase first)) (Then (ReceiverOf (text_of S name) (erase second ∷ []) None at) ∷ k) (scope_of me names room) d left) → Came S N start l own o k (scope_of me names room) d (left - (steps_first + steps_second))
+      → At S N start l own (On (Eval (erase first)) (Then (ReceiverOf (text_of S name) (erase second ∷ []) None at) ∷ k) (scope_of me names room) d left) → Came S N start l own o k (scope_of me names room) d (left - (steps_first + steps_second))
   calls_fetched script l own k me names size d left steps_first steps_second room name first second at m n o st f g len few more deep is js answer a =
       let some : 2 < left = omega (arith, more) in
       let enough : 2 < left - steps_first = omega (arith, more, few) in

@@ -107,8 +107,8 @@ module _ {S : Script} {N : ℕ} {start : State} {h : Private} where
       → method_fits S m ≡ true → count ≡ length m.params → before + count ≤ length there
       → ((i : ℕ) → i < count → slice_get frame i ≡ slice_get (drop before there) i)
       → ((i : ℕ) → count ≤ i → i < m.size → slice_get frame i ≡ Some held.Nil)
-      → At S 0 N start log h (enter S (erase_method m) me (map plain (take count (drop before there))) at k sc d n)
-      → At S 0 N start log h (On (Following Nil (map erase m.body)) (Frame sc ∷ k) (scope_of me (S.method_names (erase_method m)) frame) d n)
+      → At S N start log h (enter S (erase_method m) me (map plain (take count (drop before there))) at k sc d n)
+      → At S N start log h (On (Following Nil (map erase m.body)) (Frame sc ∷ k) (scope_of me (S.method_names (erase_method m)) frame) d n)
   enters {k = k} {sc = sc} {d = d} {n = n} m me count before there frame at right counts long below within a =
       let rest = drop before there in
       let args = map plain (take count rest) in
@@ -125,8 +125,8 @@ module _ {S : Script} {N : ℕ} {start : State} {h : Private} where
   -- or not, where their count is another
   pub other_count : {log : Log} (m : CodeMethod) (me : Val) (count before : ℕ) (there : List Held) (at : Span) (k : List Cont) (sc : Scope) (d n : ℕ)
       → (count ≡ length m.params → ⊥) → before + count ≤ length there
-      → At S 0 N start log h (enter S (erase_method m) me (map plain (take count (drop before there))) at k sc d n)
-      → At S 0 N start log h (raised ArgumentCount at n)
+      → At S N start log h (enter S (erase_method m) me (map plain (take count (drop before there))) at k sc d n)
+      → At S N start log h (raised ArgumentCount at n)
   other_count m me count before there at k sc d n other long a =
       let rest = drop before there in
       let args = map plain (take count rest) in

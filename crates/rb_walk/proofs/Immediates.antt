@@ -171,7 +171,7 @@ given_leaf c room own (Some a) is_row e h = given_held c room own (me_of (Some a
 module _ (S : Script) (N : ℕ) (start : State) where
   pub asks_thing : (l : Log) (own : Private) (k : List Cont) (sc : Scope) (d n : ℕ) (method : Option Builtin) (name : NameId) (at : Span) (thing : Ref) (arg v : Val)
       → builtin_of (text_of S name) ≡ method → HasNoMethods (me_of (Some thing)) → IsToldOf own thing method arg v
-      → Stands S 0 N start l own (On (Give arg) (Then (Argument (OnReceiver (me_of (Some thing)) (text_of S name) None) [] [] at) ∷ k) sc d n) → Came S N start l own (Gave v) k sc d n
+      → Stands S N start l own (On (Give arg) (Then (Argument (OnReceiver (me_of (Some thing)) (text_of S name) None) [] [] at) ∷ k) sc d n) → Came S N start l own (Gave v) k sc d n
   asks_thing l own k sc d n method name at thing arg v number unnamed is a =
       let to = me_of (Some thing) in
       let answers : CallsBuiltin N S.program method to (arg ∷ []) at d n n l own own (Gave v) = λ text e T begun waits s same_program b.
@@ -181,7 +181,7 @@ module _ (S : Script) (N : ℕ) (start : State) where
   pub reads_element : (l : Log) (own : Private) (k : List Cont) (me : Val) (names : List NameId) (size d left steps_first steps_second : ℕ) (room : List Held) (method : Option Builtin) (name : NameId) (first second : Code) (at : Span) (v : Val)
       → builtin_of (text_of S name) ≡ method → fits S first names size ≡ true → fits S second names size ≡ true → length names ≤ length room → steps_first ≤ 3 → 5 < left → d < 999
       → IsElementAt own method first steps_first second steps_second room v
-      → Stands S 0 N start l own (On (Eval (erase first)) (Then (ReceiverOf (text_of S name) (erase second ∷ []) None at) ∷ k) (scope_of me names room) d left) → Came S N start l own (Gave v) k (scope_of me names room) d (left - (steps_first + steps_second))
+      → Stands S N start l own (On (Eval (erase first)) (Then (ReceiverOf (text_of S name) (erase second ∷ []) None at) ∷ k) (scope_of me names room) d left) → Came S N start l own (Gave v) k (scope_of me names room) d (left - (steps_first + steps_second))
   reads_element l own k me names size d left steps_first steps_second room method name first second at v number f g len few more deep is a =
       let to = me_of (Some is.thing) in
       let some : 2 < left = omega (arith, more) in

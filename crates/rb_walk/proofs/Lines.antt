@@ -45,7 +45,7 @@ one_of_two n false s t p q = q
 
 module _ (S : Script) (N : ℕ) (start : State) (h : Private) (l : Log) (at : Span) (k : List Cont) (sc : Scope) (d n : ℕ) where
   -- a line joins a text
-  pub line_joins : (t new : Draft) (line : List ℕ) → with_line t line ≡ Some new → At S 0 N start l h (going (with_line t line) at k sc d n) → At S 0 N start l h (On (Drafting new at) k sc d n)
+  pub line_joins : (t new : Draft) (line : List ℕ) → with_line t line ≡ Some new → At S N start l h (going (with_line t line) at k sc d n) → At S N start l h (On (Drafting new at) k sc d n)
   line_joins t new line e a = same a (ap (λ o. going o at k sc d n) e)
 
   line_left : (b : Bool) (t : Draft) → left_in (going (cond b (Some t) None) at k sc d n) ≡ n
@@ -53,21 +53,21 @@ module _ (S : Script) (N : ℕ) (start : State) (h : Private) (l : Log) (at : Sp
   line_left false t = refl
 
   -- or no text comes of it
-  pub line_ends : (t : Draft) (line : List ℕ) (f : RenderFault) → (f ≡ fault.TooLong → with_line t line ≡ None) → At S 0 N start l h (going (with_line t line) at k sc d n) → Came S N start l h (text_end f at) k sc d n
+  pub line_ends : (t : Draft) (line : List ℕ) (f : RenderFault) → (f ≡ fault.TooLong → with_line t line ≡ None) → At S N start l h (going (with_line t line) at k sc d n) → Came S N start l h (text_end f at) k sc d n
   line_ends t line fault.TooLong e a = same a (ap (λ o. going o at k sc d n) (e refl))
   line_ends t line fault.Memory e a = (going (with_line t line) at k sc d n, a, line_left _ _)
 
   -- a text joins what is printed
   pub text_joins : (old new text : List ℕ) (to : List ℕ → State) → new ≡ old ++ text → length new ≤ max_bytes
-      → At S 0 N start l h (cond (nat_lt max_bytes (length (old ++ text))) (raised TextTooLong at n) (to (old ++ text))) → At S 0 N start l h (to new)
+      → At S N start l h (cond (nat_lt max_bytes (length (old ++ text))) (raised TextTooLong at n) (to (old ++ text))) → At S N start l h (to new)
   text_joins old new text to e fits a =
       let short : nat_lt max_bytes (length new) ≡ false = grind (arith, nat_tests, fits) in
-      let b = subst (λ bytes. At S 0 N start l h (cond (nat_lt max_bytes (length bytes)) (raised TextTooLong at n) (to bytes))) (sym e) a in
+      let b = subst (λ bytes. At S N start l h (cond (nat_lt max_bytes (length bytes)) (raised TextTooLong at n) (to bytes))) (sym e) a in
       same b (ap (λ t. cond t (raised TextTooLong at n) (to new)) short)
 
   -- or there is none
   pub text_long : (old text : List ℕ) (to : List ℕ → State) (f : RenderFault) → (f ≡ fault.TooLong → max_bytes < length (old ++ text)) → ((bytes : List ℕ) → left_in (to bytes) ≡ n)
-      → At S 0 N start l h (cond (nat_lt max_bytes (length (old ++ text))) (raised TextTooLong at n) (to (old ++ text))) → Came S N start l h (text_end f at) k sc d n
+      → At S N start l h (cond (nat_lt max_bytes (length (old ++ text))) (raised TextTooLong at n) (to (old ++ text))) → Came S N start l h (text_end f at) k sc d n
   text_long old text to fault.TooLong e q a =
       let more = e refl in
       let long : nat_lt max_bytes (length (old ++ text)) ≡ true = grind (arith, nat_tests, more) in
@@ -79,7 +79,7 @@ module _ (S : Script) (N : ℕ) (start : State) (h : Private) (l : Log) (at : Sp
 module _ (S : Script) (N : ℕ) (start : State) (h : Private) where
   -- the text of an element that came is a line
   pub told_line : (l : Log) (t : Draft) (at : Span) (k : List Cont) (sc : Scope) (d d' n : ℕ) (program : Program) (c : Registers) (w : Held) (x : Leave) → is_left c ≡ false
-      → Came S N start l h (as_text program (outcome c w x)) (Under d ∷ Then (LineOf t at) ∷ k) sc d' n → At S 0 N start l h (going (with_line t (shown program (value_of c w))) at k sc d n)
+      → Came S N start l h (as_text program (outcome c w x)) (Under d ∷ Then (LineOf t at) ∷ k) sc d' n → At S N start l h (going (with_line t (shown program (value_of c w))) at k sc d n)
   told_line l t at k sc d d' n program c w x came a =
       let b = left S N start h l _ (Then (LineOf t at) ∷ k) sc d d' n a in
       on _ (subst (λ o. Came S N start l h o (Then (LineOf t at) ∷ k) sc d n) (told_gave program c w x came) b) refl
@@ -93,16 +93,16 @@ module _ (S : Script) (N : ℕ) (start : State) (h : Private) where
 
   -- the lines of an array that came join what is printed
   pub lines_told : (l : Log) (bytes : List ℕ) (vs : List Val) (at : Span) (k : List Cont) (sc : Scope) (d n : ℕ) (program : Program) (c : Registers) (w : Held) (x : Leave) → is_left c ≡ false → as_text program (outcome c w x) ≡ outcome c w x
-      → Came S N start l h (outcome c w x) (Then (LinesBehind bytes vs at) ∷ k) sc d n → At S 0 N start l h (write_lines S bytes (shown program (value_of c w)) vs at k sc d n)
+      → Came S N start l h (outcome c w x) (Then (LinesBehind bytes vs at) ∷ k) sc d n → At S N start l h (write_lines S bytes (shown program (value_of c w)) vs at k sc d n)
   lines_told l bytes vs at k sc d n program c w x came text a =
       on _ (subst (λ o. Came S N start l h o (Then (LinesBehind bytes vs at) ∷ k) sc d n) (sym text ∙ told_gave program c w x came) a) refl
 
   -- what is written of a list of values is written of one and the others
   pub writes_next : (l : Log) (style : Style) (bytes : List ℕ) (rest : List Val) (at : Span) (k : List Cont) (sc : Scope) (d n : ℕ) (v : Val) (vs : List Val) → rest ≡ v ∷ vs
-      → At S 0 N start l h (write S style bytes rest at k sc d n) → At S 0 N start l h (write S style bytes (v ∷ vs) at k sc d n)
+      → At S N start l h (write S style bytes rest at k sc d n) → At S N start l h (write S style bytes (v ∷ vs) at k sc d n)
   writes_next l style bytes rest at k sc d n v vs e a = same a (ap (λ vs. write S style bytes vs at k sc d n) e)
 
   -- an array is written in the style of lines alone
   pub in_style : (l : Log) (style : Style) (bytes : List ℕ) (vs : List Val) (at : Span) (k : List Cont) (sc : Scope) (d n : ℕ) {A B : Type 0} → style ≡ Lines
-      → A × (B → At S 0 N start l h (write S Lines bytes vs at k sc d n)) → A × (B → At S 0 N start l h (write S style bytes vs at k sc d n))
-  in_style l style bytes vs at k sc d n {A = A} {B = B} e a = subst (λ s. A × (B → At S 0 N start l h (write S s bytes vs at k sc d n))) (sym e) a
+      → A × (B → At S N start l h (write S Lines bytes vs at k sc d n)) → A × (B → At S N start l h (write S style bytes vs at k sc d n))
+  in_style l style bytes vs at k sc d n {A = A} {B = B} e a = subst (λ s. A × (B → At S N start l h (write S s bytes vs at k sc d n))) (sym e) a

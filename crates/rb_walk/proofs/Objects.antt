@@ -42,21 +42,21 @@ there_is (Some x) h = (x, refl)
 module _ (S : Script) (N : ℕ) (start : State) where
   -- a private thing answers, and becomes what the act makes of it
   pub asked_reply : (l : Log) (h h' : Private) (r : Reference) (act : Act) (y : Reply) (at : Span) (k : List Cont) (sc : Scope) (d n : ℕ) → is_some (held h r.id) ≡ true → Gives h r.id act y → Becomes h r.id act h'
-      → At S 0 N start l h (ask r act at k sc d n) → At S 0 N start l h' (answered y at k sc d n)
+      → At S N start l h (ask r act at k sc d n) → At S N start l h' (answered y at k sc d n)
   asked_reply l h h' r act y at k sc d n there gave become come =
       let x = there_is (held h r.id) there in
       let b = acts l h (ask r act at k sc d n) r act x.0 come refl x.1 in
-      subst (λ z. At S 0 N start l h' (answered z at k sc d n)) (sym (gave x.0 x.1))
-      (subst (λ z. At S 0 N start l z (answered (gives x.0 act) at k sc d n)) (sym (become x.0 x.1)) b)
+      subst (λ z. At S N start l h' (answered z at k sc d n)) (sym (gave x.0 x.1))
+      (subst (λ z. At S N start l z (answered (gives x.0 act) at k sc d n)) (sym (become x.0 x.1)) b)
 
   pub asked : (l : Log) (h h' : Private) (r : Reference) (act : Act) (a : Answered) (at : Span) (k : List Cont) (sc : Scope) (d n : ℕ) → is_some (held h r.id) ≡ true → Gives h r.id act (said a) → Becomes h r.id act h'
-      → At S 0 N start l h (ask r act at k sc d n) → At S 0 N start l h' (answered (said a) at k sc d n)
+      → At S N start l h (ask r act at k sc d n) → At S N start l h' (answered (said a) at k sc d n)
   asked l h h' r act a at k sc d n there gave become come = asked_reply l h h' r act (said a) at k sc d n there gave become come
 
 module _ (S : Script) (N : ℕ) (start : State) (h : Private) where
   -- a step that gives its value to an instance variable asks the object of `self`
   pub fielded_by : {l : Log} {k : List Cont} {sc : Scope} {d n : ℕ} (name : NameId) (at : Span) (step : Step) → Fields name at step → (v : Val)
-      → At S 0 N start l h (On (Give v) (Then step ∷ k) sc d n) → At S 0 N start l h (ask_of sc.me (SetField name v) at (Then (Instead v) ∷ k) sc d n)
+      → At S N start l h (On (Give v) (Then step ∷ k) sc d n) → At S N start l h (ask_of sc.me (SetField name v) at (Then (Instead v) ∷ k) sc d n)
   fielded_by name at step plainly v a = on _ a refl
   fielded_by name at step updating v a = on _ a refl
 
@@ -90,13 +90,13 @@ module _ (S : Script) (N : ℕ) (start : State) where
   -- a new object, and then its `initialize`
   pub created : (l : Log) (h h' : Private) (thing : Ref) (class : ℕ) (first : Option ℕ) (name : NameId) (args : List Val) (at : Span) (k : List Cont) (sc : Scope) (d n : ℕ) → is_made S class first name ≡ true
       → thing.id ≡ next_id h → thing.sort ≡ sort.Object class → h' ≡ entered h (Object class [])
-      → At S 0 N start l h (perform S (Creating name) args at k sc d n) → At S 0 N start l h' (initialize S (me_of (Some thing)) args at k sc d n)
+      → At S N start l h (perform S (Creating name) args at k sc d n) → At S N start l h' (initialize S (me_of (Some thing)) args at k sc d n)
   created l h h' thing class first name args at k sc d n made id sort new come =
       let a = same come (created_from S class first name args at k sc d n made) in
       let b = makes l h (create S (Some class) name args at k sc d n) (Object class []) a refl in
       let c = on (initialize S (To (record { sort = Rattle.rb_model.specs.declared.value.Sort.TheVariants.Object class; id = next_id h })) args at k sc d n) b refl in
-      subst (λ v. At S 0 N start l h' (initialize S v args at k sc d n)) (sym (next_is thing class h id sort))
-      (subst (λ y. At S 0 N start l y (initialize S (To (record { sort = Rattle.rb_model.specs.declared.value.Sort.TheVariants.Object class; id = next_id h })) args at k sc d n)) (sym new) c)
+      subst (λ v. At S N start l h' (initialize S v args at k sc d n)) (sym (next_is thing class h id sort))
+      (subst (λ y. At S N start l y (initialize S (To (record { sort = Rattle.rb_model.specs.declared.value.Sort.TheVariants.Object class; id = next_id h })) args at k sc d n)) (sym new) c)
 
 module _ (c : CodeScript) (S : Script) (st : StandsFor c S) where
   -- the method of a new object that is called first

@@ -62,7 +62,7 @@ stopped_left came.Other v l h = absurd (cc)
 
 module _ {S : Script} {N : ℕ} {start : State} {h : Private} where
   -- where a value came, the machine gives it
-  pub given : {l : Log} {k : List Cont} {sc : Scope} {d n : ℕ} (c : Registers) (v : Held) (x : Leave) → is_left c ≡ false → Came S N start l h (outcome c v x) k sc d n → At S 0 N start l h (On (Give (value_of c v)) k sc d n)
+  pub given : {l : Log} {k : List Cont} {sc : Scope} {d n : ℕ} (c : Registers) (v : Held) (x : Leave) → is_left c ≡ false → Came S N start l h (outcome c v x) k sc d n → At S N start l h (On (Give (value_of c v)) k sc d n)
   given {l = l} {k = k} {sc = sc} {d = d} {n = n} c v x e a = subst (λ o. Came S N start l h o k sc d n) (gave c v x e) a
 
 -- a call of a method that gives this value or ends comes out so
@@ -123,7 +123,7 @@ module _ (S : Script) (N : ℕ) (start : State) (h : Private) where
   statements_end l (Over ending.Memory) k sc d n a = a
 
   -- behind the body of a loop, and behind its condition where it is left
-  pub again : (o : Outcome) (l : Log) (c : Node) (b : List Node) (k : List Cont) (sc : Scope) (d n : ℕ) → goes_on o ≡ true → Came S N start l h o (Again c b ∷ k) sc d n → At S 0 N start l h (On (Looping c b) k sc d n)
+  pub again : (o : Outcome) (l : Log) (c : Node) (b : List Node) (k : List Cont) (sc : Scope) (d n : ℕ) → goes_on o ≡ true → Came S N start l h o (Again c b ∷ k) sc d n → At S N start l h (On (Looping c b) k sc d n)
   again (Gave v) l c b k sc d n e a = on _ a refl
   again (Left Next) l c b k sc d n e a = on _ a refl
   again (Left Break) l c b k sc d n e a = absurd (cc)
@@ -133,7 +133,7 @@ module _ (S : Script) (N : ℕ) (start : State) (h : Private) where
   -- the same of a body whose value no one reads
   pub again_unread : (r : Registers) (v : Held) (lv : Leave) (l : Log) (c : Node) (b : List Node) (k : List Cont) (sc : Scope) (d n : ℕ) → goes_on (outcome r v lv) ≡ true
       → (is_left r ≡ true → Came S N start l h (outcome r v lv) (Again c b ∷ k) sc d n) → (is_left r ≡ false → (w : Val) × Came S N start l h (Gave w) (Again c b ∷ k) sc d n)
-      → At S 0 N start l h (On (Looping c b) k sc d n)
+      → At S N start l h (On (Looping c b) k sc d n)
   again_unread came.Left v lv l c b k sc d n e p q = again (outcome came.Left v lv) l c b k sc d n e (p refl)
   again_unread came.Nil v lv l c b k sc d n e p q = let some = q refl in again (Gave some.0) l c b k sc d n refl some.1
   again_unread came.False v lv l c b k sc d n e p q = let some = q refl in again (Gave some.0) l c b k sc d n refl some.1
@@ -153,7 +153,7 @@ module _ (S : Script) (N : ℕ) (start : State) (h : Private) where
   again_out (Over ending.Sink) l c b k sc d n e a = a
   again_out (Over ending.Memory) l c b k sc d n e a = a
 
-  pub tested_again : (x : Leave) (v : Held) (l : Log) (c : Node) (b : List Node) (k : List Cont) (sc : Scope) (d n : ℕ) → goes_on (left_by x v) ≡ true → Came S N start l h (left_by x v) (Test c b ∷ k) sc d n → At S 0 N start l h (On (Looping c b) k sc d n)
+  pub tested_again : (x : Leave) (v : Held) (l : Log) (c : Node) (b : List Node) (k : List Cont) (sc : Scope) (d n : ℕ) → goes_on (left_by x v) ≡ true → Came S N start l h (left_by x v) (Test c b ∷ k) sc d n → At S N start l h (On (Looping c b) k sc d n)
   tested_again leave.Next v l c b k sc d n e a = on _ a refl
   tested_again leave.Break v l c b k sc d n e a = absurd (cc)
   tested_again leave.Return v l c b k sc d n e a = absurd (cc)
@@ -173,7 +173,7 @@ module _ (S : Script) (N : ℕ) (start : State) (h : Private) where
 
   -- behind an iteration of a block
   pub turned_goes : (o : Outcome) (l : Log) (turns : Turns) (b : Block) (kept : ℕ) (k : List Cont) (sc : Scope) (d n : ℕ) → goes_on o ≡ true → Came S N start l h o (Turn turns b kept ∷ k) sc d n
-      → At S 0 N start l h (On (Turning (turned (turn_value o) turns) b) k (back kept sc) d n)
+      → At S N start l h (On (Turning (turned (turn_value o) turns) b) k (back kept sc) d n)
   turned_goes (Gave v) l turns b kept k sc d n e a = on _ a refl
   turned_goes (Left Next) l turns b kept k sc d n e a = on _ a refl
   turned_goes (Left Break) l turns b kept k sc d n e a = absurd (cc)
@@ -208,17 +208,17 @@ module _ (S : Script) (N : ℕ) (start : State) (h : Private) where
 module _ {S : Script} {N : ℕ} {start : State} {h : Private} where
   -- an iteration begins, or there are too many steps, or there is none left to begin
   pub turn_starts : {l : Log} {next last : ℤ} {answer : Val} {b : Block} {k : List Cont} {sc : Scope} {d n : ℕ} → int_lt next last ≡ true → 0 < n
-      → At S 0 N start l h (On (Turning (Counting next last answer) b) k sc d n)
-      → At S 0 N start l h (On (Following Nil b.body) (Turn (Counting (next +ℤ pos 1) last answer) b (length sc.locals) ∷ k) (with_locals sc (sc.locals ++ fresh (S.block_names b.at) (take (length b.params) (Int next ∷ [])))) d (n - 1))
+      → At S N start l h (On (Turning (Counting next last answer) b) k sc d n)
+      → At S N start l h (On (Following Nil b.body) (Turn (Counting (next +ℤ pos 1) last answer) b (length sc.locals) ∷ k) (with_locals sc (sc.locals ++ fresh (S.block_names b.at) (take (length b.params) (Int next ∷ [])))) d (n - 1))
   turn_starts {next = next} {last = last} {answer = answer} {b = b} {k = k} {sc = sc} {d = d} {n = n} e q a =
       let f : n ≡ suc (n - 1) = omega arith in
       on _ a (ap (λ t. Go (cond t (start_turn S (Counting (next +ℤ pos 1) last answer) (Int next ∷ []) b k sc d n) (On (Give answer) k sc d n))) e ∙ ap (λ x. Go (start_turn S (Counting (next +ℤ pos 1) last answer) (Int next ∷ []) b k sc d x)) f)
 
   pub turn_too_many : {l : Log} {next last : ℤ} {answer : Val} {b : Block} {k : List Cont} {sc : Scope} {d n : ℕ} → int_lt next last ≡ true → n ≡ 0
-      → At S 0 N start l h (On (Turning (Counting next last answer) b) k sc d n) → At S 0 N start l h (ended ending.Steps n)
+      → At S N start l h (On (Turning (Counting next last answer) b) k sc d n) → At S N start l h (ended ending.Steps n)
   turn_too_many {next = next} {last = last} {answer = answer} {b = b} {k = k} {sc = sc} {d = d} {n = n} e q a =
       on _ a (ap (λ t. Go (cond t (start_turn S (Counting (next +ℤ pos 1) last answer) (Int next ∷ []) b k sc d n) (On (Give answer) k sc d n))) e ∙ (ap (λ x. Go (start_turn S (Counting (next +ℤ pos 1) last answer) (Int next ∷ []) b k sc d x)) q ∙ ap (λ x. Go (ended ending.Steps x)) (sym q)))
 
   pub turns_end : {l : Log} {next last : ℤ} {answer : Val} {b : Block} {k : List Cont} {sc : Scope} {d n : ℕ} → int_lt next last ≡ false
-      → At S 0 N start l h (On (Turning (Counting next last answer) b) k sc d n) → At S 0 N start l h (On (Give answer) k sc d n)
+      → At S N start l h (On (Turning (Counting next last answer) b) k sc d n) → At S N start l h (On (Give answer) k sc d n)
   turns_end {next = next} {last = last} {answer = answer} {b = b} {k = k} {sc = sc} {d = d} {n = n} e a = on _ a (ap (λ t. Go (cond t (start_turn S (Counting (next +ℤ pos 1) last answer) (Int next ∷ []) b k sc d n) (On (Give answer) k sc d n))) e)

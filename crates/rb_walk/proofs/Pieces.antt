@@ -52,43 +52,43 @@ shows_code p c e = ap (λ p. out-Piece (erase_piece p)) e ∙ (ap out-Piece (era
 
 module _ {S : Script} {N : ℕ} {start : State} {h : Private} where
   -- the pieces that are left, under another name
-  pub joining : {l : Log} {bytes : List ℕ} {ps : List Piece} {at : Span} {k : List Cont} {sc : Scope} {d n : ℕ} (qs : List Piece) → qs ≡ ps → At S 0 N start l h (On (Joining bytes ps at) k sc d n) → At S 0 N start l h (On (Joining bytes qs at) k sc d n)
+  pub joining : {l : Log} {bytes : List ℕ} {ps : List Piece} {at : Span} {k : List Cont} {sc : Scope} {d n : ℕ} (qs : List Piece) → qs ≡ ps → At S N start l h (On (Joining bytes ps at) k sc d n) → At S N start l h (On (Joining bytes qs at) k sc d n)
   joining {bytes = bytes} {at = at} {k = k} {sc = sc} {d = d} {n = n} qs e a = same a (ap (λ ps. On (Joining bytes ps at) k sc d n) (sym e))
 
   -- a piece that is code is evaluated
-  pub joins_code : {l : Log} {bytes : List ℕ} {p : Piece} {ps : List Piece} {at : Span} {k : List Cont} {sc : Scope} {d n : ℕ} (c : Node) → out-Piece p ≡ node.Code c → At S 0 N start l h (On (Joining bytes (p ∷ ps) at) k sc d n) → At S 0 N start l h (On (Eval c) (Then (PieceOf bytes ps at) ∷ k) sc d n)
+  pub joins_code : {l : Log} {bytes : List ℕ} {p : Piece} {ps : List Piece} {at : Span} {k : List Cont} {sc : Scope} {d n : ℕ} (c : Node) → out-Piece p ≡ node.Code c → At S N start l h (On (Joining bytes (p ∷ ps) at) k sc d n) → At S N start l h (On (Eval c) (Then (PieceOf bytes ps at) ∷ k) sc d n)
   joins_code {bytes = bytes} {ps = ps} {at = at} {k = k} {sc = sc} {d = d} {n = n} c e a = on _ a (ap (λ f. Go (join_piece S f bytes ps at k sc d n)) e)
 
   -- bytes that join others are too many with them, or not
-  pub too_long : {l : Log} (bytes more : List ℕ) (ps : List Piece) (at : Span) (k : List Cont) (sc : Scope) (d n : ℕ) (all : List ℕ) → all ≡ bytes ++ more → max_bytes < length all → At S 0 N start l h (join bytes more ps at k sc d n) → At S 0 N start l h (raised TextTooLong at n)
+  pub too_long : {l : Log} (bytes more : List ℕ) (ps : List Piece) (at : Span) (k : List Cont) (sc : Scope) (d n : ℕ) (all : List ℕ) → all ≡ bytes ++ more → max_bytes < length all → At S N start l h (join bytes more ps at k sc d n) → At S N start l h (raised TextTooLong at n)
   too_long bytes more ps at k sc d n all e q a =
       let t : nat_lt max_bytes (length (bytes ++ more)) ≡ true = ap (λ b. nat_lt max_bytes (length b)) (sym e) ∙ grind (arith, nat_tests) in
       same a (ap (λ t. cond t (raised TextTooLong at n) (On (Joining (bytes ++ more) ps at) k sc d n)) t)
 
-  pub not_long : {l : Log} (bytes more : List ℕ) (ps : List Piece) (at : Span) (k : List Cont) (sc : Scope) (d n : ℕ) (all : List ℕ) → all ≡ bytes ++ more → length all ≤ max_bytes → At S 0 N start l h (join bytes more ps at k sc d n) → At S 0 N start l h (On (Joining all ps at) k sc d n)
+  pub not_long : {l : Log} (bytes more : List ℕ) (ps : List Piece) (at : Span) (k : List Cont) (sc : Scope) (d n : ℕ) (all : List ℕ) → all ≡ bytes ++ more → length all ≤ max_bytes → At S N start l h (join bytes more ps at k sc d n) → At S N start l h (On (Joining all ps at) k sc d n)
   not_long bytes more ps at k sc d n all e q a =
       let t : nat_lt max_bytes (length (bytes ++ more)) ≡ false = ap (λ b. nat_lt max_bytes (length b)) (sym e) ∙ grind (arith, nat_tests) in
       same (same a (ap (λ t. cond t (raised TextTooLong at n) (On (Joining (bytes ++ more) ps at) k sc d n)) t)) (ap (λ b. On (Joining b ps at) k sc d n) (sym e))
 
   -- a piece that is bytes joins those before it
   pub text_long : {l : Log} (bytes more : List ℕ) (p : Piece) (ps : List Piece) (at : Span) (k : List Cont) (sc : Scope) (d n : ℕ) (all : List ℕ) → out-Piece p ≡ node.Text more → all ≡ bytes ++ more → max_bytes < length all
-      → At S 0 N start l h (On (Joining bytes (p ∷ ps) at) k sc d n) → At S 0 N start l h (raised TextTooLong at n)
+      → At S N start l h (On (Joining bytes (p ∷ ps) at) k sc d n) → At S N start l h (raised TextTooLong at n)
   text_long bytes more p ps at k sc d n all f e q a = too_long bytes more ps at k sc d n all e q (on _ a (ap (λ f. Go (join_piece S f bytes ps at k sc d n)) f))
 
   pub text_joins : {l : Log} (bytes more : List ℕ) (p : Piece) (ps : List Piece) (at : Span) (k : List Cont) (sc : Scope) (d n : ℕ) (all : List ℕ) → out-Piece p ≡ node.Text more → all ≡ bytes ++ more → length all ≤ max_bytes
-      → At S 0 N start l h (On (Joining bytes (p ∷ ps) at) k sc d n) → At S 0 N start l h (On (Joining all ps at) k sc d n)
+      → At S N start l h (On (Joining bytes (p ∷ ps) at) k sc d n) → At S N start l h (On (Joining all ps at) k sc d n)
   text_joins bytes more p ps at k sc d n all f e q a = not_long bytes more ps at k sc d n all e q (on _ a (ap (λ f. Go (join_piece S f bytes ps at k sc d n)) f))
 
   -- a value of code is asked for its text
-  pub asks_piece : {l : Log} {bytes : List ℕ} {ps : List Piece} {at : Span} {k : List Cont} {sc : Scope} {d n : ℕ} {v : Val} → At S 0 N start l h (On (Give v) (Then (PieceOf bytes ps at) ∷ k) sc d n) → At S 0 N start l h (give_text S v at (Then (JoinTo bytes ps at) ∷ k) sc d n)
+  pub asks_piece : {l : Log} {bytes : List ℕ} {ps : List Piece} {at : Span} {k : List Cont} {sc : Scope} {d n : ℕ} {v : Val} → At S N start l h (On (Give v) (Then (PieceOf bytes ps at) ∷ k) sc d n) → At S N start l h (give_text S v at (Then (JoinTo bytes ps at) ∷ k) sc d n)
   asks_piece a = on _ a refl
 
 module _ (S : Script) (N : ℕ) (start : State) (h : Private) where
   -- a text that is written out as a whole gives its bytes
   pub whole_text : (l : Log) (text : List ℕ) (ps : List CodePiece) (at : Span) (k : List Cont) (sc : Scope) (d n : ℕ) (o : Outcome) → IsWritten ps text → OrMemory (Gave (Str text)) o
-      → At S 0 N start l h (On (Joining [] (map erase_piece ps) at) k sc d n) → Came S N start l h o k sc d n
+      → At S N start l h (On (Joining [] (map erase_piece ps) at) k sc d n) → Came S N start l h o k sc d n
   whole_text l text ps at k sc d n o w m a =
       let one = joining (erase_piece (part.Text text) ∷ []) (sym (ap (map erase_piece) w.0)) a in
       let joined = text_joins [] text (erase_piece (part.Text text)) [] at k sc d n text (shows_text (part.Text text) text text refl refl) refl w.1 one in
-      let given : At S 0 N start l h (On (Give (Str text)) k sc d n) = on _ joined refl in
+      let given : At S N start l h (On (Give (Str text)) k sc d n) = on _ joined refl in
       or_memory S N start h l k sc d n (Gave (Str text)) o (On (Give (Str text)) k sc d n) m given refl given

@@ -80,23 +80,23 @@ attribute_is S number writer name receiver value names size h =
 module _ (S : Script) (N : ℕ) (start : State) (h : Private) where
   -- `||=` stays where the target is true, and goes on where it is not
   pub or_else_stays : {l : Log} {k : List Cont} {sc : Scope} {d n : ℕ} (v : Val) (place : Place) (o : AssignOp) (value : Node) (at : Span) → o ≡ op.OrElse → truthy v ≡ true
-      → At S 0 N start l h (On (Give v) (Then (ReadOf place o value at) ∷ k) sc d n) → At S 0 N start l h (On (Give v) k sc d n)
+      → At S N start l h (On (Give v) (Then (ReadOf place o value at) ∷ k) sc d n) → At S N start l h (On (Give v) k sc d n)
   or_else_stays {k = k} {sc = sc} {d = d} {n = n} v place o value at e t a =
       on _ a (ap (λ o. Go (decide S v place o value at k sc d n)) e ∙ ap (λ t. Go (cond t (On (Give v) k sc d n) (On (Eval value) (Then (WriteTo place at) ∷ k) sc d n))) t)
 
   pub or_else_goes : {l : Log} {k : List Cont} {sc : Scope} {d n : ℕ} (v : Val) (place : Place) (o : AssignOp) (value : Node) (at : Span) → o ≡ op.OrElse → truthy v ≡ false
-      → At S 0 N start l h (On (Give v) (Then (ReadOf place o value at) ∷ k) sc d n) → At S 0 N start l h (On (Eval value) (Then (WriteTo place at) ∷ k) sc d n)
+      → At S N start l h (On (Give v) (Then (ReadOf place o value at) ∷ k) sc d n) → At S N start l h (On (Eval value) (Then (WriteTo place at) ∷ k) sc d n)
   or_else_goes {k = k} {sc = sc} {d = d} {n = n} v place o value at e t a =
       on _ a (ap (λ o. Go (decide S v place o value at k sc d n)) e ∙ ap (λ t. Go (cond t (On (Give v) k sc d n) (On (Eval value) (Then (WriteTo place at) ∷ k) sc d n))) t)
 
   -- and `&&=` the other way about
   pub and_then_stays : {l : Log} {k : List Cont} {sc : Scope} {d n : ℕ} (v : Val) (place : Place) (o : AssignOp) (value : Node) (at : Span) → o ≡ op.AndThen → truthy v ≡ false
-      → At S 0 N start l h (On (Give v) (Then (ReadOf place o value at) ∷ k) sc d n) → At S 0 N start l h (On (Give v) k sc d n)
+      → At S N start l h (On (Give v) (Then (ReadOf place o value at) ∷ k) sc d n) → At S N start l h (On (Give v) k sc d n)
   and_then_stays {k = k} {sc = sc} {d = d} {n = n} v place o value at e t a =
       on _ a (ap (λ o. Go (decide S v place o value at k sc d n)) e ∙ ap (λ t. Go (cond t (On (Eval value) (Then (WriteTo place at) ∷ k) sc d n) (On (Give v) k sc d n))) t)
 
   pub and_then_goes : {l : Log} {k : List Cont} {sc : Scope} {d n : ℕ} (v : Val) (place : Place) (o : AssignOp) (value : Node) (at : Span) → o ≡ op.AndThen → truthy v ≡ true
-      → At S 0 N start l h (On (Give v) (Then (ReadOf place o value at) ∷ k) sc d n) → At S 0 N start l h (On (Eval value) (Then (WriteTo place at) ∷ k) sc d n)
+      → At S N start l h (On (Give v) (Then (ReadOf place o value at) ∷ k) sc d n) → At S N start l h (On (Eval value) (Then (WriteTo place at) ∷ k) sc d n)
   and_then_goes {k = k} {sc = sc} {d = d} {n = n} v place o value at e t a =
       on _ a (ap (λ o. Go (decide S v place o value at k sc d n)) e ∙ ap (λ t. Go (cond t (On (Eval value) (Then (WriteTo place at) ∷ k) sc d n) (On (Give v) k sc d n))) t)
 
@@ -112,13 +112,13 @@ module _ (S : Script) (N : ℕ) (start : State) (h : Private) where
   decided op.Modulo v place value at k sc d n f g = refl
 
   pub operates : {l : Log} {k : List Cont} {sc : Scope} {d n : ℕ} (v : Val) (place : Place) (o : AssignOp) (value : Node) (at : Span) → (o ≡ op.OrElse → ⊥) → (o ≡ op.AndThen → ⊥)
-      → At S 0 N start l h (On (Give v) (Then (ReadOf place o value at) ∷ k) sc d n) → At S 0 N start l h (On (Eval value) (Then (RightOf v o at) ∷ Then (WriteTo place at) ∷ k) sc d n)
+      → At S N start l h (On (Give v) (Then (ReadOf place o value at) ∷ k) sc d n) → At S N start l h (On (Eval value) (Then (RightOf v o at) ∷ Then (WriteTo place at) ∷ k) sc d n)
   operates {k = k} {sc = sc} {d = d} {n = n} v place o value at f g a = on _ a (decided o v place value at k sc d n f g)
 
   -- a local that is read
   pub reads : (l : Log) (k : List Cont) (d n : ℕ) (name : NameId) (names : List NameId) (room : List Held) (slot : ℕ) (me : Val) (o : Outcome) → length names ≤ length room → has_slot name names slot ≡ true
       → ((v : Held) → slice_get room slot ≡ Some v → OrMemory (Gave (plain v)) o)
-      → At S 0 N start l h (On (Give (look name (bound names (map plain room)))) k (scope_of me names room) d n) → Came S N start l h o k (scope_of me names room) d n
+      → At S N start l h (On (Give (look name (bound names (map plain room)))) k (scope_of me names room) d n) → Came S N start l h o k (scope_of me names room) d n
   reads l k d n name names room slot me o p s g a =
       let below = slot_within name names slot s in
       let v = there room slot (omega (arith, below, p)) in

@@ -55,7 +55,7 @@ module _ (S : Script) (N : ℕ) (start : State) (h : Private) where
   pub calls_held : (l : Log) (k : List Cont) (me : Val) (names : List NameId) (size d left : ℕ) (room : List Held) (name : NameId) (receiver : Code) (at : Span) (v : Val) (o : Outcome)
       → texted S (text_of S name) (methods_of S v) ≡ None → fits S receiver names size ≡ true → length names ≤ length room → 0 < left → d < 1000
       → IsHeld receiver room v → OrMemory (outcome_of (deed S.program v (text_of S name) [] None) at) o
-      → At S 0 N start l h (On (Eval (erase receiver)) (Then (ReceiverOf (text_of S name) [] None at) ∷ k) (scope_of me names room) d left) → Came S N start l h o k (scope_of me names room) d (left - 1)
+      → At S N start l h (On (Eval (erase receiver)) (Then (ReceiverOf (text_of S name) [] None at) ∷ k) (scope_of me names room) d left) → Came S N start l h o k (scope_of me names room) d (left - 1)
   calls_held l k me names size d left room name receiver at v o cl f len more deep is m a =
       let e1 = is S N names size d left start h l (Then (ReceiverOf (text_of S name) [] None at) ∷ k) me f len more deep a in
       calls S N start h l v (text_of S name) [] at k (scope_of me names room) d (left - 1) o cl m (on _ (on _ e1 refl) refl)
@@ -64,7 +64,7 @@ module _ (S : Script) (N : ℕ) (start : State) (h : Private) where
   pub calls_pair : (l : Log) (k : List Cont) (me : Val) (names : List NameId) (size d left : ℕ) (room : List Held) (name : NameId) (receiver arg : Code) (at : Span) (v w : Val) (o : Outcome)
       → texted S (text_of S name) (methods_of S v) ≡ None → fits S receiver names size ≡ true → fits S arg names size ≡ true → length names ≤ length room → 1 < left → d < 1000
       → IsHeld receiver room v → IsHeld arg room w → OrMemory (outcome_of (deed S.program v (text_of S name) (w ∷ []) None) at) o
-      → At S 0 N start l h (On (Eval (erase receiver)) (Then (ReceiverOf (text_of S name) (erase arg ∷ []) None at) ∷ k) (scope_of me names room) d left) → Came S N start l h o k (scope_of me names room) d (left - 2)
+      → At S N start l h (On (Eval (erase receiver)) (Then (ReceiverOf (text_of S name) (erase arg ∷ []) None at) ∷ k) (scope_of me names room) d left) → Came S N start l h o k (scope_of me names room) d (left - 2)
   calls_pair l k me names size d left room name receiver arg at v w o cl f g len more deep is js m a =
       let e1 = is S N names size d left start h l (Then (ReceiverOf (text_of S name) (erase arg ∷ []) None at) ∷ k) me f len (omega (arith, more)) deep a in
       let e2 = js S N names size d (left - 1) start h l (Then (Argument (OnReceiver v (text_of S name) None) [] [] at) ∷ k) me g len (omega (arith, more)) deep (on _ (on _ e1 refl) refl) in
@@ -75,7 +75,7 @@ module _ (S : Script) (N : ℕ) (start : State) (h : Private) where
   pub compares : (c : CodeScript) (l : Log) (k : List Cont) (me : Val) (names : List NameId) (size d left : ℕ) (room : List Held) (method : Option Builtin) (name : NameId) (receiver arg : Code) (at : Span) (answer : Answer)
       → StandsFor c S → builtin_of (text_of S name) ≡ method → fits S receiver names size ≡ true → fits S arg names size ≡ true → length names ≤ length room → 1 < left → d < 1000
       → IsCompared c method name receiver arg room answer
-      → At S 0 N start l h (On (Eval (erase receiver)) (Then (ReceiverOf (text_of S name) (erase arg ∷ []) None at) ∷ k) (scope_of me names room) d left) → Came S N start l h (outcome_of answer at) k (scope_of me names room) d (left - 2)
+      → At S N start l h (On (Eval (erase receiver)) (Then (ReceiverOf (text_of S name) (erase arg ∷ []) None at) ∷ k) (scope_of me names room) d left) → Came S N start l h (outcome_of answer at) k (scope_of me names room) d (left - 2)
   compares c l k me names size d left room method name receiver arg at answer st number f g len more deep q a =
       let is = sym (by_number S.program q.0 (text_of S name) builtin.Equal (q.1 ∷ []) None (number ∙ q.2)) ∙ q.6 in
       calls_pair l k me names size d left room name receiver arg at q.0 q.1 (outcome_of answer at) (q.3 S st) f g len more deep q.4 q.5 (inl (ap (λ a. outcome_of a at) (sym is))) a
@@ -83,7 +83,7 @@ module _ (S : Script) (N : ℕ) (start : State) (h : Private) where
   -- a value that is asked by `==` whether it is nil
   pub asks_nil : (l : Log) (k : List Cont) (sc : Scope) (d left : ℕ) (v : Val) (name : Text) (at : Span) (answer : Answer)
       → texted S name (methods_of S v) ≡ None → builtin_of name ≡ Some builtin.Equal → equal v (Nil ∷ []) ≡ answer
-      → At S 0 N start l h (On (Give Nil) (Then (Argument (OnReceiver v name None) [] [] at) ∷ k) sc d left) → Came S N start l h (outcome_of answer at) k sc d left
+      → At S N start l h (On (Give Nil) (Then (Argument (OnReceiver v name None) [] [] at) ∷ k) sc d left) → Came S N start l h (outcome_of answer at) k sc d left
   asks_nil l k sc d left v name at answer none number q a =
       let is = sym (by_number S.program v name builtin.Equal (Nil ∷ []) None number) ∙ q in
       calls S N start h l v name (Nil ∷ []) at k sc d left (outcome_of answer at) none (inl (ap (λ a. outcome_of a at) (sym is))) (on _ (on _ a refl) refl)
@@ -92,7 +92,7 @@ module _ (S : Script) (N : ℕ) (start : State) (h : Private) where
   pub calls_twice : (l : Log) (k : List Cont) (me : Val) (names : List NameId) (size d left : ℕ) (room : List Held) (name : NameId) (receiver arg : Code) (at : Span) (i : ℤ) (w : Val) (o : Outcome)
       → fits S receiver names size ≡ true → fits S arg names size ≡ true → length names ≤ length room → 3 < left → d < 999
       → IsMade receiver room i → IsHeld arg room w → OrMemory (outcome_of (deed S.program (Int i) (text_of S name) (w ∷ []) None) at) o
-      → At S 0 N start l h (On (Eval (erase receiver)) (Then (ReceiverOf (text_of S name) (erase arg ∷ []) None at) ∷ k) (scope_of me names room) d left) → Came S N start l h o k (scope_of me names room) d (left - 4)
+      → At S N start l h (On (Eval (erase receiver)) (Then (ReceiverOf (text_of S name) (erase arg ∷ []) None at) ∷ k) (scope_of me names room) d left) → Came S N start l h o k (scope_of me names room) d (left - 4)
   calls_twice l k me names size d left room name receiver arg at i w o f g len more deep is js m a =
       let e1 = is S N names size d left start h l (Then (ReceiverOf (text_of S name) (erase arg ∷ []) None at) ∷ k) me f len (omega (arith, more)) deep a in
       let e2 = js S N names size d (left - 3) start h l (Then (Argument (OnReceiver (Int i) (text_of S name) None) [] [] at) ∷ k) me g len (omega (arith, more)) (omega (arith, deep)) (on _ (on _ e1 refl) refl) in
@@ -103,7 +103,7 @@ module _ (S : Script) (N : ℕ) (start : State) (h : Private) where
   pub updates : (l : Log) (k : List Cont) (me : Val) (names : List NameId) (size d left : ℕ) (room room' : List Held) (slot : ℕ) (name : NameId) (o : AssignOp) (value : Code) (at : Span) (i : ℤ)
       → has_slot name names slot ≡ true → fits S value names size ≡ true → length names ≤ length room → 0 < left → d < 1000
       → IsUpdated slot o value room room' i
-      → At S 0 N start l h (read_place S (OfLocal name) o (erase value) at k (scope_of me names room) d left) → Came S N start l h (Gave (Int i)) k (scope_of me names room') d (left - 1)
+      → At S N start l h (read_place S (OfLocal name) o (erase value) at k (scope_of me names room) d left) → Came S N start l h (Gave (Int i)) k (scope_of me names room') d (left - 1)
   updates l k me names size d left room room' slot name o value at i s f len more deep is a =
       let m = is.1 in
       let n = is.2 in
@@ -119,7 +119,7 @@ module _ (S : Script) (N : ℕ) (start : State) (h : Private) where
   pub updates_over : (l : Log) (k : List Cont) (me : Val) (names : List NameId) (size d left : ℕ) (room room' : List Held) (slot : ℕ) (name : NameId) (o : AssignOp) (value : Code) (at : Span) (i : ℤ)
       → has_slot name names slot ≡ true → fits S value names size ≡ true → length names ≤ length room → 2 < left → d < 999
       → IsUpdatedOver slot o value room room' i
-      → At S 0 N start l h (read_place S (OfLocal name) o (erase value) at k (scope_of me names room) d left) → Came S N start l h (Gave (Int i)) k (scope_of me names room') d (left - 3)
+      → At S N start l h (read_place S (OfLocal name) o (erase value) at k (scope_of me names room) d left) → Came S N start l h (Gave (Int i)) k (scope_of me names room') d (left - 3)
   updates_over l k me names size d left room room' slot name o value at i s f len more deep is a =
       let m = is.1 in
       let n = is.2 in

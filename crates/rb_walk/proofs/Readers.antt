@@ -80,8 +80,8 @@ module _ (S : Script) (N : ℕ) (start : State) (h : Private) where
 
   -- the method is entered, and the variable of the object is asked for
   entered_at : (l : Log) (k : List Cont) (sc : Scope) (d n : ℕ) (v : Val) (m : CodeMethod) (field : NameId) (place at : Span) → (r : Reads m field place) → 0 < n → d < 1000
-      → At S 0 N start l h (enter S (erase_method m) v [] at k sc d n)
-      → At S 0 N start l h (ask_of v (GetField field) place (Under d ∷ Then (Rest []) ∷ Frame sc ∷ k) (callee v m) (d + 1) (n - 1))
+      → At S N start l h (enter S (erase_method m) v [] at k sc d n)
+      → At S N start l h (ask_of v (GetField field) place (Under d ∷ Then (Rest []) ∷ Frame sc ∷ k) (callee v m) (d + 1) (n - 1))
   entered_at l k sc d n v m field place at r more deep a =
       let e2 = same a (ap (λ (ps : List Param). cond (nat_eq 0 (length ps)) (On (Following Nil (map erase m.body)) (Frame sc ∷ k) (callee v m) d n) (raised ArgumentCount at n)) r.params) in
       let e3 = same e2 (ap (λ (ns : List Node). On (Following Nil ns) (Frame sc ∷ k) (callee v m) d n) r.body) in
@@ -91,7 +91,7 @@ module _ (S : Script) (N : ℕ) (start : State) (h h' : Private) where
   -- a method that only reads a variable is entered
   pub enters_reader : (l : Log) (k : List Cont) (sc : Scope) (d n : ℕ) (v : Val) (m : CodeMethod) (field : NameId) (place at : Span) (o : Outcome)
       → Reads m field place → 0 < n → d < 1000 → Asks N v (GetField field) place (n - 1) l h h' o
-      → At S 0 N start l h (enter S (erase_method m) v [] at k sc d n)
+      → At S N start l h (enter S (erase_method m) v [] at k sc d n)
       → Came S N start l h' (call_exit o) k sc d (n - 1)
   enters_reader l k sc d n v m field place at o r more deep asks a =
       let e1 = entered_at S N start h l k sc d n v m field place at r more deep a in
@@ -104,7 +104,7 @@ module _ (S : Script) (N : ℕ) (start : State) (h h' : Private) where
   pub sends_reader : (l : Log) (k : List Cont) (me : Val) (names : List NameId) (size d n : ℕ) (room : List Held) (name : NameId) (receiver : Code) (at : Span) (v to : Val) (m : CodeMethod) (field : NameId) (place : Span) (o : Outcome)
       → v ≡ to → method_for S v name ≡ Some (erase_method m) → Reads m field place → fits S receiver names size ≡ true → length names ≤ length room → 1 < n → d < 1000
       → IsHeld receiver room v → Asks N to (GetField field) place (n - 2) l h h' o
-      → At S 0 N start l h (On (Eval (erase receiver)) (Then (ReceiverOf (text_of S name) [] None at) ∷ k) (scope_of me names room) d n)
+      → At S N start l h (On (Eval (erase receiver)) (Then (ReceiverOf (text_of S name) [] None at) ∷ k) (scope_of me names room) d n)
       → Came S N start l h' (call_exit o) k (scope_of me names room) d (n - 2)
   sends_reader l k me names size d n room name receiver at v to m field place o object finds r f len more deep is asks a =
       let sc = scope_of me names room in
@@ -119,7 +119,7 @@ module _ (S : Script) (N : ℕ) (start : State) (h h' : Private) where
       → c ≡ code.Send method name receiver args at → args ≡ []
       → v ≡ to → method_for S v name ≡ Some (erase_method m) → Reads m field place → fits S c names size ≡ true → length names ≤ length room → 2 < n → d < 999
       → IsHeld receiver room v → Asks N to (GetField field) place (n - 3) l h h' o → call_exit o ≡ o
-      → At S 0 N start l h (On (Eval (erase c)) k (scope_of me names room) d n)
+      → At S N start l h (On (Eval (erase c)) k (scope_of me names room) d n)
       → Came S N start l h' o k (scope_of me names room) d (n - 3)
   evaluates_reader l k me names size d n room c method name receiver args at v to m field place o is none object finds r f len more deep held asks exit a =
       let sc = scope_of me names room in
@@ -151,7 +151,7 @@ module _ (S : Script) (N : ℕ) (start : State) (h h' : Private) where
   -- a method that only gives its argument to a variable is entered
   pub enters_writer : (l : Log) (k : List Cont) (sc : Scope) (d n : ℕ) (v w : Val) (m : CodeMethod) (field : NameId) (place at : Span) (o : Outcome)
       → Writes m field place → method_fits S m ≡ true → 1 < n → d < 999 → WritesField N v field w place (n - 2) l h h' o
-      → At S 0 N start l h (enter S (erase_method m) v (w ∷ []) at k sc d n)
+      → At S N start l h (enter S (erase_method m) v (w ∷ []) at k sc d n)
       → Came S N start l h' (call_exit o) k sc d (n - 2)
   enters_writer l k sc d n v w m field place at o r right more deep writes a =
       let inner = setter v m w in

@@ -172,15 +172,15 @@ told_gave program c w x h = ap (as_text program) (gave c w x h)
 module _ (S : Script) (N : ℕ) (start : State) (h : Private) where
   -- a value that no method is asked for is told as it is
   pub told_itself : (l : Log) (at : Span) (k : List Cont) (sc : Scope) (d n : ℕ) (program : Program) (c : Registers) (w : Held) (x : Leave) → S.program ≡ program → is_left c ≡ false → own_text S (value_of c w) ≡ None → is_collection (value_of c w) ≡ false
-      → At S 0 N start l h (give_text S (value_of c w) at k sc d n) → Came S N start l h (as_text program (outcome c w x)) k sc d n
+      → At S N start l h (give_text S (value_of c w) at k sc d n) → Came S N start l h (as_text program (outcome c w x)) k sc d n
   told_itself l at k sc d n program c w x e came none plain a =
       subst (λ o. Came S N start l h o k sc d n) (sym (told_gave program c w x came))
-      (subst (λ P. At S 0 N start l h (On (Give (Str (shown P (value_of c w)))) k sc d n)) e (same a (gives_text S (value_of c w) at k sc d n none plain)))
+      (subst (λ P. At S N start l h (On (Give (Str (shown P (value_of c w)))) k sc d n)) e (same a (gives_text S (value_of c w) at k sc d n none plain)))
 
   -- one that a method is asked for begins it
   pub told_enters : (l : Log) (at : Span) (k : List Cont) (sc : Scope) (d n : ℕ) (c : Registers) (w : Held) (script : CodeScript) (program : Program) (object : Ref) (m : CodeMethod) → c ≡ came.Other → IsAsked script program (plain w) object m
-      → StandsFor script S → S.program ≡ program → At S 0 N start l h (give_text S (value_of c w) at k sc d n)
-      → At S 0 N start l h (enter S (erase_method m) (me_of (Some object)) [] at (Then (TextOf (me_of (Some object))) ∷ k) sc d n)
+      → StandsFor script S → S.program ≡ program → At S N start l h (give_text S (value_of c w) at k sc d n)
+      → At S N start l h (enter S (erase_method m) (me_of (Some object)) [] at (Then (TextOf (me_of (Some object))) ∷ k) sc d n)
   told_enters l at k sc d n c w script program object m is asked st e a =
       same a
       (ap (λ c. give_text S (value_of c w) at k sc d n) is
@@ -194,28 +194,28 @@ module _ (S : Script) (N : ℕ) (start : State) (h : Private) where
       subst (λ o. Came S N start l h o k sc d n) (sym (told_left program c w x left)) (passes S N start h c w x l (TextOf v) k sc d n left a)
 
   answered : (l : Log) (k : List Cont) (sc : Scope) (d n : ℕ) (v : Val) (c : Registers) (w : Held) (x : Leave) → is_left c ≡ false
-      → Came S N start l h (outcome c w x) (Then (TextOf v) ∷ k) sc d n → At S 0 N start l h (On (Give (text_answered S v (value_of c w))) k sc d n)
+      → Came S N start l h (outcome c w x) (Then (TextOf v) ∷ k) sc d n → At S N start l h (On (Give (text_answered S v (value_of c w))) k sc d n)
   answered l k sc d n v c w x came a = on _ (subst (λ o. Came S N start l h o (Then (TextOf v) ∷ k) sc d n) (gave c w x came) a) refl
 
   pub told_answer : (l : Log) (k : List Cont) (sc : Scope) (d n : ℕ) (v : Val) (program : Program) (c : Registers) (w : Held) (x : Leave) → S.program ≡ program → is_left c ≡ false → is_text (value_of c w) ≡ true
       → Came S N start l h (outcome c w x) (Then (TextOf v) ∷ k) sc d n → Came S N start l h (as_text program (outcome c w x)) k sc d n
   told_answer l k sc d n v program c w x e came text a =
       subst (λ o. Came S N start l h o k sc d n) (sym (told_gave program c w x came))
-      (subst (λ P. At S 0 N start l h (On (Give (Str (shown P (value_of c w)))) k sc d n)) e
+      (subst (λ P. At S N start l h (On (Give (Str (shown P (value_of c w)))) k sc d n)) e
       (same (answered l k sc d n v c w x came a) (ap (λ u. On (Give u) k sc d n) (answers_text S v (value_of c w) text))))
 
   pub told_by_class : (l : Log) (k : List Cont) (sc : Scope) (d n : ℕ) (v : Val) (program : Program) (c : Registers) (w : Held) (x : Leave) (o : Outcome) → S.program ≡ program → is_left c ≡ false → is_text (value_of c w) ≡ false → o ≡ Gave v
       → Came S N start l h (outcome c w x) (Then (TextOf v) ∷ k) sc d n → Came S N start l h (as_text program o) k sc d n
   told_by_class l k sc d n v program c w x o e came text is a =
       subst (λ o. Came S N start l h (as_text program o) k sc d n) (sym is)
-      (subst (λ P. At S 0 N start l h (On (Give (Str (shown P v))) k sc d n)) e
+      (subst (λ P. At S N start l h (On (Give (Str (shown P v))) k sc d n)) e
       (same (answered l k sc d n v c w x came a) (ap (λ u. On (Give u) k sc d n) (answers_none S v (value_of c w) text))))
 
   -- ---- where a text goes on
 
   -- the text that came is given
   pub told_gives : (l : Log) (k : List Cont) (sc : Scope) (d n : ℕ) (program : Program) (c : Registers) (w : Held) (x : Leave) → is_left c ≡ false
-      → Came S N start l h (as_text program (outcome c w x)) k sc d n → At S 0 N start l h (On (Give (Str (shown program (value_of c w)))) k sc d n)
+      → Came S N start l h (as_text program (outcome c w x)) k sc d n → At S N start l h (On (Give (Str (shown program (value_of c w)))) k sc d n)
   told_gives l k sc d n program c w x came a = subst (λ o. Came S N start l h o k sc d n) (told_gave program c w x came) a
 
   pub told_passes : (l : Log) (k : List Cont) (sc : Scope) (d n : ℕ) (step : Cont) (program : Program) (c : Registers) (w : Held) (x : Leave) → is_left c ≡ true
@@ -224,13 +224,13 @@ module _ (S : Script) (N : ℕ) (start : State) (h : Private) where
 
   -- it joins a literal
   pub told_joins : (l : Log) (bytes : List ℕ) (ps : List Piece) (at : Span) (k : List Cont) (sc : Scope) (d n : ℕ) (program : Program) (c : Registers) (w : Held) (x : Leave) → is_left c ≡ false
-      → Came S N start l h (as_text program (outcome c w x)) (Then (JoinTo bytes ps at) ∷ k) sc d n → At S 0 N start l h (join bytes (shown program (value_of c w)) ps at k sc d n)
+      → Came S N start l h (as_text program (outcome c w x)) (Then (JoinTo bytes ps at) ∷ k) sc d n → At S N start l h (join bytes (shown program (value_of c w)) ps at k sc d n)
   told_joins l bytes ps at k sc d n program c w x came a =
       on _ (subst (λ o. Came S N start l h o (Then (JoinTo bytes ps at) ∷ k) sc d n) (told_gave program c w x came) a) refl
 
   -- or what is printed
   pub told_writes : (l : Log) (style : Style) (bytes : List ℕ) (vs : List Val) (at : Span) (k : List Cont) (sc : Scope) (d n : ℕ) (program : Program) (c : Registers) (w : Held) (x : Leave) → is_left c ≡ false
-      → Came S N start l h (as_text program (outcome c w x)) (Then (WriteBehind style bytes vs at) ∷ k) sc d n → At S 0 N start l h (write_behind S style bytes (shown program (value_of c w)) vs at k sc d n)
+      → Came S N start l h (as_text program (outcome c w x)) (Then (WriteBehind style bytes vs at) ∷ k) sc d n → At S N start l h (write_behind S style bytes (shown program (value_of c w)) vs at k sc d n)
   told_writes l style bytes vs at k sc d n program c w x came a =
       on _ (subst (λ o. Came S N start l h o (Then (WriteBehind style bytes vs at) ∷ k) sc d n) (told_gave program c w x came) a) refl
 
@@ -315,7 +315,7 @@ no_value room first count i h q =
 module _ (S : Script) (N : ℕ) (start : State) (h : Private) where
   -- all are written
   pub shows_all : (l : Log) (style : Style) (bytes : List ℕ) (rest : List Val) (at : Span) (k : List Cont) (sc : Scope) (d n : ℕ) → rest ≡ [] → call.value_of S style ≡ Instead Nil
-      → At S 0 N start l h (write S style bytes rest at k sc d n) → At S 0 N start l h (show S bytes (Instead Nil) at k sc d n)
+      → At S N start l h (write S style bytes rest at k sc d n) → At S N start l h (show S bytes (Instead Nil) at k sc d n)
   shows_all l style bytes rest at k sc d n e v a = same a (ap (λ vs. write S style bytes vs at k sc d n) e ∙ ap (λ step. show S bytes step at k sc d n) v)
 
 -- what `puts` and `print` give is nil

@@ -119,8 +119,8 @@ module _ {S : Script} {N : ℕ} {start : State} {h : Private} where
       → Lies (block_fits S c) names size base (length before) → length after ≡ length before → takes ≡ not (length c.params == 0) → int_lt next last ≡ true → 0 < n
       → ((i : ℕ) → i < c.from → slice_get after i ≡ slice_get before i)
       → ((i : ℕ) → i < c.count → slice_get after (c.from + i) ≡ Some (first_of_block takes next i))
-      → At S 0 N start log h (On (Turning (Counting next last answer) (erase_block c)) k (scope_of me names before) d n)
-      → At S 0 N start log h (On (Following Nil (map erase c.body)) (Turn (Counting (next +ℤ pos 1) last answer) (erase_block c) (length names) ∷ k) (scope_of me (names ++ S.block_names c.at) after) d (n - 1))
+      → At S N start log h (On (Turning (Counting next last answer) (erase_block c)) k (scope_of me names before) d n)
+      → At S N start log h (On (Following Nil (map erase c.body)) (Turn (Counting (next +ℤ pos 1) last answer) (erase_block c) (length names) ∷ k) (scope_of me (names ++ S.block_names c.at) after) d (n - 1))
   opens {k = k} {me = me} {names = names} {size = size} {base = base} {d = d} {n = n} c before after takes next last answer l e f t p below within a =
       let own = S.block_names c.at in
       let from = starts_at S c l in
@@ -139,9 +139,9 @@ back_is me names own room l = ap (λ (ls : Locals). record { me = me; locals = l
 
 module _ (S : Script) (N : ℕ) (start : State) (h : Private) where
   pub closes : (o : Outcome) (log : Log) (turns : Turns) (b : Block) (k : List Cont) (me : Val) (names own : List NameId) (room : List Held) (d n : ℕ) → length names ≤ length room → goes_on o ≡ true
-      → Came S N start log h o (Turn turns b (length names) ∷ k) (scope_of me (names ++ own) room) d n → At S 0 N start log h (On (Turning (turned (turn_value o) turns) b) k (scope_of me names room) d n)
+      → Came S N start log h o (Turn turns b (length names) ∷ k) (scope_of me (names ++ own) room) d n → At S N start log h (On (Turning (turned (turn_value o) turns) b) k (scope_of me names room) d n)
   closes o log turns b k me names own room d n l e a =
-      subst (λ sc. At S 0 N start log h (On (Turning (turned (turn_value o) turns) b) k sc d n)) (back_is me names own room l) (turned_goes S N start h o log turns b (length names) k (scope_of me (names ++ own) room) d n e a)
+      subst (λ sc. At S N start log h (On (Turning (turned (turn_value o) turns) b) k sc d n)) (back_is me names own room l) (turned_goes S N start h o log turns b (length names) k (scope_of me (names ++ own) room) d n e a)
 
   pub closes_out : (o : Outcome) (log : Log) (turns : Turns) (b : Block) (k : List Cont) (me : Val) (names own : List NameId) (room : List Held) (d n : ℕ) → length names ≤ length room → goes_on o ≡ false
       → Came S N start log h o (Turn turns b (length names) ∷ k) (scope_of me (names ++ own) room) d n → Came S N start log h (loop_exit o) k (scope_of me names room) d n
@@ -156,14 +156,14 @@ with_params S c = ap (λ (b : Block). Some (length b.params)) (erase_block-parts
 module _ {S : Script} {N : ℕ} {start : State} {h : Private} where
   -- a call of a method of a value with a block is answered by the table
   pub answers_block : {log : Log} {k : List Cont} {sc : Scope} {d n : ℕ} (c : CodeBlock) (v : Val) (name : Text) (args : List Val) (at : Span) (a : Answer) → texted S name (methods_of S v) ≡ None → a ≡ deed S.program v name args (Some (length c.params))
-      → At S 0 N start log h (On (Passing (OnReceiver v name (Some (erase_block c))) args [] at) k sc d n) → At S 0 N start log h (answered S a (Some (erase_block c)) at k sc d n)
+      → At S N start log h (On (Passing (OnReceiver v name (Some (erase_block c))) args [] at) k sc d n) → At S N start log h (answered S a (Some (erase_block c)) at k sc d n)
   answers_block {k = k} {sc = sc} {d = d} {n = n} c v name args at a e f come =
       same (on _ come refl) (by_table S v name args (Some (erase_block c)) at k sc d n e
       ∙ ap (λ x. answered S x (Some (erase_block c)) at k sc d n) (ap (λ p. deed S.program v name args p) (with_params S c) ∙ sym f))
 
 module _ (S : Script) (N : ℕ) (start : State) (h : Private) where
   -- a cut by memory at a state with as many steps left
-  pub cut : (l : Log) (s : State) (k : List Cont) (sc : Scope) (d n : ℕ) (o : Outcome) → o ≡ Over Memory → At S 0 N start l h s → left_in s ≡ n → Came S N start l h o k sc d n
+  pub cut : (l : Log) (s : State) (k : List Cont) (sc : Scope) (d n : ℕ) (o : Outcome) → o ≡ Over Memory → At S N start l h s → left_in s ≡ n → Came S N start l h o k sc d n
   cut l s k sc d n o e a q = subst (λ o. Came S N start l h o k sc d n) (sym e) (s, a, q)
 
 left_block : (S : Script) (a : Answer) (b : Block) (at : Span) (k : List Cont) (sc : Scope) (d n : ℕ) → left_in (answered S a (Some b) at k sc d n) ≡ n
@@ -180,20 +180,20 @@ left_block S (Inspects collection) b at k sc d n = refl
 module _ (S : Script) (N : ℕ) (start : State) (h : Private) where
   -- the iterations of a call with a block
   pub block_turns : (l : Log) (a : Answer) (turns : Turns) (b : Block) (at : Span) (k : List Cont) (sc : Scope) (d n : ℕ) → a ≡ Loops turns
-      → At S 0 N start l h (answered S a (Some b) at k sc d n) → At S 0 N start l h (On (Turning turns b) k sc d n)
+      → At S N start l h (answered S a (Some b) at k sc d n) → At S N start l h (On (Turning turns b) k sc d n)
   block_turns l a turns b at k sc d n e come = same come (ap (λ x. answered S x (Some b) at k sc d n) e)
 
   done_by : (l : Log) (turns : Turns) (i : ℤ) (b : Block) (k : List Cont) (sc : Scope) (d n : ℕ) → IsDone i turns
-      → At S 0 N start l h (On (Turning turns b) k sc d n) → At S 0 N start l h (On (Give (Int i)) k sc d n)
+      → At S N start l h (On (Turning turns b) k sc d n) → At S N start l h (On (Give (Int i)) k sc d n)
   done_by l (Counting next last answer) i b k sc d n e come = gives (Int i) e.1 (turns_end e.0 come)
   done_by l other i b k sc d n e come = absurd e
 
   -- one that makes none
   pub block_done : (l : Log) (a : Answer) (turns : Turns) (i : ℤ) (b : Block) (at : Span) (k : List Cont) (sc : Scope) (d n : ℕ) → a ≡ Loops turns → IsDone i turns
-      → At S 0 N start l h (answered S a (Some b) at k sc d n) → At S 0 N start l h (On (Give (Int i)) k sc d n)
+      → At S N start l h (answered S a (Some b) at k sc d n) → At S N start l h (On (Give (Int i)) k sc d n)
   block_done l a turns i b at k sc d n e f come = done_by l turns i b k sc d n f (same come (ap (λ x. answered S x (Some b) at k sc d n) e))
 
   -- and one that memory cuts
   pub block_cut : (l : Log) (a : Answer) (o : Outcome) (b : Block) (at : Span) (k : List Cont) (sc : Scope) (d n : ℕ) → o ≡ Over Memory
-      → At S 0 N start l h (answered S a (Some b) at k sc d n) → Came S N start l h o k sc d n
+      → At S N start l h (answered S a (Some b) at k sc d n) → Came S N start l h o k sc d n
   block_cut l a o b at k sc d n e come = cut S N start h l (answered S a (Some b) at k sc d n) k sc d n o e come (left_block S a b at k sc d n)

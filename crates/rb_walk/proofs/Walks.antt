@@ -142,8 +142,8 @@ module _ {S : Script} {N : ℕ} {start : State} {h : Private} where
       → Lies (block_fits S c) names size base (length before) → length after ≡ length before → 0 < n
       → ((i : ℕ) → i < c.from → slice_get after i ≡ slice_get before i)
       → ((i : ℕ) → i < c.count → slice_get (map plain after) (c.from + i) ≡ Some (slot_value (take (length c.params) values) i))
-      → At S 0 N start log h (start_turn S later values (erase_block c) k (scope_of me names before) d n)
-      → At S 0 N start log h (On (Following Nil (map erase c.body)) (Turn later (erase_block c) (length names) ∷ k) (scope_of me (names ++ S.block_names c.at) after) d (n - 1))
+      → At S N start log h (start_turn S later values (erase_block c) k (scope_of me names before) d n)
+      → At S N start log h (On (Following Nil (map erase c.body)) (Turn later (erase_block c) (length names) ∷ k) (scope_of me (names ++ S.block_names c.at) after) d (n - 1))
   iteration_opens {k = k} {me = me} {names = names} {d = d} {n = n} c before after values later l e p below within a =
       let own = S.block_names c.at in
       let from = starts_at S c l in
@@ -158,12 +158,12 @@ module _ {S : Script} {N : ℕ} {start : State} {h : Private} where
 
   -- no step is left for it
   pub no_step : {l : Log} (later : Turns) (values : List Val) (b : Block) (k : List Cont) (sc : Scope) (d n : ℕ) → n ≡ 0
-      → At S 0 N start l h (start_turn S later values b k sc d n) → At S 0 N start l h (ended ending.Steps n)
+      → At S N start l h (start_turn S later values b k sc d n) → At S N start l h (ended ending.Steps n)
   no_step later values b k sc d n e a = same a (ap (λ x. start_turn S later values b k sc d x) e ∙ ap (λ x. ended ending.Steps x) (sym e))
 
 module _ (S : Script) (N : ℕ) (start : State) (h : Private) where
   turn_goes : (o : Outcome) (l : Log) (later : Turns) (b : Block) (kept : ℕ) (k : List Cont) (sc : Scope) (d n : ℕ) → goes_on o ≡ true → Came S N start l h o (Turn later b kept ∷ k) sc d n
-      → At S 0 N start l h (On (Turning (turned (value_on o) later) b) k (back kept sc) d n)
+      → At S N start l h (On (Turning (turned (value_on o) later) b) k (back kept sc) d n)
   turn_goes (Gave v) l later b kept k sc d n e a = on _ a refl
   turn_goes (Left Next) l later b kept k sc d n e a = on _ a refl
   turn_goes (Left Break) l later b kept k sc d n e a = absurd (cc)
@@ -172,9 +172,9 @@ module _ (S : Script) (N : ℕ) (start : State) (h : Private) where
 
   -- behind an iteration that goes on
   pub iteration_goes : (o : Outcome) (log : Log) (later : Turns) (b : Block) (k : List Cont) (me : Val) (names own : List NameId) (room : List Held) (d n : ℕ) → length names ≤ length room → goes_on o ≡ true
-      → Came S N start log h o (Turn later b (length names) ∷ k) (scope_of me (names ++ own) room) d n → At S 0 N start log h (On (Turning (turned (value_on o) later) b) k (scope_of me names room) d n)
+      → Came S N start log h o (Turn later b (length names) ∷ k) (scope_of me (names ++ own) room) d n → At S N start log h (On (Turning (turned (value_on o) later) b) k (scope_of me names room) d n)
   iteration_goes o log later b k me names own room d n l e a =
-      subst (λ sc. At S 0 N start log h (On (Turning (turned (value_on o) later) b) k sc d n)) (back_is me names own room l) (turn_goes o log later b (length names) k (scope_of me (names ++ own) room) d n e a)
+      subst (λ sc. At S N start log h (On (Turning (turned (value_on o) later) b) k sc d n)) (back_is me names own room l) (turn_goes o log later b (length names) k (scope_of me (names ++ own) room) d n e a)
 
 -- an outcome that is an end leaves no iteration behind it
 pub over_stops : (how : End) (o : Outcome) → o ≡ Over how → goes_on o ≡ true → ⊥
@@ -189,7 +189,7 @@ begun pass.Map = refl
 begun pass.Select = refl
 
 pub begun_at : (S : Script) (N : ℕ) (start : State) (h : Private) (l : Log) (array : Reference) (p : Pass) (at : Span) (b : Block) (k : List Cont) (sc : Scope) (d n : ℕ)
-    → At S 0 N start l h (On (Turning (Walking array 0 (walk_of p) at) b) k sc d n) → At S 0 N start l h (On (Turning (Walking array 0 (walking p [] Nil) at) b) k sc d n)
+    → At S N start l h (On (Turning (Walking array 0 (walk_of p) at) b) k sc d n) → At S N start l h (On (Turning (Walking array 0 (walking p [] Nil) at) b) k sc d n)
 begun_at S N start h l array p at b k sc d n a = same a (ap (λ w. On (Turning (Walking array 0 w at) b) k sc d n) (begun p))
 
 fresh_nil : (own : List NameId) (vs : List Val) → vs ≡ [] → fresh own [] ≡ fresh own (Nil ∷ vs)
@@ -216,34 +216,34 @@ given_two S pass.Select made last v index later b k sc d n = start_one S later v
 
 module _ {S : Script} {N : ℕ} {start : State} {h : Private} where
   -- the length of an array is asked before each iteration
-  pub asks_length : {l : Log} {array : Reference} {next : ℕ} {walk : Walk} {at : Span} {b : Block} {k : List Cont} {sc : Scope} {d n : ℕ} → At S 0 N start l h (On (Turning (Walking array next walk at) b) k sc d n)
-      → At S 0 N start l h (ask array Len at (Then (ElementBelow array next walk b at) ∷ k) sc d n)
+  pub asks_length : {l : Log} {array : Reference} {next : ℕ} {walk : Walk} {at : Span} {b : Block} {k : List Cont} {sc : Scope} {d n : ℕ} → At S N start l h (On (Turning (Walking array next walk at) b) k sc d n)
+      → At S N start l h (ask array Len at (Then (ElementBelow array next walk b at) ∷ k) sc d n)
   asks_length a = on _ a refl
 
   -- then the element, where there is one
   pub asks_element : {l : Log} {v : Val} {array : Reference} {next : ℕ} {walk : Walk} {at : Span} {b : Block} {k : List Cont} {sc : Scope} {d n : ℕ} → is_below next v ≡ true
-      → At S 0 N start l h (On (Give v) (Then (ElementBelow array next walk b at) ∷ k) sc d n)
-      → At S 0 N start l h (ask array (ElementAt (pos next)) at (Then (WithElement array next walk b at) ∷ k) sc d n)
+      → At S N start l h (On (Give v) (Then (ElementBelow array next walk b at) ∷ k) sc d n)
+      → At S N start l h (ask array (ElementAt (pos next)) at (Then (WithElement array next walk b at) ∷ k) sc d n)
   asks_element {array = array} {next = next} {walk = walk} {at = at} {b = b} {k = k} {sc = sc} {d = d} {n = n} e a =
       on _ a (ap (λ t. Go (cond t (ask array (ElementAt (pos next)) at (Then (WithElement array next walk b at) ∷ k) sc d n) (finish array walk k sc d n))) e)
 
   pub no_element : {l : Log} {v : Val} {array : Reference} {next : ℕ} {walk : Walk} {at : Span} {b : Block} {k : List Cont} {sc : Scope} {d n : ℕ} → is_below next v ≡ false
-      → At S 0 N start l h (On (Give v) (Then (ElementBelow array next walk b at) ∷ k) sc d n) → At S 0 N start l h (finish array walk k sc d n)
+      → At S N start l h (On (Give v) (Then (ElementBelow array next walk b at) ∷ k) sc d n) → At S N start l h (finish array walk k sc d n)
   no_element {array = array} {next = next} {walk = walk} {at = at} {b = b} {k = k} {sc = sc} {d = d} {n = n} e a =
       on _ a (ap (λ t. Go (cond t (ask array (ElementAt (pos next)) at (Then (WithElement array next walk b at) ∷ k) sc d n) (finish array walk k sc d n))) e)
 
   -- an iteration with it begins
   pub element_begins : {l : Log} {array : Reference} {next : ℕ} {at : Span} {b : Block} {k : List Cont} {sc : Scope} {d n : ℕ} (p : Pass) (made : List Val) (last v : Val)
-      → At S 0 N start l h (On (Give v) (Then (WithElement array next (walking p made last) b at) ∷ k) sc d n)
-      → At S 0 N start l h (start_turn S (Walking array (suc next) (holding v (walking p made last)) at) (v ∷ second_value p next ∷ []) b k sc d n)
+      → At S N start l h (On (Give v) (Then (WithElement array next (walking p made last) b at) ∷ k) sc d n)
+      → At S N start l h (start_turn S (Walking array (suc next) (holding v (walking p made last)) at) (v ∷ second_value p next ∷ []) b k sc d n)
   element_begins {array = array} {next = next} {at = at} {b = b} {k = k} {sc = sc} {d = d} {n = n} p made last v a =
       same (on _ a refl) (given_two S p made last v next (Walking array (suc next) (holding v (walking p made last)) at) b k sc d n)
 
   -- what it makes joins what was made
   pub element_ends : {l : Log} {array : Reference} {next next' : ℕ} {at : Span} {b : Block} {k : List Cont} {sc : Scope} {d n : ℕ} (p : Pass) (made made' : List Val) (last held v gave : Val)
       → holding v (walking p made last) ≡ walking p made held → walking p made' held ≡ walked gave (walking p made held) → next' ≡ next + 1
-      → At S 0 N start l h (On (Turning (turned gave (Walking array (suc next) (holding v (walking p made last)) at)) b) k sc d n)
-      → At S 0 N start l h (On (Turning (Walking array next' (walking p made' held) at) b) k sc d n)
+      → At S N start l h (On (Turning (turned gave (Walking array (suc next) (holding v (walking p made last)) at)) b) k sc d n)
+      → At S N start l h (On (Turning (Walking array next' (walking p made' held) at) b) k sc d n)
   element_ends {array = array} {next = next} {next' = next'} {at = at} {b = b} {k = k} {sc = sc} {d = d} {n = n} p made made' last held v gave e f g a =
       let u : suc next ≡ next' = omega (arith, g) in
       same a (ap (λ w. On (Turning (Walking array (suc next) (walked gave w) at) b) k sc d n) e
@@ -252,11 +252,11 @@ module _ {S : Script} {N : ℕ} {start : State} {h : Private} where
   -- ---- pairs
 
   pub pair_begins : {l : Log} {p : Val × Val} {ps qs : List (Val × Val)} {answer : Val} {b : Block} {k : List Cont} {sc : Scope} {d n : ℕ} → qs ≡ p ∷ ps
-      → At S 0 N start l h (On (Turning (EachPair qs answer) b) k sc d n) → At S 0 N start l h (start_turn S (EachPair ps answer) (p.0 ∷ p.1 ∷ []) b k sc d n)
+      → At S N start l h (On (Turning (EachPair qs answer) b) k sc d n) → At S N start l h (start_turn S (EachPair ps answer) (p.0 ∷ p.1 ∷ []) b k sc d n)
   pair_begins {answer = answer} {b = b} {k = k} {sc = sc} {d = d} {n = n} e a = on _ (same a (ap (λ qs. On (Turning (EachPair qs answer) b) k sc d n) e)) refl
 
   pub pairs_end : {l : Log} {qs : List (Val × Val)} {answer : Val} {b : Block} {k : List Cont} {sc : Scope} {d n : ℕ} → qs ≡ []
-      → At S 0 N start l h (On (Turning (EachPair qs answer) b) k sc d n) → At S 0 N start l h (On (Give answer) k sc d n)
+      → At S N start l h (On (Turning (EachPair qs answer) b) k sc d n) → At S N start l h (On (Give answer) k sc d n)
   pairs_end {answer = answer} {b = b} {k = k} {sc = sc} {d = d} {n = n} e a = on _ (same a (ap (λ qs. On (Turning (EachPair qs answer) b) k sc d n) e)) refl
 
 -- none are left where there are none
@@ -286,7 +286,7 @@ module _ (at : Span) (k : List Cont) (sc : Scope) (d n : ℕ) where
 
 -- the same answer under another name
 pub block_comes : (S : Script) (N : ℕ) (start : State) (h : Private) (l : Log) (a a' : Answer) (b : Block) (at : Span) (k : List Cont) (sc : Scope) (d n : ℕ) → a ≡ a'
-    → At S 0 N start l h (call.answered S a (Some b) at k sc d n) → At S 0 N start l h (call.answered S a' (Some b) at k sc d n)
+    → At S N start l h (call.answered S a (Some b) at k sc d n) → At S N start l h (call.answered S a' (Some b) at k sc d n)
 block_comes S N start h l a a' b at k sc d n e come = same come (ap (λ x. call.answered S x (Some b) at k sc d n) e)
 
 pub counted : (N : ℕ) (at : Span) (left : ℕ) (l : Log) (i : Iterations) (value : Held) (leave : Leave) (turns : Turns) → Counts turns i → OpensBy (Loops turns) N at left l i value leave

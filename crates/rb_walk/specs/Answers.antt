@@ -63,7 +63,7 @@ abbrev pub IsHeld : Code → List Held → Val → Type 0
 IsHeld code room v =
     (S : Script) (N : ℕ) (names : List NameId) (size depth left : ℕ) (start : State) (h : Private) (log : Log) (k : List Cont) (me : Val)
     → fits S code names size ≡ true → length names ≤ length room → 0 < left → depth < 1000
-    → At S 0 N start log h (On (Eval (erase code)) k (scope_of me names room) depth left) → At S 0 N start log h (On (Give v) k (scope_of me names room) depth (left - 1))
+    → At S N start log h (On (Eval (erase code)) k (scope_of me names room) depth left) → At S N start log h (On (Give v) k (scope_of me names room) depth (left - 1))
 
 -- What came of a leaf is true exactly where its value is.
 abbrev pub IsTested : Code → List Held → Registers → Type 0
@@ -88,7 +88,7 @@ abbrev pub IsMade : Code → List Held → ℤ → Type 0
 IsMade code room n =
     (S : Script) (N : ℕ) (names : List NameId) (size depth left : ℕ) (start : State) (h : Private) (log : Log) (k : List Cont) (me : Val)
     → fits S code names size ≡ true → length names ≤ length room → 2 < left → depth < 999
-    → At S 0 N start log h (On (Eval (erase code)) k (scope_of me names room) depth left) → At S 0 N start log h (On (Give (Int n)) k (scope_of me names room) depth (left - 3))
+    → At S N start log h (On (Eval (erase code)) k (scope_of me names room) depth left) → At S N start log h (On (Give (Int n)) k (scope_of me names room) depth (left - 3))
 
 -- how many steps an operand takes that is an operation over two leaves, and one that is a leaf
 abbrev pub steps_of : Bool → ℕ
@@ -99,7 +99,7 @@ abbrev pub IsGiven : ℕ → Code → List Held → Private → Val → Type 0
 IsGiven steps code room own v =
     (S : Script) (N : ℕ) (names : List NameId) (size depth left : ℕ) (start : State) (log : Log) (k : List Cont) (me : Val)
     → fits S code names size ≡ true → length names ≤ length room → 2 < left → depth < 999
-    → At S 0 N start log own (On (Eval (erase code)) k (scope_of me names room) depth left) → At S 0 N start log own (On (Give v) k (scope_of me names room) depth (left - steps))
+    → At S N start log own (On (Eval (erase code)) k (scope_of me names room) depth left) → At S N start log own (On (Give v) k (scope_of me names room) depth (left - steps))
 
 -- an operand gives this integer so, whatever the private things are
 abbrev pub IsComputed : ℕ → Code → List Held → ℤ → Type 0
@@ -148,4 +148,4 @@ IsDone n other = ⊥
 abbrev pub Settles : Program → ℕ → Option Builtin → Val → List Val → ℕ → Span → ℕ → Log → Outcome → Type 0
 Settles program N method v args params at left log o =
     (name : List ℕ) (S : Script) (start : State) (h : Private) (b : Block) (k : List Cont) (sc : Scope) (d : ℕ) → builtin_of name ≡ method
-    → At S 0 N start log h (answered S (deed program v name args (Some params)) (Some b) at k sc d left) → Came S N start log h o k sc d left
+    → At S N start log h (answered S (deed program v name args (Some params)) (Some b) at k sc d left) → Came S N start log h o k sc d left

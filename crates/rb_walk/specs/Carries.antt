@@ -50,7 +50,7 @@ abbrev pub Carries : CodeScript → Program → ℕ → Val → (Script → Fits
 Carries script program N me code from base depth left left' room room' log log' own own' o =
     (S : Script) (start : State) (k : List Cont) (names : List NameId) (size : ℕ)
     → StandsFor script S → S.program ≡ program → Lies (code S) names size base (length room)
-    → At S 0 N start log own (from S k (scope_of me names room) depth left) → Came S N start log' own' o k (scope_of me names room') depth left'
+    → At S N start log own (from S k (scope_of me names room) depth left) → Came S N start log' own' o k (scope_of me names room') depth left'
 
 -- what stands between the frame and the base stays
 abbrev pub Keeps : CodeScript → Program → (Script → Fits) → (base : ℕ) → (room room' : List Held) → Type 0
@@ -134,19 +134,19 @@ abbrev pub Passes : CodeScript → Program → ℕ → Val → List Code → (ba
 Passes script program N me args base depth left left' room room' log log' own own' r o =
     (aim : Aim) (at : Span) (S : Script) (start : State) (k : List Cont) (names : List NameId) (size : ℕ)
     → StandsFor script S → S.program ≡ program → Lies (every (map (fits S) args)) names size base (length room)
-    → At S 0 N start log own (On (Passing aim [] (map erase args) at) k (scope_of me names room) depth left)
+    → At S N start log own (On (Passing aim [] (map erase args) at) k (scope_of me names room) depth left)
     → (is_left r ≡ true → Came S N start log' own' o k (scope_of me names room') depth left')
-    × (is_left r ≡ false → At S 0 N start log' own' (On (Passing aim (map plain (take (length args) (drop base room'))) [] at) k (scope_of me names room') depth left'))
+    × (is_left r ≡ false → At S N start log' own' (On (Passing aim (map plain (take (length args) (drop base room'))) [] at) k (scope_of me names room') depth left'))
 
 -- what is shown is shown by the machine, whatever is done behind it
 abbrev pub Shows : Program → ℕ → Form → List Val → Span → ℕ → Log → Log → Outcome → Type 0
 Shows program N form values at left log log' o =
     (S : Script) (start : State) (h : Private) (after : Step) (k : List Cont) (sc : Scope) (d : ℕ)
-    → At S 0 N start log h (show S (written program form values) after at k sc d left) → Came S N start log' h o (Then after ∷ k) sc d left
+    → At S N start log h (show S (written program form values) after at k sc d left) → Came S N start log' h o (Then after ∷ k) sc d left
 
 -- From where `from` stands, the machine comes to where `to` stands.
 abbrev pub Reaches : CodeScript → Program → ℕ → Val → (Script → Fits) → (from to : Script → List Cont → Scope → ℕ → ℕ → State) → (base depth left left' : ℕ) → (room room' : List Held) → (log log' : Log) → (own own' : Private) → Type 0
 Reaches script program N me code from to base depth left left' room room' log log' own own' =
     (S : Script) (start : State) (k : List Cont) (names : List NameId) (size : ℕ)
     → StandsFor script S → S.program ≡ program → Lies (code S) names size base (length room)
-    → At S 0 N start log own (from S k (scope_of me names room) depth left) → At S 0 N start log' own' (to S k (scope_of me names room') depth left')
+    → At S N start log own (from S k (scope_of me names room) depth left) → At S N start log' own' (to S k (scope_of me names room') depth left')

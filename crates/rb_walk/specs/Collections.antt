@@ -33,7 +33,7 @@ use Rattle.rb_walk.specs.Outcome.{Outcome, Over, Came, is_left}
 abbrev pub Comes : ℕ → (Script → List Cont → Scope → ℕ → ℕ → State) → Program → (depth left left' : ℕ) → (log log' : Log) → (own own' : Private) → Outcome → Type 0
 Comes N from program depth left left' log log' own own' o =
     (S : Script) (start : State) (k : List Cont) (sc : Scope) → S.program ≡ program
-    → At S 0 N start log own (from S k sc depth left) → Came S N start log' own' o k sc depth left'
+    → At S N start log own (from S k sc depth left) → Came S N start log' own' o k sc depth left'
 
 -- a thing is made
 abbrev pub making : Thing → Script → List Cont → Scope → ℕ → ℕ → State
@@ -90,16 +90,16 @@ CallsBuiltin N program method v args at depth left left' log own own' o =
 abbrev pub Reads : ℕ → Ref → Reply → (left : ℕ) → Log → (own own' : Private) → Type 0
 Reads N thing reply left log own own' =
     (purpose : Use) (at : Span) (S : Script) (start : State) (k : List Cont) (sc : Scope) (d : ℕ)
-    → At S 0 N start log own (On (Reading (record { sort = thing.sort; id = thing.id }) purpose at) k sc d left)
-    → At S 0 N start log own' (used purpose (record { sort = thing.sort; id = thing.id }) reply at k sc d left)
+    → At S N start log own (On (Reading (record { sort = thing.sort; id = thing.id }) purpose at) k sc d left)
+    → At S N start log own' (used purpose (record { sort = thing.sort; id = thing.id }) reply at k sc d left)
 
 -- A collection is opened in a text that is made: the machine goes on with the text as it is then, or comes to the outcome.
 abbrev pub Opens : ℕ → Reference → (old new : Draft) → Span → (left : ℕ) → Log → (own own' : Private) → Registers → Outcome → Type 0
 Opens N thing old new at left log own own' r o =
     (S : Script) (start : State) (k : List Cont) (sc : Scope) (d : ℕ)
-    → At S 0 N start log own (On (Reading thing (ForText old) at) k sc d left)
+    → At S N start log own (On (Reading thing (ForText old) at) k sc d left)
     → (is_left r ≡ true → Came S N start log own' o k sc d left)
-    × (is_left r ≡ false → At S 0 N start log own' (On (Drafting new at) k sc d left))
+    × (is_left r ≡ false → At S N start log own' (On (Drafting new at) k sc d left))
 
 -- ---- texts of collections
 
@@ -130,9 +130,9 @@ work_of t = coming_work t.coming + length t.begun
 abbrev pub Advances : ℕ → Program → Want → (old new : Draft) → Span → (depth left left' : ℕ) → Log → (own own' : Private) → Registers → Outcome → Type 0
 Advances N program want old new at depth left left' log own own' r o =
     (t : Draft) (S : Script) (start : State) (k : List Cont) (sc : Scope) → S.program ≡ program → Wants program t want old
-    → At S 0 N start log own (On (Drafting t at) k sc depth left)
+    → At S N start log own (On (Drafting t at) k sc depth left)
     → (is_left r ≡ true → Came S N start log own' o k sc depth left')
-    × (is_left r ≡ false → At S 0 N start log own' (On (Drafting new at) k sc depth left'))
+    × (is_left r ≡ false → At S N start log own' (On (Drafting new at) k sc depth left'))
 
 -- and there is less to do then
 abbrev pub Shortens : Program → Want → (old new : Draft) → (left left' : ℕ) → Registers → Type 0
@@ -143,9 +143,9 @@ Shortens program want old new left left' r =
 abbrev pub InspectsOne : ℕ → Program → Val → (old new : List ℕ) → Span → (depth left left' : ℕ) → Log → (own own' : Private) → Registers → Outcome → Type 0
 InspectsOne N program v old new at depth left left' log own own' r o =
     (all vs : List Val) (S : Script) (start : State) (k : List Cont) (sc : Scope) → S.program ≡ program
-    → At S 0 N start log own (write S (Inspecting all) old (v ∷ vs) at k sc depth left)
+    → At S N start log own (write S (Inspecting all) old (v ∷ vs) at k sc depth left)
     → (is_left r ≡ true → Came S N start log own' o k sc depth left')
-    × (is_left r ≡ false → At S 0 N start log own' (write S (Inspecting all) new vs at k sc depth left'))
+    × (is_left r ≡ false → At S N start log own' (write S (Inspecting all) new vs at k sc depth left'))
 
 -- a key of a hash gets a value, which is given on
 abbrev pub keeping : Reference → Val → Val → Span → Script → List Cont → Scope → ℕ → ℕ → State

@@ -1,9 +1,6 @@
--- How the main thread ends, and what its last call leaves.
-use Rattle.std.specs.Prelude.{ℕ}
-use Rattle.rb_model.specs.Values.{Value as Val, Nil}
-use Rattle.rb_model.specs.Ends.{End, Value, Memory}
-use Rattle.rb_model.specs.Log.{Log, logged, plain_entry}
-use Rattle.rb_model.specs.Log as log
+-- How the main thread ends.
+use Rattle.rb_model.specs.Values.{Nil}
+use Rattle.rb_model.specs.Ends.{End, Value}
 use Rattle.rb_walk.specs.Outcome.{Outcome, Gave, Left, Over}
 
 -- the value of the main thread is nil, and an exit at its top level ends it as well
@@ -11,8 +8,3 @@ abbrev pub ending : Outcome → End
 ending (Gave v) = Value Nil
 ending (Left exit) = Value Nil
 ending (Over how) = how
-
--- The last call, at this step, is the end entry; where it has to tell a value and memory is refused, want of memory is told in its place.
-pub data Closes (step : ℕ) (old : Log) : End → Log → End → Type 0 where
-  tells : (e : End) → Closes step old e (logged old (plain_entry step (log.End e))) e
-  lacks : (v : Val) → Closes step old (Value v) (logged old (plain_entry step (log.End Memory))) Memory

@@ -47,42 +47,42 @@ IsUnlined style (Some v) = (S : Script) (bytes : List ℕ) (vs : List Val) (at :
 abbrev pub JoinsLine : ℕ → (line : List ℕ) → (old new : Draft) → Span → (left : ℕ) → Log → Private → Registers → Outcome → Type 0
 JoinsLine N line old new at left log own r o =
     (S : Script) (start : State) (k : List Cont) (sc : Scope) (d : ℕ)
-    → At S 0 N start log own (going (with_line old line) at k sc d left)
+    → At S N start log own (going (with_line old line) at k sc d left)
     → (is_left r ≡ true → Came S N start log own o k sc d left)
-    × (is_left r ≡ false → At S 0 N start log own (On (Drafting new at) k sc d left))
+    × (is_left r ≡ false → At S N start log own (On (Drafting new at) k sc d left))
 
 -- From where a value is asked for its text as a line, the machine goes on with the text that has the line, or comes to the outcome.
 abbrev pub AsksLine : CodeScript → Program → ℕ → Val → Val → (old new : Draft) → Span → (base depth left left' : ℕ) → (room room' : List Held) → (log log' : Log) → (own own' : Private) → Registers → Outcome → Type 0
 AsksLine script program N me v old new at base depth left left' room room' log log' own own' r o =
     (S : Script) (start : State) (k : List Cont) (names : List NameId)
     → StandsFor script S → S.program ≡ program → length names ≤ base → base ≤ length room
-    → At S 0 N start log own (give_text S v at (Under depth ∷ Then (LineOf old at) ∷ k) (scope_of me names room) (depth + length old.begun) left)
+    → At S N start log own (give_text S v at (Under depth ∷ Then (LineOf old at) ∷ k) (scope_of me names room) (depth + length old.begun) left)
     → (is_left r ≡ true → Came S N start log' own' o k (scope_of me names room') depth left')
-    × (is_left r ≡ false → At S 0 N start log' own' (On (Drafting new at) k (scope_of me names room') depth left'))
+    × (is_left r ≡ false → At S N start log' own' (On (Drafting new at) k (scope_of me names room') depth left'))
 
 -- What a text needs is done, of which it then stands so: the machine goes on with it, or comes to the outcome.
 abbrev pub AdvancesLine : CodeScript → Program → ℕ → Val → Want → (old new : Draft) → Span → (base depth left left' : ℕ) → (room room' : List Held) → (log log' : Log) → (own own' : Private) → Registers → Outcome → Type 0
 AdvancesLine script program N me want old new at base depth left left' room room' log log' own own' r o =
     (t : Draft) (S : Script) (start : State) (k : List Cont) (names : List NameId)
     → StandsFor script S → S.program ≡ program → length names ≤ base → base ≤ length room → Wants program t want old
-    → At S 0 N start log own (On (Drafting t at) k (scope_of me names room) depth left)
+    → At S N start log own (On (Drafting t at) k (scope_of me names room) depth left)
     → (is_left r ≡ true → Came S N start log' own' o k (scope_of me names room') depth left')
-    × (is_left r ≡ false → At S 0 N start log' own' (On (Drafting new at) k (scope_of me names room') depth left'))
+    × (is_left r ≡ false → At S N start log' own' (On (Drafting new at) k (scope_of me names room') depth left'))
 
 -- From where an array begins to be written line by line, the machine comes to where its text stands so.
 abbrev pub LinesOn : CodeScript → Program → ℕ → Val → Ref → Draft → Span → (base depth left left' : ℕ) → (room room' : List Held) → (log log' : Log) → (own own' : Private) → Type 0
 LinesOn script program N me array t at base depth left left' room room' log log' own own' =
     (S : Script) (start : State) (k : List Cont) (names : List NameId)
     → StandsFor script S → S.program ≡ program → length names ≤ base → base ≤ length room
-    → At S 0 N start log own (On (Drafting (draft_of Lined (To (thing_of array))) at) k (scope_of me names room) depth left)
-    → At S 0 N start log' own' (On (Drafting t at) k (scope_of me names room') depth left')
+    → At S N start log own (On (Drafting (draft_of Lined (To (thing_of array))) at) k (scope_of me names room) depth left)
+    → At S N start log' own' (On (Drafting t at) k (scope_of me names room') depth left')
 
 -- and to the outcome
 abbrev pub GivesLines : CodeScript → Program → ℕ → Val → Ref → Span → (base depth left left' : ℕ) → (room room' : List Held) → (log log' : Log) → (own own' : Private) → Outcome → Type 0
 GivesLines script program N me array at base depth left left' room room' log log' own own' o =
     (S : Script) (start : State) (k : List Cont) (names : List NameId)
     → StandsFor script S → S.program ≡ program → length names ≤ base → base ≤ length room
-    → At S 0 N start log own (On (Drafting (draft_of Lined (To (thing_of array))) at) k (scope_of me names room) depth left)
+    → At S N start log own (On (Drafting (draft_of Lined (To (thing_of array))) at) k (scope_of me names room) depth left)
     → Came S N start log' own' o k (scope_of me names room') depth left'
 
 -- ---- values one by one
@@ -91,24 +91,24 @@ GivesLines script program N me array at base depth left left' room room' log log
 abbrev pub JoinsText : ℕ → (text old new : List ℕ) → Span → (left : ℕ) → Log → Private → Registers → Outcome → Type 0
 JoinsText N text old new at left log own r o =
     (S : Script) (start : State) (k : List Cont) (sc : Scope) (d : ℕ) (to : List ℕ → State) → ((bytes : List ℕ) → left_in (to bytes) ≡ left)
-    → At S 0 N start log own (if nat_lt max_bytes (length (old ++ text)) then raised TextTooLong at left else to (old ++ text))
+    → At S N start log own (if nat_lt max_bytes (length (old ++ text)) then raised TextTooLong at left else to (old ++ text))
     → (is_left r ≡ true → Came S N start log own o k sc d left)
-    × (is_left r ≡ false → At S 0 N start log own (to new))
+    × (is_left r ≡ false → At S N start log own (to new))
 
 -- From where an array is to be written behind bytes, the machine comes to where others are to be written behind more, or to the outcome.
 abbrev pub WritesArray : CodeScript → Program → ℕ → Val → Ref → (old new : List ℕ) → Span → (base depth left left' : ℕ) → (room room' : List Held) → (log log' : Log) → (own own' : Private) → Registers → Outcome → Type 0
 WritesArray script program N me array old new at base depth left left' room room' log log' own own' r o =
     (S : Script) (start : State) (k : List Cont) (names : List NameId) (vs : List Val)
     → StandsFor script S → S.program ≡ program → length names ≤ base → base ≤ length room
-    → At S 0 N start log own (On (Drafting (draft_of Lined (To (thing_of array))) at) (Then (LinesBehind old vs at) ∷ k) (scope_of me names room) depth left)
+    → At S N start log own (On (Drafting (draft_of Lined (To (thing_of array))) at) (Then (LinesBehind old vs at) ∷ k) (scope_of me names room) depth left)
     → (is_left r ≡ true → Came S N start log' own' o k (scope_of me names room') depth left')
-    × (is_left r ≡ false → At S 0 N start log' own' (write S Lines new vs at k (scope_of me names room') depth left'))
+    × (is_left r ≡ false → At S N start log' own' (write S Lines new vs at k (scope_of me names room') depth left'))
 
 -- the same of the value of a slot, in any style
 abbrev pub WritesOne : CodeScript → Program → ℕ → Val → Style → (slot : ℕ) → (old new : List ℕ) → Span → (base depth left left' : ℕ) → (room room' : List Held) → (log log' : Log) → (own own' : Private) → Registers → Outcome → Type 0
 WritesOne script program N me style slot old new at base depth left left' room room' log log' own own' r o =
     (v : Held) → slice_get room slot ≡ Some v → (S : Script) (start : State) (k : List Cont) (names : List NameId) (vs : List Val)
     → StandsFor script S → S.program ≡ program → length names ≤ base → base ≤ length room
-    → At S 0 N start log own (write S style old (plain v ∷ vs) at k (scope_of me names room) depth left)
+    → At S N start log own (write S style old (plain v ∷ vs) at k (scope_of me names room) depth left)
     → (is_left r ≡ true → Came S N start log' own' o k (scope_of me names room') depth left')
-    × (is_left r ≡ false → At S 0 N start log' own' (write S style new vs at k (scope_of me names room') depth left'))
+    × (is_left r ≡ false → At S N start log' own' (write S style new vs at k (scope_of me names room') depth left'))

@@ -57,7 +57,7 @@ abbrev pub Enters : CodeScript → Program → ℕ → Val → Val → CodeMetho
 Enters script program N me to method count at base depth left left' room room' log log' own own' o =
     (S : Script) (start : State) (k : List Cont) (names : List NameId)
     → StandsFor script S → S.program ≡ program → method_fits S method ≡ true → length names ≤ base → base + count ≤ length room
-    → At S 0 N start log own (enter S (erase_method method) to (map plain (take count (drop base room))) at k (scope_of me names room) depth left)
+    → At S N start log own (enter S (erase_method method) to (map plain (take count (drop base room))) at k (scope_of me names room) depth left)
     → Came S N start log' own' o k (scope_of me names room') depth left'
 
 -- and from where it begins with one argument
@@ -65,7 +65,7 @@ abbrev pub EntersWith : CodeScript → Program → ℕ → Val → Val → CodeM
 EntersWith script program N me to method arg at base depth left left' room room' log log' own own' o =
     (S : Script) (start : State) (k : List Cont) (names : List NameId)
     → StandsFor script S → S.program ≡ program → method_fits S method ≡ true → length names ≤ base → base ≤ length room
-    → At S 0 N start log own (enter S (erase_method method) to (arg ∷ []) at k (scope_of me names room) depth left)
+    → At S N start log own (enter S (erase_method method) to (arg ∷ []) at k (scope_of me names room) depth left)
     → Came S N start log' own' o k (scope_of me names room') depth left'
 
 -- and as an assignment, whose value is the last of the arguments that stand behind the frame
@@ -73,7 +73,7 @@ abbrev pub StoresWith : CodeScript → Program → ℕ → Val → Val → CodeM
 StoresWith script program N me to method count at base depth left left' room room' log log' own own' o =
     (S : Script) (start : State) (k : List Cont) (names : List NameId)
     → StandsFor script S → S.program ≡ program → method_fits S method ≡ true → length names ≤ base → base + count ≤ length room
-    → At S 0 N start log own (enter S (erase_method method) to (map plain (take count (drop base room))) at (Then (Instead (last_value S (map plain (take count (drop base room))))) ∷ k) (scope_of me names room) depth left)
+    → At S N start log own (enter S (erase_method method) to (map plain (take count (drop base room))) at (Then (Instead (last_value S (map plain (take count (drop base room))))) ∷ k) (scope_of me names room) depth left)
     → Came S N start log' own' o k (scope_of me names room') depth left'
 
 -- From where a method of a value is called with the arguments that stand behind the frame, the machine comes to the outcome.
@@ -81,7 +81,7 @@ abbrev pub Invokes : CodeScript → Program → ℕ → Val → Val → Option B
 Invokes script program N me v method name count at base depth left left' room room' log log' own own' o =
     (S : Script) (start : State) (k : List Cont) (names : List NameId)
     → StandsFor script S → S.program ≡ program → builtin_of (text_of S name) ≡ method → length names ≤ base → base + count ≤ length room
-    → At S 0 N start log own (invoke S v (text_of S name) (map plain (take count (drop base room))) None at k (scope_of me names room) depth left)
+    → At S N start log own (invoke S v (text_of S name) (map plain (take count (drop base room))) None at k (scope_of me names room) depth left)
     → Came S N start log' own' o k (scope_of me names room') depth left'
 
 -- the same of the name of a writer, where there is one
@@ -98,5 +98,5 @@ abbrev pub Writing : CodeScript → Program → ℕ → Val → Val → Option N
 Writing script program N me v writer w at base depth left left' room room' log log' own own' o =
     (name : NameId) (S : Script) (start : State) (k : List Cont) (names : List NameId)
     → StandsFor script S → S.program ≡ program → is_writer S writer name ≡ true → is_free (text_of S name ++ codes "=") ≡ true → length names ≤ base → base ≤ length room
-    → At S 0 N start log own (write_place S w (OfAttribute v (text_of S name)) at k (scope_of me names room) depth left)
+    → At S N start log own (write_place S w (OfAttribute v (text_of S name)) at k (scope_of me names room) depth left)
     → Came S N start log' own' o k (scope_of me names room') depth left'

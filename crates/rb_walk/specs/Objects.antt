@@ -25,13 +25,13 @@ use Rattle.rb_walk.specs.Carries.{scope_of}
 abbrev pub Asks : ℕ → Val → Act → Span → (left : ℕ) → Log → (own own' : Private) → Outcome → Type 0
 Asks N v act at left log own own' o =
     (S : Script) (start : State) (k : List Cont) (sc : Scope) (d : ℕ)
-    → At S 0 N start log own (ask_of v act at k sc d left) → Came S N start log own' o k sc d left
+    → At S N start log own (ask_of v act at k sc d left) → Came S N start log own' o k sc d left
 
 -- the same of a value that is written to a field of an object, and given on
 abbrev pub WritesField : ℕ → Val → NameId → Val → Span → (left : ℕ) → Log → (own own' : Private) → Outcome → Type 0
 WritesField N me name v at left log own own' o =
     (S : Script) (start : State) (k : List Cont) (sc : Scope) (d : ℕ)
-    → At S 0 N start log own (ask_of me (SetField name v) at (Then (Instead v) ∷ k) sc d left) → Came S N start log own' o k sc d left
+    → At S N start log own (ask_of me (SetField name v) at (Then (Instead v) ∷ k) sc d left) → Came S N start log own' o k sc d left
 
 -- From where an assignment with an operator reads an instance variable of `self`, the machine comes to the value that it gives, and no slot
 -- is another.
@@ -39,8 +39,8 @@ abbrev pub UpdatesField : CodeScript → ℕ → Val → NameId → AssignOp →
 UpdatesField script N me name op value depth left left' room log own own' v =
     (S : Script) (start : State) (k : List Cont) (names : List NameId) (size : ℕ) (at : Span)
     → StandsFor script S → fits S value names size ≡ true → length names ≤ length room
-    → At S 0 N start log own (read_place S (OfField name) op (erase value) at k (scope_of me names room) depth left)
-    → At S 0 N start log own' (On (Give v) k (scope_of me names room) depth left')
+    → At S N start log own (read_place S (OfField name) op (erase value) at k (scope_of me names room) depth left)
+    → At S N start log own' (On (Give v) k (scope_of me names room) depth left')
 
 -- a step that gives its value to an instance variable of `self`
 pub data Fields (name : NameId) (at : Span) : Step → Type 0 where
@@ -52,5 +52,5 @@ abbrev pub Creates : CodeScript → Program → ℕ → Val → Val → ℕ → 
 Creates script program N me object class first count at base depth left left' room room' log log' own own' o =
     (name : NameId) (S : Script) (start : State) (k : List Cont) (names : List NameId)
     → StandsFor script S → S.program ≡ program → is_made S class first name ≡ true → length names ≤ base → base + count ≤ length room
-    → At S 0 N start log own (initialize S object (map plain (take count (drop base room))) at k (scope_of me names room) depth left)
+    → At S N start log own (initialize S object (map plain (take count (drop base room))) at k (scope_of me names room) depth left)
     → Came S N start log' own' o k (scope_of me names room') depth left'

@@ -72,12 +72,12 @@ Settles v o = (o ≡ Gave v) ⊎ IsOver o
 -- Where the machine of the main thread then stands: it gives the value, it leaves, or it has ended; a cut by memory stands somewhere on
 -- the way to the next want, and a refused print in place of that print.
 abbrev pub Came : Script → ℕ → State → Log → Private → Outcome → List Cont → Scope → ℕ → ℕ → Type 0
-Came S N start l h (Gave v) k sc d n = At S 0 N start l h (On (Give v) k sc d n)
-Came S N start l h (Left e) k sc d n = At S 0 N start l h (On (Leaving e) k sc d n)
+Came S N start l h (Gave v) k sc d n = At S N start l h (On (Give v) k sc d n)
+Came S N start l h (Left e) k sc d n = At S N start l h (On (Leaving e) k sc d n)
 Came S N start l h (Over (ending.Value v)) k sc d n = ⊥
-Came S N start l h (Over (ending.Raised f at)) k sc d n = At S 0 N start l h (ended (ending.Raised f at) n)
-Came S N start l h (Over ending.Steps) k sc d n = At S 0 N start l h (ended ending.Steps n)
+Came S N start l h (Over (ending.Raised f at)) k sc d n = At S N start l h (ended (ending.Raised f at) n)
+Came S N start l h (Over ending.Steps) k sc d n = At S N start l h (ended ending.Steps n)
 Came S N start l h (Over (ending.Full used asked)) k sc d n = ⊥
-Came S N start l h (Over ending.Memory) k sc d n = (s : State) × At S 0 N start l h s × (left_in s ≡ n)
+Came S N start l h (Over ending.Memory) k sc d n = (s : State) × At S N start l h s × (left_in s ≡ n)
 Came S N start l h (Over ending.Sink) k sc d n =
-    (front : Log) × (s : State) × (bytes : List ℕ) × At S 0 N start front h s × (move S s ≡ Show bytes) × (left_in s ≡ n) × (l ≡ refused front (Print bytes) [])
+    (front : Log) × (s : State) × (bytes : List ℕ) × At S N start front h s × (move S s ≡ Show bytes) × (left_in s ≡ n) × (l ≡ refused front (Print bytes) [])

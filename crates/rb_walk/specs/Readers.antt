@@ -52,7 +52,7 @@ abbrev pub SendsTo : CodeScript → Program → ℕ → Val → Code → Option 
 SendsTo script program N me receiver method name at depth left left' room log log' own own' o =
     (S : Script) (start : State) (k : List Cont) (names : List NameId) (size : ℕ)
     → StandsFor script S → S.program ≡ program → builtin_of (text_of S name) ≡ method → fits S receiver names size ≡ true → length names ≤ length room
-    → At S 0 N start log own (On (Eval (erase receiver)) (Then (ReceiverOf (text_of S name) [] None at) ∷ k) (scope_of me names room) depth left)
+    → At S N start log own (On (Eval (erase receiver)) (Then (ReceiverOf (text_of S name) [] None at) ∷ k) (scope_of me names room) depth left)
     → Came S N start log' own' o k (scope_of me names room) depth left'
 
 -- From where code is evaluated, the machine comes to the outcome, and no slot is another.
@@ -60,7 +60,7 @@ abbrev pub EvaluatesTo : CodeScript → Program → ℕ → Val → Code → (de
 EvaluatesTo script program N me code depth left left' room log log' own own' o =
     (S : Script) (start : State) (k : List Cont) (names : List NameId) (size : ℕ)
     → StandsFor script S → S.program ≡ program → fits S code names size ≡ true → length names ≤ length room
-    → At S 0 N start log own (On (Eval (erase code)) k (scope_of me names room) depth left)
+    → At S N start log own (On (Eval (erase code)) k (scope_of me names room) depth left)
     → Came S N start log' own' o k (scope_of me names room) depth left'
 
 -- a method with one parameter gives it to this variable at this place, and does nothing else
@@ -82,7 +82,7 @@ abbrev pub EntersAtOnce : ℕ → Val → CodeMethod → List Val → (depth lef
 EntersAtOnce N to method args depth left left' log log' own own' o =
     (S : Script) (start : State) (k : List Cont) (sc : Scope) (at : Span)
     → method_fits S method ≡ true
-    → At S 0 N start log own (enter S (erase_method method) to args at k sc depth left)
+    → At S N start log own (enter S (erase_method method) to args at k sc depth left)
     → Came S N start log' own' o k sc depth left'
 
 -- a statement gives the local in this slot to this variable at this place, and does nothing else
@@ -120,7 +120,7 @@ abbrev pub Fetches : CodeScript → Val → ℕ → Code → List Held → Priva
 Fetches script me steps code room own n =
     (S : Script) (N : ℕ) (names : List NameId) (size depth left : ℕ) (start : State) (log : Log) (k : List Cont)
     → StandsFor script S → fits S code names size ≡ true → length names ≤ length room → 2 < left → depth < 999
-    → At S 0 N start log own (On (Eval (erase code)) k (scope_of me names room) depth left) → At S 0 N start log own (On (Give (Int n)) k (scope_of me names room) depth (left - steps))
+    → At S N start log own (On (Eval (erase code)) k (scope_of me names room) depth left) → At S N start log own (On (Give (Int n)) k (scope_of me names room) depth (left - steps))
 
 -- an operation over two such nodes gives this answer
 abbrev pub IsFetched : CodeScript → Val → Option Builtin → (first second : Code) → (steps_first steps_second : ℕ) → List Held → Private → Answer → Type 0

@@ -58,7 +58,7 @@ abbrev pub Tells : CodeScript → Program → ℕ → Val → Val → Span → (
 Tells script program N me v at base depth left left' room room' log log' own own' o =
     (S : Script) (start : State) (k : List Cont) (names : List NameId)
     → StandsFor script S → S.program ≡ program → length names ≤ base → base ≤ length room
-    → At S 0 N start log own (give_text S v at k (scope_of me names room) depth left)
+    → At S N start log own (give_text S v at k (scope_of me names room) depth left)
     → Came S N start log' own' (as_text program o) k (scope_of me names room') depth left'
 
 -- the same of the value of a slot
@@ -71,7 +71,7 @@ abbrev pub WritesTexts : CodeScript → Program → ℕ → Val → Style → (f
 WritesTexts script program N me style first count at depth left left' room room' log log' own own' o =
     (S : Script) (start : State) (k : List Cont) (names : List NameId)
     → StandsFor script S → S.program ≡ program → length names ≤ first → first + count ≤ length room
-    → At S 0 N start log own (write S style [] (map plain (take count (drop first room))) at k (scope_of me names room) depth left)
+    → At S N start log own (write S style [] (map plain (take count (drop first room))) at k (scope_of me names room) depth left)
     → Came S N start log' own' o k (scope_of me names room') depth left'
 
 -- From where values are to be written, the machine comes to where those that are left are to be written behind bytes.
@@ -79,11 +79,11 @@ abbrev pub WritesOn : CodeScript → Program → ℕ → Val → Style → (byte
 WritesOn script program N me style bytes all rest first at depth left left' room room' log log' own own' =
     (S : Script) (start : State) (k : List Cont) (names : List NameId)
     → StandsFor script S → S.program ≡ program → length names ≤ first
-    → At S 0 N start log own (write S style [] all at k (scope_of me names room) depth left)
-    → At S 0 N start log' own' (write S style bytes rest at k (scope_of me names room') depth left')
+    → At S N start log own (write S style [] all at k (scope_of me names room) depth left)
+    → At S N start log' own' (write S style bytes rest at k (scope_of me names room') depth left')
 
 -- bytes are shown by the machine, whatever is done behind it
 abbrev pub ShowsBytes : ℕ → List ℕ → ℕ → Log → Log → Outcome → Type 0
 ShowsBytes N bytes left log log' o =
     (S : Script) (start : State) (h : Private) (after : Step) (at : Span) (k : List Cont) (sc : Scope) (d : ℕ)
-    → At S 0 N start log h (show S bytes after at k sc d left) → Came S N start log' h o (Then after ∷ k) sc d left
+    → At S N start log h (show S bytes after at k sc d left) → Came S N start log' h o (Then after ∷ k) sc d left

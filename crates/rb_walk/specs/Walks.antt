@@ -47,7 +47,7 @@ OpensBy answer N at left log (iterations.Elements array pass) value leave = answ
 OpensBy answer N at left log (iterations.Pairs hash) value leave = answer ≡ EachPairOf (thing_of hash)
 OpensBy answer N at left log (iterations.Done came) value leave =
     (S : Script) (start : State) (h : Private) (b : Block) (k : List Cont) (sc : Scope) (d : ℕ)
-    → At S 0 N start log h (answered S answer (Some b) at k sc d left) → Came S N start log h (outcome came value leave) k sc d left
+    → At S N start log h (answered S answer (Some b) at k sc d left) → Came S N start log h (outcome came value leave) k sc d left
 
 -- and so does the call of a method of a value, with a block of so many parameters
 abbrev pub Opens : Program → ℕ → Option Builtin → Val → List Val → ℕ → Span → ℕ → Log → Iterations → Held → Leave → Type 0
@@ -68,8 +68,8 @@ abbrev pub Iterates : CodeScript → Program → ℕ → Val → CodeBlock → L
 Iterates script program N me block values base depth left left' room room' log log' own own' o =
     (later : Turns) (S : Script) (start : State) (k : List Cont) (names : List NameId) (size : ℕ)
     → StandsFor script S → S.program ≡ program → Lies (block_fits S block) names size base (length room)
-    → At S 0 N start log own (start_turn S later values (erase_block block) k (scope_of me names room) depth left)
-    → (goes_on o ≡ true → At S 0 N start log' own' (On (Turning (turned (value_on o) later) (erase_block block)) k (scope_of me names room') depth left'))
+    → At S N start log own (start_turn S later values (erase_block block) k (scope_of me names room) depth left)
+    → (goes_on o ≡ true → At S N start log' own' (On (Turning (turned (value_on o) later) (erase_block block)) k (scope_of me names room') depth left'))
     × (goes_on o ≡ false → Came S N start log' own' (loop_exit o) k (scope_of me names room') depth left')
 
 -- a walk over an array that has made this so far, with the last element in hand
@@ -88,7 +88,7 @@ second_value pass index = Nil
 abbrev pub FindsElement : ℕ → Ref → (next : ℕ) → Span → (left : ℕ) → Log → (own own' : Private) → Registers → Outcome → Type 0
 FindsElement N array next at left log own own' r o =
     (walk : Walk) (block : Block) (S : Script) (start : State) (k : List Cont) (sc : Scope) (d : ℕ)
-    → At S 0 N start log own (On (Turning (Walking (thing_of array) next walk at) block) k sc d left)
+    → At S N start log own (On (Turning (Walking (thing_of array) next walk at) block) k sc d left)
     → (is_left r ≡ true → Came S N start log own' o k sc d left)
     × (is_left r ≡ false → Came S N start log own' o (Then (WithElement (thing_of array) next walk block at) ∷ k) sc d left)
 
@@ -96,8 +96,8 @@ FindsElement N array next at left log own own' r o =
 abbrev pub FindsNone : ℕ → Ref → (next : ℕ) → Span → (left : ℕ) → Log → (own own' : Private) → Type 0
 FindsNone N array next at left log own own' =
     (walk : Walk) (block : Block) (S : Script) (start : State) (k : List Cont) (sc : Scope) (d : ℕ)
-    → At S 0 N start log own (On (Turning (Walking (thing_of array) next walk at) block) k sc d left)
-    → At S 0 N start log own' (finish (thing_of array) walk k sc d left)
+    → At S N start log own (On (Turning (Walking (thing_of array) next walk at) block) k sc d left)
+    → At S N start log own' (finish (thing_of array) walk k sc d left)
 
 -- what a walk makes is answered
 abbrev pub finishing : Ref → Walk → Script → List Cont → Scope → ℕ → ℕ → State
@@ -108,5 +108,5 @@ abbrev pub WalksOn : CodeScript → Program → ℕ → Val → CodeBlock → Re
 WalksOn script program N me block array pass at next made base depth left left' room room' log log' own own' =
     (S : Script) (start : State) (k : List Cont) (names : List NameId) (size : ℕ)
     → StandsFor script S → S.program ≡ program → Lies (block_fits S block) names size base (length room)
-    → At S 0 N start log own (On (Turning (Walking (thing_of array) 0 (walk_of pass) at) (erase_block block)) k (scope_of me names room) depth left)
-    → (current : Val) × At S 0 N start log' own' (On (Turning (Walking (thing_of array) next (walking pass made current) at) (erase_block block)) k (scope_of me names room') depth left')
+    → At S N start log own (On (Turning (Walking (thing_of array) 0 (walk_of pass) at) (erase_block block)) k (scope_of me names room) depth left)
+    → (current : Val) × At S N start log' own' (On (Turning (Walking (thing_of array) next (walking pass made current) at) (erase_block block)) k (scope_of me names room') depth left')

@@ -1,5 +1,6 @@
-//! What the walk of a thread works with: how a node came out, the slots of a frame, leaves, the targets of calls, iterations, and the
-//! end of a run. The definitions in `specs/` say how a part of the walk goes beside the reference machine, and `proofs/` has their laws.
+//! What the walk of a thread works with: how a node came out, the slots of a frame, leaves, the targets of calls, iterations, the store of a
+//! thread that goes on, and the end of a run. The definitions in `specs/` say how a part of the walk goes beside the reference machine, and
+//! `proofs/` has their laws.
 #![tactic(auto)]
 
 pub mod asked;
@@ -9,6 +10,7 @@ pub mod dispatch;
 pub mod ending;
 pub mod gathering;
 pub mod leaf;
+pub mod live;
 pub mod questions;
 pub mod ready;
 pub mod rounds;

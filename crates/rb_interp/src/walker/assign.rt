@@ -1,21 +1,14 @@
 // Assignments with operators, and operators on values.
 
-ghost use Rattle.std.specs.Prelude.{◌≡◌, ◌≤◌, ◌<◌, ℕ, false, List, [], ◌∷◌, length, slice_get, Some, None};
-ghost use Rattle.rb_tree.specs.declared.node.Node.{Node as Tree};
-ghost use Rattle.rb_tree.specs.declared.node.AssignOp.{AssignOp as Op};
-ghost use Rattle.rb_model.specs.Values.{Value as Val, Int, plain};
-ghost use Rattle.rb_model.specs.Log.{has_end};
+ghost use Rattle.std.specs.Prelude.{◌≡◌, ◌≤◌, ◌<◌, ℕ, false, [], ◌∷◌, length, slice_get, Some, None};
+ghost use Rattle.rb_model.specs.Values.{Int, plain};
 ghost use Rattle.rb_machine.specs.Scopes.{text_of};
-ghost use Rattle.rb_machine.specs.Control.{On, Then, Eval, Give, Step, IndexedBy, MemberOf, ReadOf, RightOf, WriteTo, OfLocal, OfAttribute};
+ghost use Rattle.rb_machine.specs.Control.{On, Then, Give, Step, MemberOf, ReadOf, RightOf, WriteTo, OfLocal, OfAttribute};
 ghost use Rattle.rb_machine.specs.Call.{read_place};
-ghost use Rattle.rb_machine.specs.Methods.{deed};
-ghost use Rattle.rb_builtin.specs.Names.{builtin_of};
 ghost use Rattle.rb_code.specs.Erase.{erase};
-ghost use Rattle.rb_code.specs.Resolved.{fits};
-ghost use Rattle.rb_walk.specs.Outcome.{is_left, value_of, outcome};
-ghost use Rattle.rb_walk.specs.Carries.{Carries, Keeps, both, at_slot, attribute, written_by, Assigns, me_of};
-ghost use Rattle.rb_walk.specs.Methods.{Writing};
-ghost use Rattle.rb_walk.specs.Answers.{OrMemory, method_of, outcome_of};
+ghost use Rattle.rb_walk.specs.Outcome.{is_left, value_of};
+ghost use Rattle.rb_walk.specs.Carries.{both, at_slot, attribute, written_by, Assigns};
+ghost use Rattle.rb_walk.specs.Answers.{method_of};
 
 use super::Walker;
 use rb_builtin::Builtin;
@@ -27,6 +20,10 @@ use rb_walk::leaf::{method_of, operation_by, operation_on};
 use rb_walk::target::writer_of;
 
 impl<'p, O: ThreadStore + Drop> Walker<'p, O> {
+    ghost use Rattle.rb_interp.specs.Answers.{AnswersBy};
+    ghost use Rattle.rb_interp.specs.Calls.{Writing};
+    ghost use Rattle.rb_interp.specs.Walks.{Kept, Walks, WalksTo, at_node_then, node_fits};
+
     /// An assignment to a local.
     #[cycle(walk)]
     #[inline(always)]
@@ -37,15 +34,12 @@ impl<'p, O: ThreadStore + Drop> Walker<'p, O> {
         depth: u32,
         room: &mut [Value],
     ) -> Came
-        requires unended { has_end (O.log self.old.store).entries ≡ false }
-        requires steps { self.old.left ≤ self.old.context.steps }
         ensures base { self.new.base ≡ self.old.base }
         ensures context { self.new.context ≡ self.old.context }
         ensures room { length room.new ≡ length room.old }
         ensures less { self.new.left ≤ self.old.left }
-        ensures unended { has_end (O.log self.new.store).entries ≡ false }
-        ensures kept { (name : NameId) → Keeps self.old.context.script.now self.old.context.program.now (at_slot slot name (λ S. fits S value.now)) self.old.base room.old room.new }
-        ensures came { (name : NameId) (step : Step) → Assigns name step → Carries self.old.context.script.now self.old.context.program.now self.old.context.steps (me_of self.old.context.me) (at_slot slot name (λ S. fits S value.now)) (λ S k sc d n. On (Eval (erase value.now)) (Then step ∷ k) sc d n) self.old.base depth self.old.left self.new.left room.old room.new (O.log self.old.store) (O.log self.new.store) (O.private self.old.store) (O.private self.new.store) (outcome result self.new.value self.new.leave) }
+        ensures kept { (name : NameId) → Kept (at_slot slot name (node_fits value.now)) self.old room.old room.new }
+        ensures came { (name : NameId) (step : Step) → Assigns name step → WalksTo (at_slot slot name (node_fits value.now)) (at_node_then value.now (λ S. step)) self.old self.new room.old room.new depth result }
     {
         let came = self.evaluate_call(value, depth, room);
         if is_left(came) {
@@ -66,15 +60,11 @@ impl<'p, O: ThreadStore + Drop> Walker<'p, O> {
         depth: u32,
         room: &mut [Value],
     ) -> Came
-        requires unended { has_end (O.log self.old.store).entries ≡ false }
-        requires steps { self.old.left ≤ self.old.context.steps }
         ensures base { self.new.base ≡ self.old.base }
         ensures context { self.new.context ≡ self.old.context }
         ensures room { length room.new ≡ length room.old }
         ensures less { self.new.left ≤ self.old.left }
-        ensures unended { has_end (O.log self.new.store).entries ≡ false }
-        ensures kept { (name : NameId) → Keeps self.old.context.script.now self.old.context.program.now (at_slot slot name (λ S. fits S value.now)) self.old.base room.old room.new }
-        ensures came { (name : NameId) → Carries self.old.context.script.now self.old.context.program.now self.old.context.steps (me_of self.old.context.me) (at_slot slot name (λ S. fits S value.now)) (λ S k sc d n. read_place S (OfLocal name) op (erase value.now) at k sc d n) self.old.base depth self.old.left self.new.left room.old room.new (O.log self.old.store) (O.log self.new.store) (O.private self.old.store) (O.private self.new.store) (outcome result self.new.value self.new.leave) }
+        ensures came { (name : NameId) → Walks (at_slot slot name (node_fits value.now)) (λ S k sc d n. read_place S (OfLocal name) op (erase value.now) at k sc d n) self.old self.new room.old room.new depth result }
     {
         let current = self.read(slot, room);
         if is_left(current) {
@@ -115,16 +105,12 @@ impl<'p, O: ThreadStore + Drop> Walker<'p, O> {
         depth: u32,
         room: &mut [Value],
     ) -> Came
-        requires unended { has_end (O.log self.old.store).entries ≡ false }
-        requires steps { self.old.left ≤ self.old.context.steps }
         requires came { is_left current ≡ false }
         ensures base { self.new.base ≡ self.old.base }
         ensures context { self.new.context ≡ self.old.context }
         ensures room { length room.new ≡ length room.old }
         ensures less { self.new.left ≤ self.old.left }
-        ensures unended { has_end (O.log self.new.store).entries ≡ false }
-        ensures kept { Keeps self.old.context.script.now self.old.context.program.now (λ S. fits S value.now) self.old.base room.old room.new }
-        ensures came { Carries self.old.context.script.now self.old.context.program.now self.old.context.steps (me_of self.old.context.me) (λ S. fits S value.now) (λ S k sc d n. On (Eval (erase value.now)) (Then (RightOf (value_of current self.old.value) op at) ∷ k) sc d n) self.old.base depth self.old.left self.new.left room.old room.new (O.log self.old.store) (O.log self.new.store) (O.private self.old.store) (O.private self.new.store) (outcome result self.new.value self.new.leave) }
+        ensures came { Walks (node_fits value.now) (at_node_then value.now (λ S. RightOf (value_of current self.old.value) op at)) self.old self.new room.old room.new depth result }
     {
         match current {
             Came::Int(m) => self.combine_integer(m, op, value, at, depth, room),
@@ -144,15 +130,11 @@ impl<'p, O: ThreadStore + Drop> Walker<'p, O> {
         depth: u32,
         room: &mut [Value],
     ) -> Came
-        requires unended { has_end (O.log self.old.store).entries ≡ false }
-        requires steps { self.old.left ≤ self.old.context.steps }
         ensures base { self.new.base ≡ self.old.base }
         ensures context { self.new.context ≡ self.old.context }
         ensures room { length room.new ≡ length room.old }
         ensures less { self.new.left ≤ self.old.left }
-        ensures unended { has_end (O.log self.new.store).entries ≡ false }
-        ensures kept { Keeps self.old.context.script.now self.old.context.program.now (λ S. fits S value.now) self.old.base room.old room.new }
-        ensures came { Carries self.old.context.script.now self.old.context.program.now self.old.context.steps (me_of self.old.context.me) (λ S. fits S value.now) (λ S k sc d n. On (Eval (erase value.now)) (Then (RightOf (Int m) op at) ∷ k) sc d n) self.old.base depth self.old.left self.new.left room.old room.new (O.log self.old.store) (O.log self.new.store) (O.private self.old.store) (O.private self.new.store) (outcome result self.new.value self.new.leave) }
+        ensures came { Walks (node_fits value.now) (at_node_then value.now (λ S. RightOf (Int m) op at)) self.old self.new room.old room.new depth result }
     {
         let came = self.evaluate(value, depth, room);
         if is_left(came) {
@@ -173,16 +155,12 @@ impl<'p, O: ThreadStore + Drop> Walker<'p, O> {
         depth: u32,
         room: &mut [Value],
     ) -> Came
-        requires unended { has_end (O.log self.old.store).entries ≡ false }
-        requires steps { self.old.left ≤ self.old.context.steps }
         requires came { is_left current ≡ false }
         ensures base { self.new.base ≡ self.old.base }
         ensures context { self.new.context ≡ self.old.context }
         ensures room { length room.new ≡ length room.old }
         ensures less { self.new.left ≤ self.old.left }
-        ensures unended { has_end (O.log self.new.store).entries ≡ false }
-        ensures kept { Keeps self.old.context.script.now self.old.context.program.now (λ S. fits S value.now) self.old.base room.old room.new }
-        ensures came { Carries self.old.context.script.now self.old.context.program.now self.old.context.steps (me_of self.old.context.me) (λ S. fits S value.now) (λ S k sc d n. On (Eval (erase value.now)) (Then (RightOf (value_of current self.old.value) op at) ∷ k) sc d n) self.old.base depth self.old.left self.new.left room.old room.new (O.log self.old.store) (O.log self.new.store) (O.private self.old.store) (O.private self.new.store) (outcome result self.new.value self.new.leave) }
+        ensures came { Walks (node_fits value.now) (at_node_then value.now (λ S. RightOf (value_of current self.old.value) op at)) self.old self.new room.old room.new depth result }
     {
         let method = method_of(op);
         let receiver = self.take(current);
@@ -203,7 +181,7 @@ impl<'p, O: ThreadStore + Drop> Walker<'p, O> {
         came: Came,
         at: Span,
     ) -> Came
-        ensures gives { (name : List ℕ) → builtin_of name ≡ method → OrMemory (outcome_of (deed self.old.context.program.now (Int m) name (value_of came self.old.value ∷ []) None) at) (outcome result self.new.value self.new.leave) }
+        ensures gives { AnswersBy method (Int m) (value_of came self.old.value ∷ []) at self.old self.new result }
         ensures base { self.new.base ≡ self.old.base }
         ensures left { self.new.left ≡ self.old.left }
         ensures context { self.new.context ≡ self.old.context }
@@ -221,7 +199,7 @@ impl<'p, O: ThreadStore + Drop> Walker<'p, O> {
     /// The same by the operator of an assignment, which is most often a sum.
     #[inline(always)]
     pub(super) fn operated_with(&mut self, op: AssignOp, m: i64, came: Came, at: Span) -> Came
-        ensures gives { (name : List ℕ) → builtin_of name ≡ method_of op → OrMemory (outcome_of (deed self.old.context.program.now (Int m) name (value_of came self.old.value ∷ []) None) at) (outcome result self.new.value self.new.leave) }
+        ensures gives { AnswersBy (method_of op) (Int m) (value_of came self.old.value ∷ []) at self.old self.new result }
         ensures base { self.new.base ≡ self.old.base }
         ensures left { self.new.left ≡ self.old.left }
         ensures context { self.new.context ≡ self.old.context }
@@ -236,7 +214,7 @@ impl<'p, O: ThreadStore + Drop> Walker<'p, O> {
     /// The same of any method, apart.
     #[inline(never)]
     fn operated_apart(&mut self, method: Option<Builtin>, m: i64, came: Came, at: Span) -> Came
-        ensures gives { (name : List ℕ) → builtin_of name ≡ method → OrMemory (outcome_of (deed self.old.context.program.now (Int m) name (value_of came self.old.value ∷ []) None) at) (outcome result self.new.value self.new.leave) }
+        ensures gives { AnswersBy method (Int m) (value_of came self.old.value ∷ []) at self.old self.new result }
         ensures base { self.new.base ≡ self.old.base }
         ensures left { self.new.left ≡ self.old.left }
         ensures context { self.new.context ≡ self.old.context }
@@ -254,7 +232,7 @@ impl<'p, O: ThreadStore + Drop> Walker<'p, O> {
         came: Came,
         at: Span,
     ) -> Came
-        ensures gives { (name : List ℕ) → builtin_of name ≡ method → OrMemory (outcome_of (deed self.old.context.program.now (Int m) name (value_of came self.old.value ∷ []) None) at) (outcome result self.new.value self.new.leave) }
+        ensures gives { AnswersBy method (Int m) (value_of came self.old.value ∷ []) at self.old self.new result }
         ensures base { self.new.base ≡ self.old.base }
         ensures left { self.new.left ≡ self.old.left }
         ensures context { self.new.context ≡ self.old.context }
@@ -273,7 +251,7 @@ impl<'p, O: ThreadStore + Drop> Walker<'p, O> {
         arg: Value,
         at: Span,
     ) -> Came
-        ensures gives { (name : List ℕ) → builtin_of name ≡ method → OrMemory (outcome_of (deed self.old.context.program.now (plain receiver.now) name (plain arg ∷ []) None) at) (outcome result self.new.value self.new.leave) }
+        ensures gives { AnswersBy method (plain receiver.now) (plain arg ∷ []) at self.old self.new result }
         ensures base { self.new.base ≡ self.old.base }
         ensures left { self.new.left ≡ self.old.left }
         ensures context { self.new.context ≡ self.old.context }
@@ -302,15 +280,11 @@ impl<'p, O: ThreadStore + Drop> Walker<'p, O> {
         depth: u32,
         room: &mut [Value],
     ) -> Came
-        requires unended { has_end (O.log self.old.store).entries ≡ false }
-        requires steps { self.old.left ≤ self.old.context.steps }
         ensures base { self.new.base ≡ self.old.base }
         ensures context { self.new.context ≡ self.old.context }
         ensures room { length room.new ≡ length room.old }
         ensures less { self.new.left ≤ self.old.left }
-        ensures unended { has_end (O.log self.new.store).entries ≡ false }
-        ensures kept { Keeps self.old.context.script.now self.old.context.program.now (attribute number writer name (both (λ S. fits S receiver.now) (λ S. fits S value.now))) self.old.base room.old room.new }
-        ensures came { Carries self.old.context.script.now self.old.context.program.now self.old.context.steps (me_of self.old.context.me) (attribute number writer name (both (λ S. fits S receiver.now) (λ S. fits S value.now))) (λ S k sc d n. On (Eval (erase receiver.now)) (Then (MemberOf (text_of S name) op (erase value.now) at) ∷ k) sc d n) self.old.base depth self.old.left self.new.left room.old room.new (O.log self.old.store) (O.log self.new.store) (O.private self.old.store) (O.private self.new.store) (outcome result self.new.value self.new.leave) }
+        ensures came { Walks (attribute number writer name (both (node_fits receiver.now) (node_fits value.now))) (at_node_then receiver.now (λ S. MemberOf (text_of S name) op (erase value.now) at)) self.old self.new room.old room.new depth result }
     {
         let came = self.walk(receiver, depth, room);
         if is_left(came) {
@@ -337,16 +311,13 @@ impl<'p, O: ThreadStore + Drop> Walker<'p, O> {
         depth: u32,
         room: &mut [Value],
     ) -> Came
-        requires unended { has_end (O.log self.old.store).entries ≡ false }
-        requires steps { self.old.left ≤ self.old.context.steps }
         requires came { is_left current ≡ false }
         ensures base { self.new.base ≡ self.old.base }
         ensures context { self.new.context ≡ self.old.context }
         ensures room { length room.new ≡ length room.old }
         ensures less { self.new.left ≤ self.old.left }
-        ensures unended { has_end (O.log self.new.store).entries ≡ false }
-        ensures kept { Keeps self.old.context.script.now self.old.context.program.now (λ S. fits S value.now) self.old.base room.old room.new }
-        ensures came { (name : NameId) → Carries self.old.context.script.now self.old.context.program.now self.old.context.steps (me_of self.old.context.me) (written_by writer name (λ S. fits S value.now)) (λ S k sc d n. On (Give (value_of current self.old.value)) (Then (ReadOf (OfAttribute (plain receiver.now) (text_of S name)) op (erase value.now) at) ∷ k) sc d n) self.old.base depth self.old.left self.new.left room.old room.new (O.log self.old.store) (O.log self.new.store) (O.private self.old.store) (O.private self.new.store) (outcome result self.new.value self.new.leave) }
+        ensures kept { Kept (node_fits value.now) self.old room.old room.new }
+        ensures came { (name : NameId) → WalksTo (written_by writer name (node_fits value.now)) (λ S k sc d n. On (Give (value_of current self.old.value)) (Then (ReadOf (OfAttribute (plain receiver.now) (text_of S name)) op (erase value.now) at) ∷ k) sc d n) self.old self.new room.old room.new depth result }
     {
         match op {
             AssignOp::OrElse => {
@@ -382,15 +353,12 @@ impl<'p, O: ThreadStore + Drop> Walker<'p, O> {
         depth: u32,
         room: &mut [Value],
     ) -> Came
-        requires unended { has_end (O.log self.old.store).entries ≡ false }
-        requires steps { self.old.left ≤ self.old.context.steps }
         ensures base { self.new.base ≡ self.old.base }
         ensures context { self.new.context ≡ self.old.context }
         ensures room { length room.new ≡ length room.old }
         ensures less { self.new.left ≤ self.old.left }
-        ensures unended { has_end (O.log self.new.store).entries ≡ false }
-        ensures kept { Keeps self.old.context.script.now self.old.context.program.now (λ S. fits S value.now) self.old.base room.old room.new }
-        ensures came { (name : NameId) → Carries self.old.context.script.now self.old.context.program.now self.old.context.steps (me_of self.old.context.me) (written_by writer name (λ S. fits S value.now)) (λ S k sc d n. On (Eval (erase value.now)) (Then (WriteTo (OfAttribute (plain receiver.now) (text_of S name)) at) ∷ k) sc d n) self.old.base depth self.old.left self.new.left room.old room.new (O.log self.old.store) (O.log self.new.store) (O.private self.old.store) (O.private self.new.store) (outcome result self.new.value self.new.leave) }
+        ensures kept { Kept (node_fits value.now) self.old room.old room.new }
+        ensures came { (name : NameId) → WalksTo (written_by writer name (node_fits value.now)) (at_node_then value.now (λ S. WriteTo (OfAttribute (plain receiver.now) (text_of S name)) at)) self.old self.new room.old room.new depth result }
     {
         let came = self.walk(value, depth, room);
         if is_left(came) {
@@ -410,16 +378,13 @@ impl<'p, O: ThreadStore + Drop> Walker<'p, O> {
         depth: u32,
         room: &mut [Value],
     ) -> Came
-        requires unended { has_end (O.log self.old.store).entries ≡ false }
-        requires steps { self.old.left ≤ self.old.context.steps }
         requires came { is_left came ≡ false }
         ensures base { self.new.base ≡ self.old.base }
         ensures context { self.new.context ≡ self.old.context }
         ensures room { length room.new ≡ length room.old }
         ensures less { self.new.left ≤ self.old.left }
-        ensures unended { has_end (O.log self.new.store).entries ≡ false }
         ensures kept { (i : ℕ) → i < self.old.base → slice_get room.new i ≡ slice_get room.old i }
-        ensures came { Writing self.old.context.script.now self.old.context.program.now self.old.context.steps (me_of self.old.context.me) (plain receiver.now) writer (value_of came self.old.value) at self.old.base depth self.old.left self.new.left room.old room.new (O.log self.old.store) (O.log self.new.store) (O.private self.old.store) (O.private self.new.store) (outcome result self.new.value self.new.leave) }
+        ensures came { Writing (plain receiver.now) writer (value_of came self.old.value) at self.old self.new room.old room.new depth result }
     {
         let Some(target) = writer_of(self.context.script, receiver, writer) else {
             return self.raise(Fault::NoMethod, at);

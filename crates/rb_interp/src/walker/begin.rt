@@ -1,14 +1,7 @@
 // The starts of nodes whose steps are counted.
 
-ghost use Rattle.std.specs.Prelude.{◌≡◌, ◌≤◌, false, [], length, None, IfSome, IfErr};
-ghost use Rattle.rb_tree.specs.declared.node.Node.{out-Node};
-ghost use Rattle.rb_model.specs.Log.{has_end};
-ghost use Rattle.rb_machine.specs.Begin.{begin};
-ghost use Rattle.rb_code.specs.Erase.{erase};
-ghost use Rattle.rb_code.specs.Resolved.{fits};
+ghost use Rattle.std.specs.Prelude.{◌≡◌, ◌≤◌, [], length, None, IfSome, IfErr};
 ghost use Rattle.rb_walk.specs.Outcome.{IsOver, fetched, outcome};
-ghost use Rattle.rb_walk.specs.Carries.{Carries, Keeps, me_of};
-ghost use Rattle.rb_walk.specs.Readers.{EvaluatesTo, SendsTo};
 
 use super::Walker;
 use rb_builtin::Builtin;
@@ -25,19 +18,18 @@ use rb_walk::ready::{answering, compared};
 use rb_walk::target::{local_collection, local_target, reader_of};
 
 impl<'p, O: ThreadStore + Drop> Walker<'p, O> {
+    ghost use Rattle.rb_interp.specs.Calls.{EvaluatesTo, SendsTo};
+    ghost use Rattle.rb_interp.specs.Walks.{Walks, begun, node_fits};
+
     /// An assignment to a local whose step is counted.
     #[cycle(walk)]
     #[inline(never)]
     pub(super) fn begin_set(&mut self, code: &'p Code, depth: u32, room: &mut [Value]) -> Came
-        requires unended { has_end (O.log self.old.store).entries ≡ false }
-        requires steps { self.old.left ≤ self.old.context.steps }
         ensures base { self.new.base ≡ self.old.base }
         ensures context { self.new.context ≡ self.old.context }
         ensures room { length room.new ≡ length room.old }
         ensures less { self.new.left ≤ self.old.left }
-        ensures unended { has_end (O.log self.new.store).entries ≡ false }
-        ensures kept { Keeps self.old.context.script.now self.old.context.program.now (λ S. fits S code.now) self.old.base room.old room.new }
-        ensures came { Carries self.old.context.script.now self.old.context.program.now self.old.context.steps (me_of self.old.context.me) (λ S. fits S code.now) (λ S k sc d n. begin S (out-Node (erase code.now)) k sc d n) self.old.base depth self.old.left self.new.left room.old room.new (O.log self.old.store) (O.log self.new.store) (O.private self.old.store) (O.private self.new.store) (outcome result self.new.value self.new.leave) }
+        ensures came { Walks (node_fits code.now) (begun code.now) self.old self.new room.old room.new depth result }
     {
         match code {
             Code::SetLocal(slot, _, value, _) => self.set_local(*slot, value.get(), depth, room),
@@ -49,15 +41,11 @@ impl<'p, O: ThreadStore + Drop> Walker<'p, O> {
     #[cycle(walk)]
     #[inline(never)]
     pub(super) fn begin_update(&mut self, code: &'p Code, depth: u32, room: &mut [Value]) -> Came
-        requires unended { has_end (O.log self.old.store).entries ≡ false }
-        requires steps { self.old.left ≤ self.old.context.steps }
         ensures base { self.new.base ≡ self.old.base }
         ensures context { self.new.context ≡ self.old.context }
         ensures room { length room.new ≡ length room.old }
         ensures less { self.new.left ≤ self.old.left }
-        ensures unended { has_end (O.log self.new.store).entries ≡ false }
-        ensures kept { Keeps self.old.context.script.now self.old.context.program.now (λ S. fits S code.now) self.old.base room.old room.new }
-        ensures came { Carries self.old.context.script.now self.old.context.program.now self.old.context.steps (me_of self.old.context.me) (λ S. fits S code.now) (λ S k sc d n. begin S (out-Node (erase code.now)) k sc d n) self.old.base depth self.old.left self.new.left room.old room.new (O.log self.old.store) (O.log self.new.store) (O.private self.old.store) (O.private self.new.store) (outcome result self.new.value self.new.leave) }
+        ensures came { Walks (node_fits code.now) (begun code.now) self.old self.new room.old room.new depth result }
     {
         match code {
             Code::UpdateLocal(slot, _, op, value, _) => {
@@ -87,15 +75,11 @@ impl<'p, O: ThreadStore + Drop> Walker<'p, O> {
     #[cycle(walk)]
     #[inline(never)]
     fn begin_update_over(&mut self, code: &'p Code, depth: u32, room: &mut [Value]) -> Came
-        requires unended { has_end (O.log self.old.store).entries ≡ false }
-        requires steps { self.old.left ≤ self.old.context.steps }
         ensures base { self.new.base ≡ self.old.base }
         ensures context { self.new.context ≡ self.old.context }
         ensures room { length room.new ≡ length room.old }
         ensures less { self.new.left ≤ self.old.left }
-        ensures unended { has_end (O.log self.new.store).entries ≡ false }
-        ensures kept { Keeps self.old.context.script.now self.old.context.program.now (λ S. fits S code.now) self.old.base room.old room.new }
-        ensures came { Carries self.old.context.script.now self.old.context.program.now self.old.context.steps (me_of self.old.context.me) (λ S. fits S code.now) (λ S k sc d n. begin S (out-Node (erase code.now)) k sc d n) self.old.base depth self.old.left self.new.left room.old room.new (O.log self.old.store) (O.log self.new.store) (O.private self.old.store) (O.private self.new.store) (outcome result self.new.value self.new.leave) }
+        ensures came { Walks (node_fits code.now) (begun code.now) self.old self.new room.old room.new depth result }
     {
         match code {
             Code::UpdateLocal(slot, _, op, value, _) => {
@@ -115,15 +99,11 @@ impl<'p, O: ThreadStore + Drop> Walker<'p, O> {
     #[cycle(walk)]
     #[inline(never)]
     fn begin_update_sent(&mut self, code: &'p Code, depth: u32, room: &mut [Value]) -> Came
-        requires unended { has_end (O.log self.old.store).entries ≡ false }
-        requires steps { self.old.left ≤ self.old.context.steps }
         ensures base { self.new.base ≡ self.old.base }
         ensures context { self.new.context ≡ self.old.context }
         ensures room { length room.new ≡ length room.old }
         ensures less { self.new.left ≤ self.old.left }
-        ensures unended { has_end (O.log self.new.store).entries ≡ false }
-        ensures kept { Keeps self.old.context.script.now self.old.context.program.now (λ S. fits S code.now) self.old.base room.old room.new }
-        ensures came { Carries self.old.context.script.now self.old.context.program.now self.old.context.steps (me_of self.old.context.me) (λ S. fits S code.now) (λ S k sc d n. begin S (out-Node (erase code.now)) k sc d n) self.old.base depth self.old.left self.new.left room.old room.new (O.log self.old.store) (O.log self.new.store) (O.private self.old.store) (O.private self.new.store) (outcome result self.new.value self.new.leave) }
+        ensures came { Walks (node_fits code.now) (begun code.now) self.old self.new room.old room.new depth result }
     {
         match code {
             Code::UpdateLocal(slot, _, op, value, at) => {
@@ -150,15 +130,11 @@ impl<'p, O: ThreadStore + Drop> Walker<'p, O> {
     #[cycle(walk)]
     #[inline(never)]
     fn begin_slow_update(&mut self, code: &'p Code, depth: u32, room: &mut [Value]) -> Came
-        requires unended { has_end (O.log self.old.store).entries ≡ false }
-        requires steps { self.old.left ≤ self.old.context.steps }
         ensures base { self.new.base ≡ self.old.base }
         ensures context { self.new.context ≡ self.old.context }
         ensures room { length room.new ≡ length room.old }
         ensures less { self.new.left ≤ self.old.left }
-        ensures unended { has_end (O.log self.new.store).entries ≡ false }
-        ensures kept { Keeps self.old.context.script.now self.old.context.program.now (λ S. fits S code.now) self.old.base room.old room.new }
-        ensures came { Carries self.old.context.script.now self.old.context.program.now self.old.context.steps (me_of self.old.context.me) (λ S. fits S code.now) (λ S k sc d n. begin S (out-Node (erase code.now)) k sc d n) self.old.base depth self.old.left self.new.left room.old room.new (O.log self.old.store) (O.log self.new.store) (O.private self.old.store) (O.private self.new.store) (outcome result self.new.value self.new.leave) }
+        ensures came { Walks (node_fits code.now) (begun code.now) self.old self.new room.old room.new depth result }
     {
         match code {
             Code::UpdateLocal(slot, _, op, value, at) => {
@@ -172,15 +148,11 @@ impl<'p, O: ThreadStore + Drop> Walker<'p, O> {
     #[cycle(walk)]
     #[inline(never)]
     pub(super) fn begin_operate(&mut self, code: &'p Code, depth: u32, room: &mut [Value]) -> Came
-        requires unended { has_end (O.log self.old.store).entries ≡ false }
-        requires steps { self.old.left ≤ self.old.context.steps }
         ensures base { self.new.base ≡ self.old.base }
         ensures context { self.new.context ≡ self.old.context }
         ensures room { length room.new ≡ length room.old }
         ensures less { self.new.left ≤ self.old.left }
-        ensures unended { has_end (O.log self.new.store).entries ≡ false }
-        ensures kept { Keeps self.old.context.script.now self.old.context.program.now (λ S. fits S code.now) self.old.base room.old room.new }
-        ensures came { Carries self.old.context.script.now self.old.context.program.now self.old.context.steps (me_of self.old.context.me) (λ S. fits S code.now) (λ S k sc d n. begin S (out-Node (erase code.now)) k sc d n) self.old.base depth self.old.left self.new.left room.old room.new (O.log self.old.store) (O.log self.new.store) (O.private self.old.store) (O.private self.new.store) (outcome result self.new.value self.new.leave) }
+        ensures came { Walks (node_fits code.now) (begun code.now) self.old self.new room.old room.new depth result }
     {
         match code {
             Code::Operate(method, _, left, right, at) => {
@@ -208,15 +180,11 @@ impl<'p, O: ThreadStore + Drop> Walker<'p, O> {
     #[cycle(walk)]
     #[inline(never)]
     fn begin_object_operate(&mut self, code: &'p Code, depth: u32, room: &mut [Value]) -> Came
-        requires unended { has_end (O.log self.old.store).entries ≡ false }
-        requires steps { self.old.left ≤ self.old.context.steps }
         ensures base { self.new.base ≡ self.old.base }
         ensures context { self.new.context ≡ self.old.context }
         ensures room { length room.new ≡ length room.old }
         ensures less { self.new.left ≤ self.old.left }
-        ensures unended { has_end (O.log self.new.store).entries ≡ false }
-        ensures kept { Keeps self.old.context.script.now self.old.context.program.now (λ S. fits S code.now) self.old.base room.old room.new }
-        ensures came { Carries self.old.context.script.now self.old.context.program.now self.old.context.steps (me_of self.old.context.me) (λ S. fits S code.now) (λ S k sc d n. begin S (out-Node (erase code.now)) k sc d n) self.old.base depth self.old.left self.new.left room.old room.new (O.log self.old.store) (O.log self.new.store) (O.private self.old.store) (O.private self.new.store) (outcome result self.new.value self.new.leave) }
+        ensures came { Walks (node_fits code.now) (begun code.now) self.old self.new room.old room.new depth result }
     {
         match code {
             Code::Operate(_, name, left, right, at) => {
@@ -243,15 +211,11 @@ impl<'p, O: ThreadStore + Drop> Walker<'p, O> {
         depth: u32,
         room: &mut [Value],
     ) -> Came
-        requires unended { has_end (O.log self.old.store).entries ≡ false }
-        requires steps { self.old.left ≤ self.old.context.steps }
         ensures base { self.new.base ≡ self.old.base }
         ensures context { self.new.context ≡ self.old.context }
         ensures room { length room.new ≡ length room.old }
         ensures less { self.new.left ≤ self.old.left }
-        ensures unended { has_end (O.log self.new.store).entries ≡ false }
-        ensures kept { Keeps self.old.context.script.now self.old.context.program.now (λ S. fits S code.now) self.old.base room.old room.new }
-        ensures came { Carries self.old.context.script.now self.old.context.program.now self.old.context.steps (me_of self.old.context.me) (λ S. fits S code.now) (λ S k sc d n. begin S (out-Node (erase code.now)) k sc d n) self.old.base depth self.old.left self.new.left room.old room.new (O.log self.old.store) (O.log self.new.store) (O.private self.old.store) (O.private self.new.store) (outcome result self.new.value self.new.leave) }
+        ensures came { Walks (node_fits code.now) (begun code.now) self.old self.new room.old room.new depth result }
     {
         match code {
             Code::Operate(method, name, left, right, at) => {
@@ -305,14 +269,13 @@ impl<'p, O: ThreadStore + Drop> Walker<'p, O> {
         depth: u32,
         room: &[Value],
     ) -> Option<Came>
-        requires unended { has_end (O.log self.old.store).entries ≡ false }
         ensures none { result ≡ None → self.new ≡ self.old }
         ensures empty { IfSome result (λ _. args.now ≡ []) }
         ensures base { self.new.base ≡ self.old.base }
         ensures context { self.new.context ≡ self.old.context }
         ensures less { self.new.left ≤ self.old.left }
         ensures log { O.log self.new.store ≡ O.log self.old.store }
-        ensures came { IfSome result (λ came. SendsTo self.old.context.script.now self.old.context.program.now self.old.context.steps (me_of self.old.context.me) receiver.now method name at depth self.old.left self.new.left room.now (O.log self.old.store) (O.log self.new.store) (O.private self.old.store) (O.private self.new.store) (outcome came self.new.value self.new.leave)) }
+        ensures came { IfSome result (λ came. SendsTo receiver.now method name at self.old self.new room.now depth came) }
     {
         if !args.is_empty() {
             return None;
@@ -335,14 +298,13 @@ impl<'p, O: ThreadStore + Drop> Walker<'p, O> {
         depth: u32,
         room: &[Value],
     ) -> Option<Result<Value, Came>>
-        requires unended { has_end (O.log self.old.store).entries ≡ false }
         ensures none { result ≡ None → self.new ≡ self.old }
         ensures base { self.new.base ≡ self.old.base }
         ensures context { self.new.context ≡ self.old.context }
         ensures less { self.new.left ≤ self.old.left }
         ensures log { O.log self.new.store ≡ O.log self.old.store }
         ensures over { IfSome result (λ sent. IfErr sent (λ came. IsOver (outcome came self.new.value self.new.leave))) }
-        ensures came { IfSome result (λ sent. EvaluatesTo self.old.context.script.now self.old.context.program.now self.old.context.steps (me_of self.old.context.me) code.now depth self.old.left self.new.left room.now (O.log self.old.store) (O.log self.new.store) (O.private self.old.store) (O.private self.new.store) (fetched sent self.new.value self.new.leave)) }
+        ensures came { IfSome result (λ sent. EvaluatesTo code.now self.old self.new room.now depth (fetched sent self.new.value self.new.leave)) }
     {
         let Code::Send(_, name, receiver, args, _) = code else {
             return None;
@@ -370,14 +332,13 @@ impl<'p, O: ThreadStore + Drop> Walker<'p, O> {
         depth: u32,
         room: &[Value],
     ) -> Option<Came>
-        requires unended { has_end (O.log self.old.store).entries ≡ false }
         ensures none { result ≡ None → self.new ≡ self.old }
         ensures empty { IfSome result (λ _. args.now ≡ []) }
         ensures base { self.new.base ≡ self.old.base }
         ensures context { self.new.context ≡ self.old.context }
         ensures less { self.new.left ≤ self.old.left }
         ensures log { O.log self.new.store ≡ O.log self.old.store }
-        ensures came { IfSome result (λ came. SendsTo self.old.context.script.now self.old.context.program.now self.old.context.steps (me_of self.old.context.me) receiver.now method name at depth self.old.left self.new.left room.now (O.log self.old.store) (O.log self.new.store) (O.private self.old.store) (O.private self.new.store) (outcome came self.new.value self.new.leave)) }
+        ensures came { IfSome result (λ came. SendsTo receiver.now method name at self.old self.new room.now depth came) }
     {
         if !args.is_empty() {
             return None;
@@ -394,15 +355,11 @@ impl<'p, O: ThreadStore + Drop> Walker<'p, O> {
     #[cycle(walk)]
     #[inline(always)]
     pub(super) fn begin_send(&mut self, code: &'p Code, depth: u32, room: &mut [Value]) -> Came
-        requires unended { has_end (O.log self.old.store).entries ≡ false }
-        requires steps { self.old.left ≤ self.old.context.steps }
         ensures base { self.new.base ≡ self.old.base }
         ensures context { self.new.context ≡ self.old.context }
         ensures room { length room.new ≡ length room.old }
         ensures less { self.new.left ≤ self.old.left }
-        ensures unended { has_end (O.log self.new.store).entries ≡ false }
-        ensures kept { Keeps self.old.context.script.now self.old.context.program.now (λ S. fits S code.now) self.old.base room.old room.new }
-        ensures came { Carries self.old.context.script.now self.old.context.program.now self.old.context.steps (me_of self.old.context.me) (λ S. fits S code.now) (λ S k sc d n. begin S (out-Node (erase code.now)) k sc d n) self.old.base depth self.old.left self.new.left room.old room.new (O.log self.old.store) (O.log self.new.store) (O.private self.old.store) (O.private self.new.store) (outcome result self.new.value self.new.leave) }
+        ensures came { Walks (node_fits code.now) (begun code.now) self.old self.new room.old room.new depth result }
     {
         match code {
             Code::Send(_, _, receiver, _, _) => {
@@ -419,15 +376,11 @@ impl<'p, O: ThreadStore + Drop> Walker<'p, O> {
     #[cycle(walk)]
     #[inline(always)]
     pub(super) fn read_attribute(&mut self, code: &'p Code, depth: u32, room: &mut [Value]) -> Came
-        requires unended { has_end (O.log self.old.store).entries ≡ false }
-        requires steps { self.old.left ≤ self.old.context.steps }
         ensures base { self.new.base ≡ self.old.base }
         ensures context { self.new.context ≡ self.old.context }
         ensures room { length room.new ≡ length room.old }
         ensures less { self.new.left ≤ self.old.left }
-        ensures unended { has_end (O.log self.new.store).entries ≡ false }
-        ensures kept { Keeps self.old.context.script.now self.old.context.program.now (λ S. fits S code.now) self.old.base room.old room.new }
-        ensures came { Carries self.old.context.script.now self.old.context.program.now self.old.context.steps (me_of self.old.context.me) (λ S. fits S code.now) (λ S k sc d n. begin S (out-Node (erase code.now)) k sc d n) self.old.base depth self.old.left self.new.left room.old room.new (O.log self.old.store) (O.log self.new.store) (O.private self.old.store) (O.private self.new.store) (outcome result self.new.value self.new.leave) }
+        ensures came { Walks (node_fits code.now) (begun code.now) self.old self.new room.old room.new depth result }
     {
         match code {
             Code::Send(method, name, receiver, args, at) => {
@@ -446,15 +399,11 @@ impl<'p, O: ThreadStore + Drop> Walker<'p, O> {
     #[cycle(walk)]
     #[inline(never)]
     pub(super) fn begin_read(&mut self, code: &'p Code, depth: u32, room: &mut [Value]) -> Came
-        requires unended { has_end (O.log self.old.store).entries ≡ false }
-        requires steps { self.old.left ≤ self.old.context.steps }
         ensures base { self.new.base ≡ self.old.base }
         ensures context { self.new.context ≡ self.old.context }
         ensures room { length room.new ≡ length room.old }
         ensures less { self.new.left ≤ self.old.left }
-        ensures unended { has_end (O.log self.new.store).entries ≡ false }
-        ensures kept { Keeps self.old.context.script.now self.old.context.program.now (λ S. fits S code.now) self.old.base room.old room.new }
-        ensures came { Carries self.old.context.script.now self.old.context.program.now self.old.context.steps (me_of self.old.context.me) (λ S. fits S code.now) (λ S k sc d n. begin S (out-Node (erase code.now)) k sc d n) self.old.base depth self.old.left self.new.left room.old room.new (O.log self.old.store) (O.log self.new.store) (O.private self.old.store) (O.private self.new.store) (outcome result self.new.value self.new.leave) }
+        ensures came { Walks (node_fits code.now) (begun code.now) self.old self.new room.old room.new depth result }
     {
         self.read_attribute(code, depth, room)
     }
@@ -463,15 +412,11 @@ impl<'p, O: ThreadStore + Drop> Walker<'p, O> {
     #[cycle(walk)]
     #[inline(never)]
     pub(super) fn begin_far_send(&mut self, code: &'p Code, depth: u32, room: &mut [Value]) -> Came
-        requires unended { has_end (O.log self.old.store).entries ≡ false }
-        requires steps { self.old.left ≤ self.old.context.steps }
         ensures base { self.new.base ≡ self.old.base }
         ensures context { self.new.context ≡ self.old.context }
         ensures room { length room.new ≡ length room.old }
         ensures less { self.new.left ≤ self.old.left }
-        ensures unended { has_end (O.log self.new.store).entries ≡ false }
-        ensures kept { Keeps self.old.context.script.now self.old.context.program.now (λ S. fits S code.now) self.old.base room.old room.new }
-        ensures came { Carries self.old.context.script.now self.old.context.program.now self.old.context.steps (me_of self.old.context.me) (λ S. fits S code.now) (λ S k sc d n. begin S (out-Node (erase code.now)) k sc d n) self.old.base depth self.old.left self.new.left room.old room.new (O.log self.old.store) (O.log self.new.store) (O.private self.old.store) (O.private self.new.store) (outcome result self.new.value self.new.leave) }
+        ensures came { Walks (node_fits code.now) (begun code.now) self.old self.new room.old room.new depth result }
     {
         match code {
             Code::Send(method, name, receiver, args, at) => {
@@ -488,15 +433,11 @@ impl<'p, O: ThreadStore + Drop> Walker<'p, O> {
     #[cycle(walk)]
     #[inline(never)]
     fn begin_slow_send(&mut self, code: &'p Code, depth: u32, room: &mut [Value]) -> Came
-        requires unended { has_end (O.log self.old.store).entries ≡ false }
-        requires steps { self.old.left ≤ self.old.context.steps }
         ensures base { self.new.base ≡ self.old.base }
         ensures context { self.new.context ≡ self.old.context }
         ensures room { length room.new ≡ length room.old }
         ensures less { self.new.left ≤ self.old.left }
-        ensures unended { has_end (O.log self.new.store).entries ≡ false }
-        ensures kept { Keeps self.old.context.script.now self.old.context.program.now (λ S. fits S code.now) self.old.base room.old room.new }
-        ensures came { Carries self.old.context.script.now self.old.context.program.now self.old.context.steps (me_of self.old.context.me) (λ S. fits S code.now) (λ S k sc d n. begin S (out-Node (erase code.now)) k sc d n) self.old.base depth self.old.left self.new.left room.old room.new (O.log self.old.store) (O.log self.new.store) (O.private self.old.store) (O.private self.new.store) (outcome result self.new.value self.new.leave) }
+        ensures came { Walks (node_fits code.now) (begun code.now) self.old self.new room.old room.new depth result }
     {
         match code {
             Code::Send(method, name, receiver, args, at) => {
@@ -521,15 +462,11 @@ impl<'p, O: ThreadStore + Drop> Walker<'p, O> {
     #[cycle(walk)]
     #[inline(never)]
     pub(super) fn begin_function(&mut self, code: &'p Code, depth: u32, room: &mut [Value]) -> Came
-        requires unended { has_end (O.log self.old.store).entries ≡ false }
-        requires steps { self.old.left ≤ self.old.context.steps }
         ensures base { self.new.base ≡ self.old.base }
         ensures context { self.new.context ≡ self.old.context }
         ensures room { length room.new ≡ length room.old }
         ensures less { self.new.left ≤ self.old.left }
-        ensures unended { has_end (O.log self.new.store).entries ≡ false }
-        ensures kept { Keeps self.old.context.script.now self.old.context.program.now (λ S. fits S code.now) self.old.base room.old room.new }
-        ensures came { Carries self.old.context.script.now self.old.context.program.now self.old.context.steps (me_of self.old.context.me) (λ S. fits S code.now) (λ S k sc d n. begin S (out-Node (erase code.now)) k sc d n) self.old.base depth self.old.left self.new.left room.old room.new (O.log self.old.store) (O.log self.new.store) (O.private self.old.store) (O.private self.new.store) (outcome result self.new.value self.new.leave) }
+        ensures came { Walks (node_fits code.now) (begun code.now) self.old self.new room.old room.new depth result }
     {
         match code {
             Code::Function(number, name, args, at) => {
@@ -547,15 +484,11 @@ impl<'p, O: ThreadStore + Drop> Walker<'p, O> {
     #[cycle(walk)]
     #[inline(always)]
     pub(super) fn begin_operand(&mut self, code: &'p Code, depth: u32, room: &mut [Value]) -> Came
-        requires unended { has_end (O.log self.old.store).entries ≡ false }
-        requires steps { self.old.left ≤ self.old.context.steps }
         ensures base { self.new.base ≡ self.old.base }
         ensures context { self.new.context ≡ self.old.context }
         ensures room { length room.new ≡ length room.old }
         ensures less { self.new.left ≤ self.old.left }
-        ensures unended { has_end (O.log self.new.store).entries ≡ false }
-        ensures kept { Keeps self.old.context.script.now self.old.context.program.now (λ S. fits S code.now) self.old.base room.old room.new }
-        ensures came { Carries self.old.context.script.now self.old.context.program.now self.old.context.steps (me_of self.old.context.me) (λ S. fits S code.now) (λ S k sc d n. begin S (out-Node (erase code.now)) k sc d n) self.old.base depth self.old.left self.new.left room.old room.new (O.log self.old.store) (O.log self.new.store) (O.private self.old.store) (O.private self.new.store) (outcome result self.new.value self.new.leave) }
+        ensures came { Walks (node_fits code.now) (begun code.now) self.old self.new room.old room.new depth result }
     {
         match code {
             Code::Field(name, at) => self.field_apart(*name, *at),
@@ -570,15 +503,11 @@ impl<'p, O: ThreadStore + Drop> Walker<'p, O> {
     #[cycle(walk)]
     #[inline(never)]
     pub(super) fn begin_choice(&mut self, code: &'p Code, depth: u32, room: &mut [Value]) -> Came
-        requires unended { has_end (O.log self.old.store).entries ≡ false }
-        requires steps { self.old.left ≤ self.old.context.steps }
         ensures base { self.new.base ≡ self.old.base }
         ensures context { self.new.context ≡ self.old.context }
         ensures room { length room.new ≡ length room.old }
         ensures less { self.new.left ≤ self.old.left }
-        ensures unended { has_end (O.log self.new.store).entries ≡ false }
-        ensures kept { Keeps self.old.context.script.now self.old.context.program.now (λ S. fits S code.now) self.old.base room.old room.new }
-        ensures came { Carries self.old.context.script.now self.old.context.program.now self.old.context.steps (me_of self.old.context.me) (λ S. fits S code.now) (λ S k sc d n. begin S (out-Node (erase code.now)) k sc d n) self.old.base depth self.old.left self.new.left room.old room.new (O.log self.old.store) (O.log self.new.store) (O.private self.old.store) (O.private self.new.store) (outcome result self.new.value self.new.leave) }
+        ensures came { Walks (node_fits code.now) (begun code.now) self.old self.new room.old room.new depth result }
     {
         match code {
             Code::If(condition, first, second, _) => self.choose(
@@ -596,15 +525,11 @@ impl<'p, O: ThreadStore + Drop> Walker<'p, O> {
     #[cycle(walk)]
     #[inline(never)]
     pub(super) fn begin_logic(&mut self, code: &'p Code, depth: u32, room: &mut [Value]) -> Came
-        requires unended { has_end (O.log self.old.store).entries ≡ false }
-        requires steps { self.old.left ≤ self.old.context.steps }
         ensures base { self.new.base ≡ self.old.base }
         ensures context { self.new.context ≡ self.old.context }
         ensures room { length room.new ≡ length room.old }
         ensures less { self.new.left ≤ self.old.left }
-        ensures unended { has_end (O.log self.new.store).entries ≡ false }
-        ensures kept { Keeps self.old.context.script.now self.old.context.program.now (λ S. fits S code.now) self.old.base room.old room.new }
-        ensures came { Carries self.old.context.script.now self.old.context.program.now self.old.context.steps (me_of self.old.context.me) (λ S. fits S code.now) (λ S k sc d n. begin S (out-Node (erase code.now)) k sc d n) self.old.base depth self.old.left self.new.left room.old room.new (O.log self.old.store) (O.log self.new.store) (O.private self.old.store) (O.private self.new.store) (outcome result self.new.value self.new.leave) }
+        ensures came { Walks (node_fits code.now) (begun code.now) self.old self.new room.old room.new depth result }
     {
         match code {
             Code::And(first, second, _) => self.both(first.get(), second.get(), depth, room),
@@ -618,15 +543,11 @@ impl<'p, O: ThreadStore + Drop> Walker<'p, O> {
     #[cycle(walk)]
     #[inline(never)]
     pub(super) fn begin_set_field(&mut self, code: &'p Code, depth: u32, room: &mut [Value]) -> Came
-        requires unended { has_end (O.log self.old.store).entries ≡ false }
-        requires steps { self.old.left ≤ self.old.context.steps }
         ensures base { self.new.base ≡ self.old.base }
         ensures context { self.new.context ≡ self.old.context }
         ensures room { length room.new ≡ length room.old }
         ensures less { self.new.left ≤ self.old.left }
-        ensures unended { has_end (O.log self.new.store).entries ≡ false }
-        ensures kept { Keeps self.old.context.script.now self.old.context.program.now (λ S. fits S code.now) self.old.base room.old room.new }
-        ensures came { Carries self.old.context.script.now self.old.context.program.now self.old.context.steps (me_of self.old.context.me) (λ S. fits S code.now) (λ S k sc d n. begin S (out-Node (erase code.now)) k sc d n) self.old.base depth self.old.left self.new.left room.old room.new (O.log self.old.store) (O.log self.new.store) (O.private self.old.store) (O.private self.new.store) (outcome result self.new.value self.new.leave) }
+        ensures came { Walks (node_fits code.now) (begun code.now) self.old self.new room.old room.new depth result }
     {
         match code {
             Code::SetField(name, value, at) => {
@@ -645,15 +566,11 @@ impl<'p, O: ThreadStore + Drop> Walker<'p, O> {
         depth: u32,
         room: &mut [Value],
     ) -> Came
-        requires unended { has_end (O.log self.old.store).entries ≡ false }
-        requires steps { self.old.left ≤ self.old.context.steps }
         ensures base { self.new.base ≡ self.old.base }
         ensures context { self.new.context ≡ self.old.context }
         ensures room { length room.new ≡ length room.old }
         ensures less { self.new.left ≤ self.old.left }
-        ensures unended { has_end (O.log self.new.store).entries ≡ false }
-        ensures kept { Keeps self.old.context.script.now self.old.context.program.now (λ S. fits S code.now) self.old.base room.old room.new }
-        ensures came { Carries self.old.context.script.now self.old.context.program.now self.old.context.steps (me_of self.old.context.me) (λ S. fits S code.now) (λ S k sc d n. begin S (out-Node (erase code.now)) k sc d n) self.old.base depth self.old.left self.new.left room.old room.new (O.log self.old.store) (O.log self.new.store) (O.private self.old.store) (O.private self.new.store) (outcome result self.new.value self.new.leave) }
+        ensures came { Walks (node_fits code.now) (begun code.now) self.old self.new room.old room.new depth result }
     {
         match code {
             Code::UpdateField(name, op, value, at) => {
@@ -671,15 +588,11 @@ impl<'p, O: ThreadStore + Drop> Walker<'p, O> {
     #[cycle(walk)]
     #[inline(never)]
     pub(super) fn begin_store(&mut self, code: &'p Code, depth: u32, room: &mut [Value]) -> Came
-        requires unended { has_end (O.log self.old.store).entries ≡ false }
-        requires steps { self.old.left ≤ self.old.context.steps }
         ensures base { self.new.base ≡ self.old.base }
         ensures context { self.new.context ≡ self.old.context }
         ensures room { length room.new ≡ length room.old }
         ensures less { self.new.left ≤ self.old.left }
-        ensures unended { has_end (O.log self.new.store).entries ≡ false }
-        ensures kept { Keeps self.old.context.script.now self.old.context.program.now (λ S. fits S code.now) self.old.base room.old room.new }
-        ensures came { Carries self.old.context.script.now self.old.context.program.now self.old.context.steps (me_of self.old.context.me) (λ S. fits S code.now) (λ S k sc d n. begin S (out-Node (erase code.now)) k sc d n) self.old.base depth self.old.left self.new.left room.old room.new (O.log self.old.store) (O.log self.new.store) (O.private self.old.store) (O.private self.new.store) (outcome result self.new.value self.new.leave) }
+        ensures came { Walks (node_fits code.now) (begun code.now) self.old self.new room.old room.new depth result }
     {
         match code {
             Code::Store(method, receiver, name, args, at) => {
@@ -716,15 +629,11 @@ impl<'p, O: ThreadStore + Drop> Walker<'p, O> {
     #[cycle(walk)]
     #[inline(never)]
     pub(super) fn begin_new(&mut self, code: &'p Code, depth: u32, room: &mut [Value]) -> Came
-        requires unended { has_end (O.log self.old.store).entries ≡ false }
-        requires steps { self.old.left ≤ self.old.context.steps }
         ensures base { self.new.base ≡ self.old.base }
         ensures context { self.new.context ≡ self.old.context }
         ensures room { length room.new ≡ length room.old }
         ensures less { self.new.left ≤ self.old.left }
-        ensures unended { has_end (O.log self.new.store).entries ≡ false }
-        ensures kept { Keeps self.old.context.script.now self.old.context.program.now (λ S. fits S code.now) self.old.base room.old room.new }
-        ensures came { Carries self.old.context.script.now self.old.context.program.now self.old.context.steps (me_of self.old.context.me) (λ S. fits S code.now) (λ S k sc d n. begin S (out-Node (erase code.now)) k sc d n) self.old.base depth self.old.left self.new.left room.old room.new (O.log self.old.store) (O.log self.new.store) (O.private self.old.store) (O.private self.new.store) (outcome result self.new.value self.new.leave) }
+        ensures came { Walks (node_fits code.now) (begun code.now) self.old self.new room.old room.new depth result }
     {
         match code {
             Code::New(class, first, name, args, at) => self.create(
@@ -744,15 +653,11 @@ impl<'p, O: ThreadStore + Drop> Walker<'p, O> {
     #[cycle(walk)]
     #[inline(never)]
     pub(super) fn begin_other(&mut self, code: &'p Code, depth: u32, room: &mut [Value]) -> Came
-        requires unended { has_end (O.log self.old.store).entries ≡ false }
-        requires steps { self.old.left ≤ self.old.context.steps }
         ensures base { self.new.base ≡ self.old.base }
         ensures context { self.new.context ≡ self.old.context }
         ensures room { length room.new ≡ length room.old }
         ensures less { self.new.left ≤ self.old.left }
-        ensures unended { has_end (O.log self.new.store).entries ≡ false }
-        ensures kept { Keeps self.old.context.script.now self.old.context.program.now (λ S. fits S code.now) self.old.base room.old room.new }
-        ensures came { Carries self.old.context.script.now self.old.context.program.now self.old.context.steps (me_of self.old.context.me) (λ S. fits S code.now) (λ S k sc d n. begin S (out-Node (erase code.now)) k sc d n) self.old.base depth self.old.left self.new.left room.old room.new (O.log self.old.store) (O.log self.new.store) (O.private self.old.store) (O.private self.new.store) (outcome result self.new.value self.new.leave) }
+        ensures came { Walks (node_fits code.now) (begun code.now) self.old self.new room.old room.new depth result }
     {
         match code {
             Code::Sym(name, _) => self.give(Value::Sym(*name)),

@@ -1,16 +1,15 @@
 // Calls: their arguments, methods of receivers and of the script, blocks and prints.
 
 ghost use Rattle.std.specs.Prelude.{◌≡◌, ◌≤◌, ◌<◌, ◌+◌, ◌+ℤ◌, pos, ℕ, false, [], ◌∷◌, length, map, slice_get, Some, None};
-ghost use Rattle.rb_model.specs.Values.{Nil, Int, plain};
-ghost use Rattle.rb_model.specs.Log.{has_end};
+ghost use Rattle.rb_model.specs.Values.{Nil, Int};
 ghost use Rattle.rb_machine.specs.Scopes.{text_of};
-ghost use Rattle.rb_machine.specs.Control.{On, Then, Eval, Give, Turning, Passing, Joining, ReceiverOf, ReceiverToStore, Storing, Argument, OnReceiver, ByName, Counting};
+ghost use Rattle.rb_machine.specs.Control.{On, Turning, Passing, Joining, ReceiverOf, ReceiverToStore, Storing, Argument, OnReceiver, ByName, Counting};
 ghost use Rattle.rb_machine.specs.Texts.{shown};
 ghost use Rattle.rb_code.specs.Erase.{erase, erase_block, erase_piece};
 ghost use Rattle.rb_code.specs.Resolved.{fits, block_fits, piece_fits, every};
-ghost use Rattle.rb_walk.specs.Outcome.{is_left, value_of, outcome};
-ghost use Rattle.rb_walk.specs.Carries.{Carries, Keeps, Passes, both, numbered, called, printing, me_of};
-ghost use Rattle.rb_walk.specs.Methods.{IsTarget, HasNone, EntersWith, StoresWith};
+ghost use Rattle.rb_walk.specs.Outcome.{is_left, value_of};
+ghost use Rattle.rb_walk.specs.Carries.{both, numbered, called, printing, me_of};
+ghost use Rattle.rb_walk.specs.Methods.{IsTarget, HasNone};
 
 use super::Walker;
 use rb_builtin::Builtin;
@@ -29,6 +28,9 @@ use rb_walk::slots::{last_of, passed, put, start_block};
 use rb_walk::target::{Target, target_of};
 
 impl<'p, O: ThreadStore + Drop> Walker<'p, O> {
+    ghost use Rattle.rb_interp.specs.Calls.{Passes, StoresWith};
+    ghost use Rattle.rb_interp.specs.Walks.{Kept, Walks, at_node_then, node_fits, nodes_fit};
+
     /// A call with one argument: the receiver first.
     #[cycle(walk)]
     #[inline(always)]
@@ -42,15 +44,11 @@ impl<'p, O: ThreadStore + Drop> Walker<'p, O> {
         depth: u32,
         room: &mut [Value],
     ) -> Came
-        requires unended { has_end (O.log self.old.store).entries ≡ false }
-        requires steps { self.old.left ≤ self.old.context.steps }
         ensures base { self.new.base ≡ self.old.base }
         ensures context { self.new.context ≡ self.old.context }
         ensures room { length room.new ≡ length room.old }
         ensures less { self.new.left ≤ self.old.left }
-        ensures unended { has_end (O.log self.new.store).entries ≡ false }
-        ensures kept { Keeps self.old.context.script.now self.old.context.program.now (numbered method name (both (λ S. fits S left.now) (λ S. fits S right.now))) self.old.base room.old room.new }
-        ensures came { Carries self.old.context.script.now self.old.context.program.now self.old.context.steps (me_of self.old.context.me) (numbered method name (both (λ S. fits S left.now) (λ S. fits S right.now))) (λ S k sc d n. On (Eval (erase left.now)) (Then (ReceiverOf (text_of S name) (erase right.now ∷ []) None at) ∷ k) sc d n) self.old.base depth self.old.left self.new.left room.old room.new (O.log self.old.store) (O.log self.new.store) (O.private self.old.store) (O.private self.new.store) (outcome result self.new.value self.new.leave) }
+        ensures came { Walks (numbered method name (both (node_fits left.now) (node_fits right.now))) (at_node_then left.now (λ S. ReceiverOf (text_of S name) (erase right.now ∷ []) None at)) self.old self.new room.old room.new depth result }
     {
         let came = self.evaluate(left, depth, room);
         if is_left(came) {
@@ -77,15 +75,11 @@ impl<'p, O: ThreadStore + Drop> Walker<'p, O> {
         depth: u32,
         room: &mut [Value],
     ) -> Came
-        requires unended { has_end (O.log self.old.store).entries ≡ false }
-        requires steps { self.old.left ≤ self.old.context.steps }
         ensures base { self.new.base ≡ self.old.base }
         ensures context { self.new.context ≡ self.old.context }
         ensures room { length room.new ≡ length room.old }
         ensures less { self.new.left ≤ self.old.left }
-        ensures unended { has_end (O.log self.new.store).entries ≡ false }
-        ensures kept { (name : NameId) → Keeps self.old.context.script.now self.old.context.program.now (numbered method name (λ S. fits S right.now)) self.old.base room.old room.new }
-        ensures came { (name : NameId) → Carries self.old.context.script.now self.old.context.program.now self.old.context.steps (me_of self.old.context.me) (numbered method name (λ S. fits S right.now)) (λ S k sc d n. On (Eval (erase right.now)) (Then (Argument (OnReceiver (Int m) (text_of S name) None) [] [] at) ∷ k) sc d n) self.old.base depth self.old.left self.new.left room.old room.new (O.log self.old.store) (O.log self.new.store) (O.private self.old.store) (O.private self.new.store) (outcome result self.new.value self.new.leave) }
+        ensures came { (name : NameId) → Walks (numbered method name (node_fits right.now)) (at_node_then right.now (λ S. Argument (OnReceiver (Int m) (text_of S name) None) [] [] at)) self.old self.new room.old room.new depth result }
     {
         let came = self.evaluate(right, depth, room);
         if is_left(came) {
@@ -108,16 +102,12 @@ impl<'p, O: ThreadStore + Drop> Walker<'p, O> {
         depth: u32,
         room: &mut [Value],
     ) -> Came
-        requires unended { has_end (O.log self.old.store).entries ≡ false }
-        requires steps { self.old.left ≤ self.old.context.steps }
         requires came { is_left came ≡ false }
         ensures base { self.new.base ≡ self.old.base }
         ensures context { self.new.context ≡ self.old.context }
         ensures room { length room.new ≡ length room.old }
         ensures less { self.new.left ≤ self.old.left }
-        ensures unended { has_end (O.log self.new.store).entries ≡ false }
-        ensures kept { Keeps self.old.context.script.now self.old.context.program.now (numbered method name (λ S. fits S right.now)) self.old.base room.old room.new }
-        ensures came { Carries self.old.context.script.now self.old.context.program.now self.old.context.steps (me_of self.old.context.me) (numbered method name (λ S. fits S right.now)) (λ S k sc d n. On (Eval (erase right.now)) (Then (Argument (OnReceiver (value_of came self.old.value) (text_of S name) None) [] [] at) ∷ k) sc d n) self.old.base depth self.old.left self.new.left room.old room.new (O.log self.old.store) (O.log self.new.store) (O.private self.old.store) (O.private self.new.store) (outcome result self.new.value self.new.leave) }
+        ensures came { Walks (numbered method name (node_fits right.now)) (at_node_then right.now (λ S. Argument (OnReceiver (value_of came self.old.value) (text_of S name) None) [] [] at)) self.old self.new room.old room.new depth result }
     {
         if self.left > 0 && depth < MAX_DEPTH {
             if let Some(target) = self.target_now(came, name) {
@@ -153,16 +143,12 @@ impl<'p, O: ThreadStore + Drop> Walker<'p, O> {
         depth: u32,
         room: &mut [Value],
     ) -> Came
-        requires unended { has_end (O.log self.old.store).entries ≡ false }
-        requires steps { self.old.left ≤ self.old.context.steps }
         requires target { IsTarget self.old.context.script.now (me_of (Some target.object)) name target.object target.method.now }
         ensures base { self.new.base ≡ self.old.base }
         ensures context { self.new.context ≡ self.old.context }
         ensures room { length room.new ≡ length room.old }
         ensures less { self.new.left ≤ self.old.left }
-        ensures unended { has_end (O.log self.new.store).entries ≡ false }
-        ensures kept { Keeps self.old.context.script.now self.old.context.program.now (λ S. fits S right.now) self.old.base room.old room.new }
-        ensures came { Carries self.old.context.script.now self.old.context.program.now self.old.context.steps (me_of self.old.context.me) (λ S. fits S right.now) (λ S k sc d n. On (Eval (erase right.now)) (Then (Argument (OnReceiver (me_of (Some target.entry.object)) (text_of S name) None) [] [] at) ∷ k) sc d n) self.old.base depth self.old.left self.new.left room.old room.new (O.log self.old.store) (O.log self.new.store) (O.private self.old.store) (O.private self.new.store) (outcome result self.new.value self.new.leave) }
+        ensures came { Walks (node_fits right.now) (at_node_then right.now (λ S. Argument (OnReceiver (me_of (Some target.entry.object)) (text_of S name) None) [] [] at)) self.old self.new room.old room.new depth result }
     {
         let came = self.evaluate(right, depth, room);
         if is_left(came) {
@@ -191,16 +177,12 @@ impl<'p, O: ThreadStore + Drop> Walker<'p, O> {
         depth: u32,
         room: &mut [Value],
     ) -> Came
-        requires unended { has_end (O.log self.old.store).entries ≡ false }
-        requires steps { self.old.left ≤ self.old.context.steps }
         requires alone { HasNone self.old.context.script.now (me_of (Some thing)) name }
         ensures base { self.new.base ≡ self.old.base }
         ensures context { self.new.context ≡ self.old.context }
         ensures room { length room.new ≡ length room.old }
         ensures less { self.new.left ≤ self.old.left }
-        ensures unended { has_end (O.log self.new.store).entries ≡ false }
-        ensures kept { Keeps self.old.context.script.now self.old.context.program.now (numbered method name (λ S. fits S right.now)) self.old.base room.old room.new }
-        ensures came { Carries self.old.context.script.now self.old.context.program.now self.old.context.steps (me_of self.old.context.me) (numbered method name (λ S. fits S right.now)) (λ S k sc d n. On (Eval (erase right.now)) (Then (Argument (OnReceiver (me_of (Some thing)) (text_of S name) None) [] [] at) ∷ k) sc d n) self.old.base depth self.old.left self.new.left room.old room.new (O.log self.old.store) (O.log self.new.store) (O.private self.old.store) (O.private self.new.store) (outcome result self.new.value self.new.leave) }
+        ensures came { Walks (numbered method name (node_fits right.now)) (at_node_then right.now (λ S. Argument (OnReceiver (me_of (Some thing)) (text_of S name) None) [] [] at)) self.old self.new room.old room.new depth result }
     {
         let came = self.evaluate(right, depth, room);
         if is_left(came) {
@@ -223,15 +205,11 @@ impl<'p, O: ThreadStore + Drop> Walker<'p, O> {
         depth: u32,
         room: &mut [Value],
     ) -> Came
-        requires unended { has_end (O.log self.old.store).entries ≡ false }
-        requires steps { self.old.left ≤ self.old.context.steps }
         ensures base { self.new.base ≡ self.old.base }
         ensures context { self.new.context ≡ self.old.context }
         ensures room { length room.new ≡ length room.old }
         ensures less { self.new.left ≤ self.old.left }
-        ensures unended { has_end (O.log self.new.store).entries ≡ false }
-        ensures kept { Keeps self.old.context.script.now self.old.context.program.now (numbered method name (both (λ S. fits S receiver.now) (λ S. every (map (fits S) args.now)))) self.old.base room.old room.new }
-        ensures came { Carries self.old.context.script.now self.old.context.program.now self.old.context.steps (me_of self.old.context.me) (numbered method name (both (λ S. fits S receiver.now) (λ S. every (map (fits S) args.now)))) (λ S k sc d n. On (Eval (erase receiver.now)) (Then (ReceiverOf (text_of S name) (map erase args.now) None at) ∷ k) sc d n) self.old.base depth self.old.left self.new.left room.old room.new (O.log self.old.store) (O.log self.new.store) (O.private self.old.store) (O.private self.new.store) (outcome result self.new.value self.new.leave) }
+        ensures came { Walks (numbered method name (both (node_fits receiver.now) (nodes_fit args.now))) (at_node_then receiver.now (λ S. ReceiverOf (text_of S name) (map erase args.now) None at)) self.old self.new room.old room.new depth result }
     {
         let came = self.walk_here(receiver, depth, room);
         if is_left(came) {
@@ -267,16 +245,12 @@ impl<'p, O: ThreadStore + Drop> Walker<'p, O> {
         depth: u32,
         room: &mut [Value],
     ) -> Came
-        requires unended { has_end (O.log self.old.store).entries ≡ false }
-        requires steps { self.old.left ≤ self.old.context.steps }
         requires target { IsTarget self.old.context.script.now (me_of (Some target.object)) name target.object target.method.now }
         ensures base { self.new.base ≡ self.old.base }
         ensures context { self.new.context ≡ self.old.context }
         ensures room { length room.new ≡ length room.old }
         ensures less { self.new.left ≤ self.old.left }
-        ensures unended { has_end (O.log self.new.store).entries ≡ false }
-        ensures kept { Keeps self.old.context.script.now self.old.context.program.now (λ S. every (map (fits S) args.now)) self.old.base room.old room.new }
-        ensures came { Carries self.old.context.script.now self.old.context.program.now self.old.context.steps (me_of self.old.context.me) (λ S. every (map (fits S) args.now)) (λ S k sc d n. On (Passing (OnReceiver (me_of (Some target.entry.object)) (text_of S name) None) [] (map erase args.now) at) k sc d n) self.old.base depth self.old.left self.new.left room.old room.new (O.log self.old.store) (O.log self.new.store) (O.private self.old.store) (O.private self.new.store) (outcome result self.new.value self.new.leave) }
+        ensures came { Walks (nodes_fit args.now) (λ S k sc d n. On (Passing (OnReceiver (me_of (Some target.entry.object)) (text_of S name) None) [] (map erase args.now) at) k sc d n) self.old self.new room.old room.new depth result }
     {
         let before = self.base;
         let came = self.arguments(args, depth, room);
@@ -308,16 +282,12 @@ impl<'p, O: ThreadStore + Drop> Walker<'p, O> {
         depth: u32,
         room: &mut [Value],
     ) -> Came
-        requires unended { has_end (O.log self.old.store).entries ≡ false }
-        requires steps { self.old.left ≤ self.old.context.steps }
         requires alone { HasNone self.old.context.script.now (me_of (Some thing)) name }
         ensures base { self.new.base ≡ self.old.base }
         ensures context { self.new.context ≡ self.old.context }
         ensures room { length room.new ≡ length room.old }
         ensures less { self.new.left ≤ self.old.left }
-        ensures unended { has_end (O.log self.new.store).entries ≡ false }
-        ensures kept { Keeps self.old.context.script.now self.old.context.program.now (numbered method name (both (λ S. fits S index.now) (λ S. fits S value.now))) self.old.base room.old room.new }
-        ensures came { Carries self.old.context.script.now self.old.context.program.now self.old.context.steps (me_of self.old.context.me) (numbered method name (both (λ S. fits S index.now) (λ S. fits S value.now))) (λ S k sc d n. On (Eval (erase index.now)) (Then (Argument (Storing (me_of (Some thing)) (text_of S name)) [] (erase value.now ∷ []) at) ∷ k) sc d n) self.old.base depth self.old.left self.new.left room.old room.new (O.log self.old.store) (O.log self.new.store) (O.private self.old.store) (O.private self.new.store) (outcome result self.new.value self.new.leave) }
+        ensures came { Walks (numbered method name (both (node_fits index.now) (node_fits value.now))) (at_node_then index.now (λ S. Argument (Storing (me_of (Some thing)) (text_of S name)) [] (erase value.now ∷ []) at)) self.old self.new room.old room.new depth result }
     {
         let first = self.evaluate(index, depth, room);
         if is_left(first) {
@@ -345,15 +315,11 @@ impl<'p, O: ThreadStore + Drop> Walker<'p, O> {
         depth: u32,
         room: &mut [Value],
     ) -> Came
-        requires unended { has_end (O.log self.old.store).entries ≡ false }
-        requires steps { self.old.left ≤ self.old.context.steps }
         ensures base { self.new.base ≡ self.old.base }
         ensures context { self.new.context ≡ self.old.context }
         ensures room { length room.new ≡ length room.old }
         ensures less { self.new.left ≤ self.old.left }
-        ensures unended { has_end (O.log self.new.store).entries ≡ false }
-        ensures kept { Keeps self.old.context.script.now self.old.context.program.now (numbered method name (both (λ S. fits S receiver.now) (λ S. every (map (fits S) args.now)))) self.old.base room.old room.new }
-        ensures came { Carries self.old.context.script.now self.old.context.program.now self.old.context.steps (me_of self.old.context.me) (numbered method name (both (λ S. fits S receiver.now) (λ S. every (map (fits S) args.now)))) (λ S k sc d n. On (Eval (erase receiver.now)) (Then (ReceiverToStore (text_of S name) (map erase args.now) at) ∷ k) sc d n) self.old.base depth self.old.left self.new.left room.old room.new (O.log self.old.store) (O.log self.new.store) (O.private self.old.store) (O.private self.new.store) (outcome result self.new.value self.new.leave) }
+        ensures came { Walks (numbered method name (both (node_fits receiver.now) (nodes_fit args.now))) (at_node_then receiver.now (λ S. ReceiverToStore (text_of S name) (map erase args.now) at)) self.old self.new room.old room.new depth result }
     {
         let came = self.walk(receiver, depth, room);
         if is_left(came) {
@@ -402,16 +368,12 @@ impl<'p, O: ThreadStore + Drop> Walker<'p, O> {
         depth: u32,
         room: &mut [Value],
     ) -> Came
-        requires unended { has_end (O.log self.old.store).entries ≡ false }
-        requires steps { self.old.left ≤ self.old.context.steps }
         requires target { IsTarget self.old.context.script.now (me_of (Some target.object)) name target.object target.method.now }
         ensures base { self.new.base ≡ self.old.base }
         ensures context { self.new.context ≡ self.old.context }
         ensures room { length room.new ≡ length room.old }
         ensures less { self.new.left ≤ self.old.left }
-        ensures unended { has_end (O.log self.new.store).entries ≡ false }
-        ensures kept { Keeps self.old.context.script.now self.old.context.program.now (λ S. fits S value.now) self.old.base room.old room.new }
-        ensures came { Carries self.old.context.script.now self.old.context.program.now self.old.context.steps (me_of self.old.context.me) (λ S. fits S value.now) (λ S k sc d n. On (Eval (erase value.now)) (Then (Argument (Storing (me_of (Some target.entry.object)) (text_of S name)) [] [] at) ∷ k) sc d n) self.old.base depth self.old.left self.new.left room.old room.new (O.log self.old.store) (O.log self.new.store) (O.private self.old.store) (O.private self.new.store) (outcome result self.new.value self.new.leave) }
+        ensures came { Walks (node_fits value.now) (at_node_then value.now (λ S. Argument (Storing (me_of (Some target.entry.object)) (text_of S name)) [] [] at)) self.old self.new room.old room.new depth result }
     {
         let came = self.evaluate(value, depth, room);
         if is_left(came) {
@@ -443,15 +405,12 @@ impl<'p, O: ThreadStore + Drop> Walker<'p, O> {
         depth: u32,
         room: &mut [Value],
     ) -> Came
-        requires unended { has_end (O.log self.old.store).entries ≡ false }
-        requires steps { self.old.left ≤ self.old.context.steps }
         ensures base { self.new.base ≡ self.old.base }
         ensures context { self.new.context ≡ self.old.context }
         ensures room { length room.new ≡ length room.old }
         ensures less { self.new.left ≤ self.old.left }
-        ensures unended { has_end (O.log self.new.store).entries ≡ false }
         ensures kept { (i : ℕ) → i < self.old.base → slice_get room.new i ≡ slice_get room.old i }
-        ensures came { StoresWith self.old.context.script.now self.old.context.program.now self.old.context.steps (me_of self.old.context.me) (me_of (Some target.entry.object)) target.entry.method.now count at self.old.base depth self.old.left self.new.left room.old room.new (O.log self.old.store) (O.log self.new.store) (O.private self.old.store) (O.private self.new.store) (outcome result self.new.value self.new.leave) }
+        ensures came { StoresWith (me_of (Some target.entry.object)) target.entry.method.now count at self.old self.new room.old room.new depth result }
     {
         let Ok(last) = last_of(passed(room, self.base, count)) else {
             return self.over(Cut::Memory);
@@ -476,15 +435,11 @@ impl<'p, O: ThreadStore + Drop> Walker<'p, O> {
         depth: u32,
         room: &mut [Value],
     ) -> Came
-        requires unended { has_end (O.log self.old.store).entries ≡ false }
-        requires steps { self.old.left ≤ self.old.context.steps }
         ensures base { self.new.base ≡ self.old.base }
         ensures context { self.new.context ≡ self.old.context }
         ensures room { length room.new ≡ length room.old }
         ensures less { self.new.left ≤ self.old.left }
-        ensures unended { has_end (O.log self.new.store).entries ≡ false }
-        ensures kept { Keeps self.old.context.script.now self.old.context.program.now (numbered method name (both (λ S. fits S receiver.now) (both (λ S. every (map (fits S) args.now)) (λ S. block_fits S block.now)))) self.old.base room.old room.new }
-        ensures came { Carries self.old.context.script.now self.old.context.program.now self.old.context.steps (me_of self.old.context.me) (numbered method name (both (λ S. fits S receiver.now) (both (λ S. every (map (fits S) args.now)) (λ S. block_fits S block.now)))) (λ S k sc d n. On (Eval (erase receiver.now)) (Then (ReceiverOf (text_of S name) (map erase args.now) (Some (erase_block block.now)) at) ∷ k) sc d n) self.old.base depth self.old.left self.new.left room.old room.new (O.log self.old.store) (O.log self.new.store) (O.private self.old.store) (O.private self.new.store) (outcome result self.new.value self.new.leave) }
+        ensures came { Walks (numbered method name (both (node_fits receiver.now) (both (nodes_fit args.now) (λ S. block_fits S block.now)))) (at_node_then receiver.now (λ S. ReceiverOf (text_of S name) (map erase args.now) (Some (erase_block block.now)) at)) self.old self.new room.old room.new depth result }
     {
         let came = self.walk(receiver, depth, room);
         if is_left(came) {
@@ -524,15 +479,11 @@ impl<'p, O: ThreadStore + Drop> Walker<'p, O> {
         depth: u32,
         room: &mut [Value],
     ) -> Came
-        requires unended { has_end (O.log self.old.store).entries ≡ false }
-        requires steps { self.old.left ≤ self.old.context.steps }
         ensures base { self.new.base ≡ self.old.base }
         ensures context { self.new.context ≡ self.old.context }
         ensures room { length room.new ≡ length room.old }
         ensures less { self.new.left ≤ self.old.left }
-        ensures unended { has_end (O.log self.new.store).entries ≡ false }
-        ensures kept { Keeps self.old.context.script.now self.old.context.program.now (λ S. block_fits S block.now) self.old.base room.old room.new }
-        ensures came { Carries self.old.context.script.now self.old.context.program.now self.old.context.steps (me_of self.old.context.me) (λ S. block_fits S block.now) (λ S k sc d n. On (Turning (Counting first (last +ℤ pos 1) (Int answer)) (erase_block block.now)) k sc d n) self.old.base depth self.old.left self.new.left room.old room.new (O.log self.old.store) (O.log self.new.store) (O.private self.old.store) (O.private self.new.store) (outcome result self.new.value self.new.leave) }
+        ensures came { Walks (λ S. block_fits S block.now) (λ S k sc d n. On (Turning (Counting first (last +ℤ pos 1) (Int answer)) (erase_block block.now)) k sc d n) self.old self.new room.old room.new depth result }
     {
         if first > last {
             return Came::Int(answer);
@@ -572,16 +523,12 @@ impl<'p, O: ThreadStore + Drop> Walker<'p, O> {
         depth: u32,
         room: &mut [Value],
     ) -> Came
-        requires unended { has_end (O.log self.old.store).entries ≡ false }
-        requires steps { self.old.left ≤ self.old.context.steps }
         requires alone { HasNone self.old.context.script.now (me_of self.old.context.me) name }
         ensures base { self.new.base ≡ self.old.base }
         ensures context { self.new.context ≡ self.old.context }
         ensures room { length room.new ≡ length room.old }
         ensures less { self.new.left ≤ self.old.left }
-        ensures unended { has_end (O.log self.new.store).entries ≡ false }
-        ensures kept { Keeps self.old.context.script.now self.old.context.program.now (called number name (λ S. every (map (fits S) args.now))) self.old.base room.old room.new }
-        ensures came { Carries self.old.context.script.now self.old.context.program.now self.old.context.steps (me_of self.old.context.me) (called number name (λ S. every (map (fits S) args.now))) (λ S k sc d n. On (Passing (ByName name) [] (map erase args.now) at) k sc d n) self.old.base depth self.old.left self.new.left room.old room.new (O.log self.old.store) (O.log self.new.store) (O.private self.old.store) (O.private self.new.store) (outcome result self.new.value self.new.leave) }
+        ensures came { Walks (called number name (nodes_fit args.now)) (λ S k sc d n. On (Passing (ByName name) [] (map erase args.now) at) k sc d n) self.old self.new room.old room.new depth result }
     {
         let script = self.context.script.script();
         let Some(method) = script.functions.get(number as usize) else {
@@ -607,15 +554,11 @@ impl<'p, O: ThreadStore + Drop> Walker<'p, O> {
         depth: u32,
         room: &mut [Value],
     ) -> Came
-        requires unended { has_end (O.log self.old.store).entries ≡ false }
-        requires steps { self.old.left ≤ self.old.context.steps }
         ensures base { self.new.base ≡ self.old.base }
         ensures context { self.new.context ≡ self.old.context }
         ensures room { length room.new ≡ length room.old }
         ensures less { self.new.left ≤ self.old.left }
-        ensures unended { has_end (O.log self.new.store).entries ≡ false }
-        ensures kept { Keeps self.old.context.script.now self.old.context.program.now (printing form name (λ S. every (map (fits S) args.now))) self.old.base room.old room.new }
-        ensures came { Carries self.old.context.script.now self.old.context.program.now self.old.context.steps (me_of self.old.context.me) (printing form name (λ S. every (map (fits S) args.now))) (λ S k sc d n. On (Passing (ByName name) [] (map erase args.now) at) k sc d n) self.old.base depth self.old.left self.new.left room.old room.new (O.log self.old.store) (O.log self.new.store) (O.private self.old.store) (O.private self.new.store) (outcome result self.new.value self.new.leave) }
+        ensures came { Walks (printing form name (nodes_fit args.now)) (λ S k sc d n. On (Passing (ByName name) [] (map erase args.now) at) k sc d n) self.old self.new room.old room.new depth result }
     {
         match self.own_target(name) {
             Some(target) => self.own(target, name, args, at, depth, room),
@@ -634,16 +577,12 @@ impl<'p, O: ThreadStore + Drop> Walker<'p, O> {
         depth: u32,
         room: &mut [Value],
     ) -> Came
-        requires unended { has_end (O.log self.old.store).entries ≡ false }
-        requires steps { self.old.left ≤ self.old.context.steps }
         requires alone { HasNone self.old.context.script.now (me_of self.old.context.me) name }
         ensures base { self.new.base ≡ self.old.base }
         ensures context { self.new.context ≡ self.old.context }
         ensures room { length room.new ≡ length room.old }
         ensures less { self.new.left ≤ self.old.left }
-        ensures unended { has_end (O.log self.new.store).entries ≡ false }
-        ensures kept { Keeps self.old.context.script.now self.old.context.program.now (printing form name (λ S. every (map (fits S) args.now))) self.old.base room.old room.new }
-        ensures came { Carries self.old.context.script.now self.old.context.program.now self.old.context.steps (me_of self.old.context.me) (printing form name (λ S. every (map (fits S) args.now))) (λ S k sc d n. On (Passing (ByName name) [] (map erase args.now) at) k sc d n) self.old.base depth self.old.left self.new.left room.old room.new (O.log self.old.store) (O.log self.new.store) (O.private self.old.store) (O.private self.new.store) (outcome result self.new.value self.new.leave) }
+        ensures came { Walks (printing form name (nodes_fit args.now)) (λ S k sc d n. On (Passing (ByName name) [] (map erase args.now) at) k sc d n) self.old self.new room.old room.new depth result }
     {
         let before = self.base;
         let came = self.arguments(args, depth, room);
@@ -668,17 +607,14 @@ impl<'p, O: ThreadStore + Drop> Walker<'p, O> {
     #[cycle(walk)]
     #[inline(always)]
     pub(super) fn arguments(&mut self, args: &'p [Code], depth: u32, room: &mut [Value]) -> Came
-        requires unended { has_end (O.log self.old.store).entries ≡ false }
-        requires steps { self.old.left ≤ self.old.context.steps }
         ensures base { is_left result ≡ false → self.new.base ≡ self.old.base + length args.now }
         ensures rises { self.old.base ≤ self.new.base }
         ensures fits { self.old.base ≤ length room.old → self.new.base ≤ length room.new }
         ensures context { self.new.context ≡ self.old.context }
         ensures room { length room.new ≡ length room.old }
         ensures less { self.new.left ≤ self.old.left }
-        ensures unended { has_end (O.log self.new.store).entries ≡ false }
-        ensures kept { Keeps self.old.context.script.now self.old.context.program.now (λ S. every (map (fits S) args.now)) self.old.base room.old room.new }
-        ensures came { Passes self.old.context.script.now self.old.context.program.now self.old.context.steps (me_of self.old.context.me) args.now self.old.base depth self.old.left self.new.left room.old room.new (O.log self.old.store) (O.log self.new.store) (O.private self.old.store) (O.private self.new.store) result (outcome result self.new.value self.new.leave) }
+        ensures kept { Kept (nodes_fit args.now) self.old room.old room.new }
+        ensures came { Passes args.now self.old self.new room.old room.new depth result }
     {
         'each: for arg in args {
             if self.base < room.len() && self.left > 0 && depth < MAX_DEPTH {
@@ -720,15 +656,11 @@ impl<'p, O: ThreadStore + Drop> Walker<'p, O> {
         depth: u32,
         room: &mut [Value],
     ) -> Came
-        requires unended { has_end (O.log self.old.store).entries ≡ false }
-        requires steps { self.old.left ≤ self.old.context.steps }
         ensures base { self.new.base ≡ self.old.base }
         ensures context { self.new.context ≡ self.old.context }
         ensures room { length room.new ≡ length room.old }
         ensures less { self.new.left ≤ self.old.left }
-        ensures unended { has_end (O.log self.new.store).entries ≡ false }
-        ensures kept { Keeps self.old.context.script.now self.old.context.program.now (λ S. every (map (piece_fits S) pieces.now)) self.old.base room.old room.new }
-        ensures came { Carries self.old.context.script.now self.old.context.program.now self.old.context.steps (me_of self.old.context.me) (λ S. every (map (piece_fits S) pieces.now)) (λ S k sc d n. On (Joining [] (map erase_piece pieces.now) at) k sc d n) self.old.base depth self.old.left self.new.left room.old room.new (O.log self.old.store) (O.log self.new.store) (O.private self.old.store) (O.private self.new.store) (outcome result self.new.value self.new.leave) }
+        ensures came { Walks (λ S. every (map (piece_fits S) pieces.now)) (λ S k sc d n. On (Joining [] (map erase_piece pieces.now) at) k sc d n) self.old self.new room.old room.new depth result }
     {
         match written(pieces) {
             Some(text) => self.share_text(text),
@@ -746,15 +678,11 @@ impl<'p, O: ThreadStore + Drop> Walker<'p, O> {
         depth: u32,
         room: &mut [Value],
     ) -> Came
-        requires unended { has_end (O.log self.old.store).entries ≡ false }
-        requires steps { self.old.left ≤ self.old.context.steps }
         ensures base { self.new.base ≡ self.old.base }
         ensures context { self.new.context ≡ self.old.context }
         ensures room { length room.new ≡ length room.old }
         ensures less { self.new.left ≤ self.old.left }
-        ensures unended { has_end (O.log self.new.store).entries ≡ false }
-        ensures kept { Keeps self.old.context.script.now self.old.context.program.now (λ S. every (map (piece_fits S) pieces.now)) self.old.base room.old room.new }
-        ensures came { Carries self.old.context.script.now self.old.context.program.now self.old.context.steps (me_of self.old.context.me) (λ S. every (map (piece_fits S) pieces.now)) (λ S k sc d n. On (Joining [] (map erase_piece pieces.now) at) k sc d n) self.old.base depth self.old.left self.new.left room.old room.new (O.log self.old.store) (O.log self.new.store) (O.private self.old.store) (O.private self.new.store) (outcome result self.new.value self.new.leave) }
+        ensures came { Walks (λ S. every (map (piece_fits S) pieces.now)) (λ S k sc d n. On (Joining [] (map erase_piece pieces.now) at) k sc d n) self.old self.new room.old room.new depth result }
     {
         let mut bytes = Vec::new(self.context.alloc);
         'pieces: for piece in pieces {

@@ -1,20 +1,18 @@
 // Arrays and hashes: new ones, what they answer without a block, and how they are written.
 
-ghost use Rattle.std.specs.Prelude.{◌≡◌, ◌≤◌, ◌∷◌, [], ℕ, List, None, Some, pos, false, map, IfOk, IfErr, IfSome};
+ghost use Rattle.std.specs.Prelude.{◌≡◌, ◌≤◌, ◌∷◌, [], List, None, Some, pos, false, map, IfOk, IfErr, IfSome};
 ghost use Rattle.rb_tree.specs.declared.span.NameId.{NameId};
 ghost use Rattle.rb_model.specs.Values.{Int, To, plain, same, truth};
 ghost use Rattle.rb_model.specs.Things.{Elements};
 ghost use Rattle.rb_model.specs.Ends.{Memory};
-ghost use Rattle.rb_model.specs.Log.{has_end};
 ghost use Rattle.rb_model.specs.Doing.{doing, made, said};
 ghost use Rattle.rb_machine.specs.Methods as table;
 ghost use Rattle.rb_machine.specs.Methods.{deed};
-ghost use Rattle.rb_builtin.specs.Names.{builtin_of};
 ghost use Rattle.rb_builtin.specs.Deeds.{answer_of, step_of, thing_of, use_of};
 ghost use Rattle.rb_walk.specs.Outcome.{Gave, Over, is_left, outcome, value_of};
 ghost use Rattle.rb_walk.specs.Methods.{HasNone};
 ghost use Rattle.rb_walk.specs.Carries.{me_of};
-ghost use Rattle.rb_walk.specs.Collections.{CallsBuiltin, Comes, Reads, answering, building, filling, keeping, making, pairing, putting, storing, writing_element};
+ghost use Rattle.rb_walk.specs.Collections.{Reads, answering, building, filling, keeping, making, pairing, putting, writing_element};
 
 use super::Walker;
 use rb_builtin::{Behind, Builtin, Deed, Purpose, deed_of};
@@ -31,14 +29,15 @@ use rb_walk::slots::last_of;
 const MAX_ELEMENTS: i64 = 16_777_216;
 
 impl<'p, O: ThreadStore + Drop> Walker<'p, O> {
+    ghost use Rattle.rb_interp.specs.Answers.{CallsBuiltin, ComesAtOnce, ComesTo, StoresBy};
+
     /// Makes a thing, and gives a reference to it.
     pub(super) fn make(&mut self, make: Make) -> Came
-        requires unended { has_end (O.log self.old.store).entries ≡ false }
         ensures base { self.new.base ≡ self.old.base }
         ensures left { self.new.left ≡ self.old.left }
         ensures context { self.new.context ≡ self.old.context }
         ensures log { O.log self.new.store ≡ O.log self.old.store }
-        ensures came { (depth : ℕ) → Comes self.old.context.steps (making (made make)) self.old.context.program.now depth self.old.left self.old.left (O.log self.old.store) (O.log self.new.store) (O.private self.old.store) (O.private self.new.store) (outcome result self.new.value self.new.leave) }
+        ensures came { ComesAtOnce (making (made make)) self.old self.new result }
     {
         match self.store.make(make) {
             Ok(thing) => self.give(Value::Ref(thing)),
@@ -48,12 +47,11 @@ impl<'p, O: ThreadStore + Drop> Walker<'p, O> {
 
     /// A new array of these values.
     pub(super) fn list(&mut self, values: &[Value]) -> Came
-        requires unended { has_end (O.log self.old.store).entries ≡ false }
         ensures base { self.new.base ≡ self.old.base }
         ensures left { self.new.left ≡ self.old.left }
         ensures context { self.new.context ≡ self.old.context }
         ensures log { O.log self.new.store ≡ O.log self.old.store }
-        ensures came { (depth : ℕ) → Comes self.old.context.steps (making (Elements (map plain values.now))) self.old.context.program.now depth self.old.left self.old.left (O.log self.old.store) (O.log self.new.store) (O.private self.old.store) (O.private self.new.store) (outcome result self.new.value self.new.leave) }
+        ensures came { ComesAtOnce (making (Elements (map plain values.now))) self.old self.new result }
     {
         match copies(self.context.alloc, values) {
             Ok(values) => self.make(Make::Elements(values)),
@@ -63,12 +61,11 @@ impl<'p, O: ThreadStore + Drop> Walker<'p, O> {
 
     /// A new hash of keys and values by turns.
     pub(super) fn pairs(&mut self, values: &[Value], at: Span) -> Came
-        requires unended { has_end (O.log self.old.store).entries ≡ false }
         ensures base { self.new.base ≡ self.old.base }
         ensures left { self.new.left ≡ self.old.left }
         ensures context { self.new.context ≡ self.old.context }
         ensures log { O.log self.new.store ≡ O.log self.old.store }
-        ensures came { (depth : ℕ) → Comes self.old.context.steps (pairing (map plain values.now) at) self.old.context.program.now depth self.old.left self.old.left (O.log self.old.store) (O.log self.new.store) (O.private self.old.store) (O.private self.new.store) (outcome result self.new.value self.new.leave) }
+        ensures came { ComesAtOnce (pairing (map plain values.now) at) self.old self.new result }
     {
         let Ok(pairs) = pairs_in(self.context.alloc, values) else {
             return self.over(Cut::Memory);
@@ -81,12 +78,11 @@ impl<'p, O: ThreadStore + Drop> Walker<'p, O> {
 
     /// A new array of so many times a value.
     pub(super) fn fill(&mut self, count: &Value, value: &Value, at: Span) -> Came
-        requires unended { has_end (O.log self.old.store).entries ≡ false }
         ensures base { self.new.base ≡ self.old.base }
         ensures left { self.new.left ≡ self.old.left }
         ensures context { self.new.context ≡ self.old.context }
         ensures log { O.log self.new.store ≡ O.log self.old.store }
-        ensures came { (depth : ℕ) → Comes self.old.context.steps (filling (plain count.now) (plain value.now) at) self.old.context.program.now depth self.old.left self.old.left (O.log self.old.store) (O.log self.new.store) (O.private self.old.store) (O.private self.new.store) (outcome result self.new.value self.new.leave) }
+        ensures came { ComesAtOnce (filling (plain count.now) (plain value.now) at) self.old self.new result }
     {
         let Value::Int(count) = count else {
             return self.raise(Fault::TypeMismatch, at);
@@ -105,12 +101,11 @@ impl<'p, O: ThreadStore + Drop> Walker<'p, O> {
 
     /// A new thing of a class that is built in.
     pub(super) fn build(&mut self, class: BuiltinClass, args: &[Value], at: Span) -> Came
-        requires unended { has_end (O.log self.old.store).entries ≡ false }
         ensures base { self.new.base ≡ self.old.base }
         ensures left { self.new.left ≡ self.old.left }
         ensures context { self.new.context ≡ self.old.context }
         ensures log { O.log self.new.store ≡ O.log self.old.store }
-        ensures came { (depth : ℕ) → Comes self.old.context.steps (building class (map plain args.now) at) self.old.context.program.now depth self.old.left self.old.left (O.log self.old.store) (O.log self.new.store) (O.private self.old.store) (O.private self.new.store) (outcome result self.new.value self.new.leave) }
+        ensures came { ComesAtOnce (building class (map plain args.now) at) self.old self.new result }
     {
         match (class, args) {
             (BuiltinClass::Array, []) => self.make(Make::Elements(Vec::new(self.context.alloc))),
@@ -123,7 +118,6 @@ impl<'p, O: ThreadStore + Drop> Walker<'p, O> {
 
     /// Reads a collection by one copy; `Err` is what came where memory is wanted.
     pub(super) fn copied(&mut self, thing: Ref) -> Result<Reply, Came>
-        requires unended { has_end (O.log self.old.store).entries ≡ false }
         ensures base { self.new.base ≡ self.old.base }
         ensures left { self.new.left ≡ self.old.left }
         ensures context { self.new.context ≡ self.old.context }
@@ -143,12 +137,11 @@ impl<'p, O: ThreadStore + Drop> Walker<'p, O> {
 
     /// An array of the keys or the values of a hash.
     fn read_hash(&mut self, thing: Ref, purpose: Purpose, at: Span) -> Came
-        requires unended { has_end (O.log self.old.store).entries ≡ false }
         ensures base { self.new.base ≡ self.old.base }
         ensures left { self.new.left ≡ self.old.left }
         ensures context { self.new.context ≡ self.old.context }
         ensures log { O.log self.new.store ≡ O.log self.old.store }
-        ensures came { (depth : ℕ) → Comes self.old.context.steps (answering (table.Reads (thing_of thing) (use_of purpose)) at) self.old.context.program.now depth self.old.left self.old.left (O.log self.old.store) (O.log self.new.store) (O.private self.old.store) (O.private self.new.store) (outcome result self.new.value self.new.leave) }
+        ensures came { ComesAtOnce (answering (table.Reads (thing_of thing) (use_of purpose)) at) self.old self.new result }
     {
         match self.copied(thing) {
             Ok(Reply::Pairs(pairs)) => match parts_of(self.context.alloc, pairs, purpose) {
@@ -163,12 +156,11 @@ impl<'p, O: ThreadStore + Drop> Walker<'p, O> {
 
     /// What is answered behind the reply of a thing.
     fn ask_behind(&mut self, thing: Ref, act: Act, behind: Behind, at: Span) -> Came
-        requires unended { has_end (O.log self.old.store).entries ≡ false }
         ensures base { self.new.base ≡ self.old.base }
         ensures left { self.new.left ≡ self.old.left }
         ensures context { self.new.context ≡ self.old.context }
         ensures log { O.log self.new.store ≡ O.log self.old.store }
-        ensures came { (depth : ℕ) → Comes self.old.context.steps (answering (table.Asks (thing_of thing) (doing act) (step_of behind thing)) at) self.old.context.program.now depth self.old.left self.old.left (O.log self.old.store) (O.log self.new.store) (O.private self.old.store) (O.private self.new.store) (outcome result self.new.value self.new.leave) }
+        ensures came { ComesAtOnce (answering (table.Asks (thing_of thing) (doing act) (step_of behind thing)) at) self.old self.new result }
     {
         let came = self.ask_apart(thing, act, at);
         if is_left(came) {
@@ -198,12 +190,11 @@ impl<'p, O: ThreadStore + Drop> Walker<'p, O> {
 
     /// What a method without a block answers.
     fn do_deed(&mut self, deed: Deed, at: Span, depth: u32) -> Came
-        requires unended { has_end (O.log self.old.store).entries ≡ false }
         ensures base { self.new.base ≡ self.old.base }
         ensures less { self.new.left ≤ self.old.left }
         ensures context { self.new.context ≡ self.old.context }
         ensures log { O.log self.new.store ≡ O.log self.old.store }
-        ensures came { Comes self.old.context.steps (answering (answer_of deed) at) self.old.context.program.now depth self.old.left self.new.left (O.log self.old.store) (O.log self.new.store) (O.private self.old.store) (O.private self.new.store) (outcome result self.new.value self.new.leave) }
+        ensures came { ComesTo (answering (answer_of deed) at) self.old self.new depth result }
     {
         match deed {
             Deed::Give(value) => self.give(value),
@@ -226,12 +217,11 @@ impl<'p, O: ThreadStore + Drop> Walker<'p, O> {
         at: Span,
         depth: u32,
     ) -> Came
-        requires unended { has_end (O.log self.old.store).entries ≡ false }
         ensures base { self.new.base ≡ self.old.base }
         ensures less { self.new.left ≤ self.old.left }
         ensures context { self.new.context ≡ self.old.context }
         ensures log { O.log self.new.store ≡ O.log self.old.store }
-        ensures came { CallsBuiltin self.old.context.steps self.old.context.program.now method (plain receiver.now) (map plain args.now) at depth self.old.left self.new.left (O.log self.old.store) (O.private self.old.store) (O.private self.new.store) (outcome result self.new.value self.new.leave) }
+        ensures came { CallsBuiltin method (plain receiver.now) (map plain args.now) at self.old self.new depth result }
     {
         if let Some(answer) = ready_answer(method, receiver, args) {
             return self.answer(answer, at);
@@ -252,12 +242,11 @@ impl<'p, O: ThreadStore + Drop> Walker<'p, O> {
         at: Span,
         depth: u32,
     ) -> Came
-        requires unended { has_end (O.log self.old.store).entries ≡ false }
         ensures base { self.new.base ≡ self.old.base }
         ensures less { self.new.left ≤ self.old.left }
         ensures context { self.new.context ≡ self.old.context }
         ensures log { O.log self.new.store ≡ O.log self.old.store }
-        ensures came { CallsBuiltin self.old.context.steps self.old.context.program.now method (plain receiver.now) (map plain args.now) at depth self.old.left self.new.left (O.log self.old.store) (O.private self.old.store) (O.private self.new.store) (outcome result self.new.value self.new.leave) }
+        ensures came { CallsBuiltin method (plain receiver.now) (map plain args.now) at self.old self.new depth result }
     {
         match deed_of(
             self.context.alloc,
@@ -281,12 +270,11 @@ impl<'p, O: ThreadStore + Drop> Walker<'p, O> {
         at: Span,
         depth: u32,
     ) -> Came
-        requires unended { has_end (O.log self.old.store).entries ≡ false }
         ensures base { self.new.base ≡ self.old.base }
         ensures less { self.new.left ≤ self.old.left }
         ensures context { self.new.context ≡ self.old.context }
         ensures log { O.log self.new.store ≡ O.log self.old.store }
-        ensures came { CallsBuiltin self.old.context.steps self.old.context.program.now method (plain receiver.now) (plain arg ∷ []) at depth self.old.left self.new.left (O.log self.old.store) (O.private self.old.store) (O.private self.new.store) (outcome result self.new.value self.new.leave) }
+        ensures came { CallsBuiltin method (plain receiver.now) (plain arg ∷ []) at self.old self.new depth result }
     {
         match collection_of(receiver) {
             Some(thing) => self.asked_value(thing, method, arg, at, depth),
@@ -322,12 +310,11 @@ impl<'p, O: ThreadStore + Drop> Walker<'p, O> {
         at: Span,
         depth: u32,
     ) -> Came
-        requires unended { has_end (O.log self.old.store).entries ≡ false }
         ensures base { self.new.base ≡ self.old.base }
         ensures less { self.new.left ≤ self.old.left }
         ensures context { self.new.context ≡ self.old.context }
         ensures log { O.log self.new.store ≡ O.log self.old.store }
-        ensures came { CallsBuiltin self.old.context.steps self.old.context.program.now method (To (thing_of thing)) (Int index ∷ []) at depth self.old.left self.new.left (O.log self.old.store) (O.private self.old.store) (O.private self.new.store) (outcome result self.new.value self.new.leave) }
+        ensures came { CallsBuiltin method (To (thing_of thing)) (Int index ∷ []) at self.old self.new depth result }
     {
         if is_element(thing, method) {
             return self.element(thing, index, at);
@@ -345,13 +332,12 @@ impl<'p, O: ThreadStore + Drop> Walker<'p, O> {
         at: Span,
         depth: u32,
     ) -> Came
-        requires unended { has_end (O.log self.old.store).entries ≡ false }
         requires came { is_left came ≡ false }
         ensures base { self.new.base ≡ self.old.base }
         ensures less { self.new.left ≤ self.old.left }
         ensures context { self.new.context ≡ self.old.context }
         ensures log { O.log self.new.store ≡ O.log self.old.store }
-        ensures came { CallsBuiltin self.old.context.steps self.old.context.program.now method (To (thing_of thing)) (value_of came self.old.value ∷ []) at depth self.old.left self.new.left (O.log self.old.store) (O.private self.old.store) (O.private self.new.store) (outcome result self.new.value self.new.leave) }
+        ensures came { CallsBuiltin method (To (thing_of thing)) (value_of came self.old.value ∷ []) at self.old self.new depth result }
     {
         match came {
             Came::Int(index) => self.asked_integer(thing, method, index, at, depth),
@@ -369,13 +355,12 @@ impl<'p, O: ThreadStore + Drop> Walker<'p, O> {
         at: Span,
         depth: u32,
     ) -> Came
-        requires unended { has_end (O.log self.old.store).entries ≡ false }
         requires came { is_left came ≡ false }
         ensures base { self.new.base ≡ self.old.base }
         ensures less { self.new.left ≤ self.old.left }
         ensures context { self.new.context ≡ self.old.context }
         ensures log { O.log self.new.store ≡ O.log self.old.store }
-        ensures came { CallsBuiltin self.old.context.steps self.old.context.program.now method (To (thing_of thing)) (value_of came self.old.value ∷ []) at depth self.old.left self.new.left (O.log self.old.store) (O.private self.old.store) (O.private self.new.store) (outcome result self.new.value self.new.leave) }
+        ensures came { CallsBuiltin method (To (thing_of thing)) (value_of came self.old.value ∷ []) at self.old self.new depth result }
     {
         let arg = self.take(came);
         self.asked_value(thing, method, arg, at, depth)
@@ -390,12 +375,11 @@ impl<'p, O: ThreadStore + Drop> Walker<'p, O> {
         at: Span,
         depth: u32,
     ) -> Came
-        requires unended { has_end (O.log self.old.store).entries ≡ false }
         ensures base { self.new.base ≡ self.old.base }
         ensures less { self.new.left ≤ self.old.left }
         ensures context { self.new.context ≡ self.old.context }
         ensures log { O.log self.new.store ≡ O.log self.old.store }
-        ensures came { CallsBuiltin self.old.context.steps self.old.context.program.now method (To (thing_of thing)) (plain arg ∷ []) at depth self.old.left self.new.left (O.log self.old.store) (O.private self.old.store) (O.private self.new.store) (outcome result self.new.value self.new.leave) }
+        ensures came { CallsBuiltin method (To (thing_of thing)) (plain arg ∷ []) at self.old self.new depth result }
     {
         if let Some(index) = index_for(thing, method, &arg) {
             return self.element(thing, index, at);
@@ -411,12 +395,11 @@ impl<'p, O: ThreadStore + Drop> Walker<'p, O> {
     /// Gives an element of an array a value, and gives the value on.
     #[inline(always)]
     fn put(&mut self, array: Ref, index: i64, value: &Value, at: Span) -> Came
-        requires unended { has_end (O.log self.old.store).entries ≡ false }
         ensures base { self.new.base ≡ self.old.base }
         ensures left { self.new.left ≡ self.old.left }
         ensures context { self.new.context ≡ self.old.context }
         ensures log { O.log self.new.store ≡ O.log self.old.store }
-        ensures came { (depth : ℕ) → Comes self.old.context.steps (putting (thing_of array) index (plain value.now) at) self.old.context.program.now depth self.old.left self.old.left (O.log self.old.store) (O.log self.new.store) (O.private self.old.store) (O.private self.new.store) (outcome result self.new.value self.new.leave) }
+        ensures came { ComesAtOnce (putting (thing_of array) index (plain value.now) at) self.old self.new result }
     {
         let Ok(last) = value.share() else {
             return self.over(Cut::Memory);
@@ -434,13 +417,12 @@ impl<'p, O: ThreadStore + Drop> Walker<'p, O> {
     /// Gives an element of an array the value that came, and gives the value on.
     #[inline(always)]
     fn put_came(&mut self, array: Ref, index: i64, came: Came, at: Span) -> Came
-        requires unended { has_end (O.log self.old.store).entries ≡ false }
         requires came { is_left came ≡ false }
         ensures base { self.new.base ≡ self.old.base }
         ensures left { self.new.left ≡ self.old.left }
         ensures context { self.new.context ≡ self.old.context }
         ensures log { O.log self.new.store ≡ O.log self.old.store }
-        ensures came { (depth : ℕ) → Comes self.old.context.steps (putting (thing_of array) index (value_of came self.old.value) at) self.old.context.program.now depth self.old.left self.old.left (O.log self.old.store) (O.log self.new.store) (O.private self.old.store) (O.private self.new.store) (outcome result self.new.value self.new.leave) }
+        ensures came { ComesAtOnce (putting (thing_of array) index (value_of came self.old.value) at) self.old self.new result }
     {
         if self
             .store
@@ -455,12 +437,11 @@ impl<'p, O: ThreadStore + Drop> Walker<'p, O> {
     /// Gives an element of an array a value that nobody else has, and gives the value on.
     #[inline(never)]
     fn put_own(&mut self, array: Ref, index: i64, value: Value, at: Span) -> Came
-        requires unended { has_end (O.log self.old.store).entries ≡ false }
         ensures base { self.new.base ≡ self.old.base }
         ensures left { self.new.left ≡ self.old.left }
         ensures context { self.new.context ≡ self.old.context }
         ensures log { O.log self.new.store ≡ O.log self.old.store }
-        ensures came { (depth : ℕ) → Comes self.old.context.steps (putting (thing_of array) index (plain value) at) self.old.context.program.now depth self.old.left self.old.left (O.log self.old.store) (O.log self.new.store) (O.private self.old.store) (O.private self.new.store) (outcome result self.new.value self.new.leave) }
+        ensures came { ComesAtOnce (putting (thing_of array) index (plain value) at) self.old self.new result }
     {
         let Ok(copy) = value.share() else {
             return self.over(Cut::Memory);
@@ -475,13 +456,12 @@ impl<'p, O: ThreadStore + Drop> Walker<'p, O> {
     /// Gives a key of a hash the value that came, and gives the value on.
     #[inline(never)]
     fn put_pair(&mut self, hash: Ref, key: Value, came: Came, at: Span) -> Came
-        requires unended { has_end (O.log self.old.store).entries ≡ false }
         requires came { is_left came ≡ false }
         ensures base { self.new.base ≡ self.old.base }
         ensures left { self.new.left ≡ self.old.left }
         ensures context { self.new.context ≡ self.old.context }
         ensures log { O.log self.new.store ≡ O.log self.old.store }
-        ensures came { (depth : ℕ) → Comes self.old.context.steps (keeping (thing_of hash) (plain key) (value_of came self.old.value) at) self.old.context.program.now depth self.old.left self.old.left (O.log self.old.store) (O.log self.new.store) (O.private self.old.store) (O.private self.new.store) (outcome result self.new.value self.new.leave) }
+        ensures came { ComesAtOnce (keeping (thing_of hash) (plain key) (value_of came self.old.value) at) self.old self.new result }
     {
         let value = self.take(came);
         let Ok(copy) = value.share() else {
@@ -505,13 +485,12 @@ impl<'p, O: ThreadStore + Drop> Walker<'p, O> {
         at: Span,
         depth: u32,
     ) -> Came
-        requires unended { has_end (O.log self.old.store).entries ≡ false }
         requires came { is_left came ≡ false }
         ensures base { self.new.base ≡ self.old.base }
         ensures less { self.new.left ≤ self.old.left }
         ensures context { self.new.context ≡ self.old.context }
         ensures log { O.log self.new.store ≡ O.log self.old.store }
-        ensures came { (name : List ℕ) → builtin_of name ≡ method → Comes self.old.context.steps (storing (deed self.old.context.program.now (To (thing_of thing)) name (plain index ∷ value_of came self.old.value ∷ []) None) (plain index ∷ value_of came self.old.value ∷ []) at) self.old.context.program.now depth self.old.left self.new.left (O.log self.old.store) (O.log self.new.store) (O.private self.old.store) (O.private self.new.store) (outcome result self.new.value self.new.leave) }
+        ensures came { StoresBy method (To (thing_of thing)) (plain index ∷ value_of came self.old.value ∷ []) at self.old self.new depth result }
     {
         if let Some(place) = place_for(thing, method, &index) {
             return self.put_came(thing, place, came, at);
@@ -534,12 +513,11 @@ impl<'p, O: ThreadStore + Drop> Walker<'p, O> {
         at: Span,
         depth: u32,
     ) -> Came
-        requires unended { has_end (O.log self.old.store).entries ≡ false }
         ensures base { self.new.base ≡ self.old.base }
         ensures less { self.new.left ≤ self.old.left }
         ensures context { self.new.context ≡ self.old.context }
         ensures log { O.log self.new.store ≡ O.log self.old.store }
-        ensures came { (name : List ℕ) → builtin_of name ≡ method → Comes self.old.context.steps (storing (deed self.old.context.program.now (To (thing_of thing)) name (plain index ∷ plain value ∷ []) None) (plain index ∷ plain value ∷ []) at) self.old.context.program.now depth self.old.left self.new.left (O.log self.old.store) (O.log self.new.store) (O.private self.old.store) (O.private self.new.store) (outcome result self.new.value self.new.leave) }
+        ensures came { StoresBy method (To (thing_of thing)) (plain index ∷ plain value ∷ []) at self.old self.new depth result }
     {
         let args = [index, value];
         self.store_builtin(&Value::Ref(thing), method, args.as_slice(), at, depth)
@@ -554,12 +532,11 @@ impl<'p, O: ThreadStore + Drop> Walker<'p, O> {
         at: Span,
         depth: u32,
     ) -> Came
-        requires unended { has_end (O.log self.old.store).entries ≡ false }
         ensures base { self.new.base ≡ self.old.base }
         ensures less { self.new.left ≤ self.old.left }
         ensures context { self.new.context ≡ self.old.context }
         ensures log { O.log self.new.store ≡ O.log self.old.store }
-        ensures came { (name : List ℕ) → builtin_of name ≡ method → Comes self.old.context.steps (storing (deed self.old.context.program.now (plain receiver.now) name (map plain args.now) None) (map plain args.now) at) self.old.context.program.now depth self.old.left self.new.left (O.log self.old.store) (O.log self.new.store) (O.private self.old.store) (O.private self.new.store) (outcome result self.new.value self.new.leave) }
+        ensures came { StoresBy method (plain receiver.now) (map plain args.now) at self.old self.new depth result }
     {
         if let Some((array, index, value)) = put_of(receiver, method, args) {
             return self.put(array, index, value, at);
@@ -583,13 +560,12 @@ impl<'p, O: ThreadStore + Drop> Walker<'p, O> {
         at: Span,
         depth: u32,
     ) -> Came
-        requires unended { has_end (O.log self.old.store).entries ≡ false }
         requires came { is_left came ≡ false }
         ensures base { self.new.base ≡ self.old.base }
         ensures less { self.new.left ≤ self.old.left }
         ensures context { self.new.context ≡ self.old.context }
         ensures log { O.log self.new.store ≡ O.log self.old.store }
-        ensures came { Comes self.old.context.steps (writing_element (value_of came self.old.value) (plain receiver.now) (plain index) at) self.old.context.program.now depth self.old.left self.new.left (O.log self.old.store) (O.log self.new.store) (O.private self.old.store) (O.private self.new.store) (outcome result self.new.value self.new.leave) }
+        ensures came { ComesTo (writing_element (value_of came self.old.value) (plain receiver.now) (plain index) at) self.old self.new depth result }
     {
         if let Some(thing) = collection_of(receiver) {
             return self.stored(thing, Some(Builtin::SetIndex), index, came, at, depth);

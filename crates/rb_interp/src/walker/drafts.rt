@@ -1,9 +1,8 @@
 // Texts of collections, and what `p` writes: nothing of them calls a method of the script.
 
-ghost use Rattle.std.specs.Prelude.{◌≡◌, ◌≤◌, ◌<◌, ◌+◌, ℕ, [], true, false, length, map, Err, OnOk, IfOk};
+ghost use Rattle.std.specs.Prelude.{◌≡◌, ◌≤◌, ◌<◌, ◌+◌, [], true, false, length, map, Err, OnOk};
 ghost use Rattle.rb_model.specs.Values.{Value as Val, Str, To, plain};
 ghost use Rattle.rb_model.specs.Doing.{said};
-ghost use Rattle.rb_model.specs.Log.{has_end};
 ghost use Rattle.rb_machine.specs.Control.{On, Drafting, Inspected};
 ghost use Rattle.rb_machine.specs.Call.{raised};
 ghost use Rattle.rb_machine.specs.Drafts.{draft_of, is_collection};
@@ -12,7 +11,7 @@ ghost use Rattle.rb_builtin.specs.Deeds.{thing_of};
 ghost use Rattle.rb_walk.specs.Answers.{OrMemory};
 ghost use Rattle.rb_walk.specs.Outcome.{Gave, is_left, outcome, value_of};
 ghost use Rattle.rb_walk.specs.Texts.{as_text};
-ghost use Rattle.rb_walk.specs.Collections.{Advances, Comes, InspectsOne, Opens, ReadsTo, Shortens, drafting, inspecting_behind, is_finished, showing, text_end, valuing, work_of};
+ghost use Rattle.rb_walk.specs.Collections.{Advances, InspectsOne, Opens, ReadsTo, Shortens, drafting, inspecting_behind, is_finished, showing, text_end, valuing, work_of};
 
 use super::Walker;
 use rb_model::{Fault, Ref, Reply, SharedText, ThreadStore, Value};
@@ -61,6 +60,8 @@ pub(super) fn is_finished(want: &Want) -> bool
 }
 
 impl<'p, O: ThreadStore + Drop> Walker<'p, O> {
+    ghost use Rattle.rb_interp.specs.Answers.{ComesAtOnce, ComesOut, ComesTo};
+
     /// Gives bytes as a text.
     pub(super) fn give_bytes(&mut self, bytes: Vec<u8>) -> Came
         ensures gives { OrMemory (Gave (Str bytes.items)) (outcome result self.new.value self.new.leave) }
@@ -91,7 +92,6 @@ impl<'p, O: ThreadStore + Drop> Walker<'p, O> {
 
     /// Opens a collection in a text that is made, by one copy of it.
     fn open(&mut self, draft: &mut Draft, thing: Ref, at: Span) -> Came
-        requires unended { has_end (O.log self.old.store).entries ≡ false }
         ensures base { self.new.base ≡ self.old.base }
         ensures left { self.new.left ≡ self.old.left }
         ensures context { self.new.context ≡ self.old.context }
@@ -110,7 +110,6 @@ impl<'p, O: ThreadStore + Drop> Walker<'p, O> {
 
     /// Does what a text needs next.
     pub(super) fn advance(&mut self, draft: &mut Draft, want: &Want, at: Span, depth: u32) -> Came
-        requires unended { has_end (O.log self.old.store).entries ≡ false }
         ensures base { self.new.base ≡ self.old.base }
         ensures less { self.new.left ≤ self.old.left }
         ensures context { self.new.context ≡ self.old.context }
@@ -140,13 +139,12 @@ impl<'p, O: ThreadStore + Drop> Walker<'p, O> {
 
     /// The inspected form of a collection, as a text.
     pub(super) fn inspected(&mut self, thing: Ref, at: Span, depth: u32) -> Came
-        requires unended { has_end (O.log self.old.store).entries ≡ false }
         ensures text { as_text self.old.context.program.now (outcome result self.new.value self.new.leave) ≡ outcome result self.new.value self.new.leave }
         ensures base { self.new.base ≡ self.old.base }
         ensures less { self.new.left ≤ self.old.left }
         ensures context { self.new.context ≡ self.old.context }
         ensures log { O.log self.new.store ≡ O.log self.old.store }
-        ensures came { Comes self.old.context.steps (drafting (draft_of Inspected (To (thing_of thing))) at) self.old.context.program.now depth self.old.left self.new.left (O.log self.old.store) (O.log self.new.store) (O.private self.old.store) (O.private self.new.store) (outcome result self.new.value self.new.leave) }
+        ensures came { ComesTo (drafting (draft_of Inspected (To (thing_of thing))) at) self.old self.new depth result }
     {
         let mut draft = Draft::new(self.context.alloc, TextForm::Inspected, Value::Ref(thing));
         'text: loop {
@@ -166,13 +164,12 @@ impl<'p, O: ThreadStore + Drop> Walker<'p, O> {
 
     /// The value that came, as its text is told where no method is asked for it.
     pub(super) fn told_plain(&mut self, came: Came, at: Span, depth: u32) -> Came
-        requires unended { has_end (O.log self.old.store).entries ≡ false }
         requires came { is_left came ≡ false }
         ensures base { self.new.base ≡ self.old.base }
         ensures less { self.new.left ≤ self.old.left }
         ensures context { self.new.context ≡ self.old.context }
         ensures log { O.log self.new.store ≡ O.log self.old.store }
-        ensures came { Comes self.old.context.steps (showing (value_of came self.old.value) at) self.old.context.program.now depth self.old.left self.new.left (O.log self.old.store) (O.log self.new.store) (O.private self.old.store) (O.private self.new.store) (as_text self.old.context.program.now (outcome result self.new.value self.new.leave)) }
+        ensures came { ComesOut (showing (value_of came self.old.value) at) self.old self.new depth (as_text self.old.context.program.now (outcome result self.new.value self.new.leave)) }
     {
         let Came::Other = came else {
             return came;
@@ -185,12 +182,11 @@ impl<'p, O: ThreadStore + Drop> Walker<'p, O> {
 
     /// The value of a call of `p`: nil, its one argument, or an array of them.
     fn value_of_p(&mut self, values: &[Value]) -> Came
-        requires unended { has_end (O.log self.old.store).entries ≡ false }
         ensures base { self.new.base ≡ self.old.base }
         ensures left { self.new.left ≡ self.old.left }
         ensures context { self.new.context ≡ self.old.context }
         ensures log { O.log self.new.store ≡ O.log self.old.store }
-        ensures came { (shown : Val) (depth : ℕ) → Comes self.old.context.steps (valuing shown (map plain values.now)) self.old.context.program.now depth self.old.left self.old.left (O.log self.old.store) (O.log self.new.store) (O.private self.old.store) (O.private self.new.store) (outcome result self.new.value self.new.leave) }
+        ensures came { (shown : Val) → ComesAtOnce (valuing shown (map plain values.now)) self.old self.new result }
     {
         match values {
             [] => Came::Nil,
@@ -201,7 +197,6 @@ impl<'p, O: ThreadStore + Drop> Walker<'p, O> {
 
     /// Adds the inspected form of a collection as a line.
     fn add_collection(&mut self, bytes: &mut Vec<u8>, thing: Ref, at: Span, depth: u32) -> Came
-        requires unended { has_end (O.log self.old.store).entries ≡ false }
         requires collection { is_collection (To (thing_of thing)) ≡ true }
         ensures base { self.new.base ≡ self.old.base }
         ensures less { self.new.left ≤ self.old.left }
@@ -223,7 +218,6 @@ impl<'p, O: ThreadStore + Drop> Walker<'p, O> {
 
     /// Adds the inspected form of a value as a line.
     fn add_inspected(&mut self, bytes: &mut Vec<u8>, value: &Value, at: Span, depth: u32) -> Came
-        requires unended { has_end (O.log self.old.store).entries ≡ false }
         ensures base { self.new.base ≡ self.old.base }
         ensures less { self.new.left ≤ self.old.left }
         ensures context { self.new.context ≡ self.old.context }
@@ -242,13 +236,10 @@ impl<'p, O: ThreadStore + Drop> Walker<'p, O> {
 
     /// Prints the inspected forms of values.
     pub(super) fn inspect_values(&mut self, values: &[Value], at: Span, depth: u32) -> Came
-        requires unended { has_end (O.log self.old.store).entries ≡ false }
-        requires steps { self.old.left ≤ self.old.context.steps }
         ensures base { self.new.base ≡ self.old.base }
         ensures less { self.new.left ≤ self.old.left }
         ensures context { self.new.context ≡ self.old.context }
-        ensures unended { has_end (O.log self.new.store).entries ≡ false }
-        ensures came { Comes self.old.context.steps (inspecting_behind (map plain values.now) [] (map plain values.now) at) self.old.context.program.now depth self.old.left self.new.left (O.log self.old.store) (O.log self.new.store) (O.private self.old.store) (O.private self.new.store) (outcome result self.new.value self.new.leave) }
+        ensures came { ComesTo (inspecting_behind (map plain values.now) [] (map plain values.now) at) self.old self.new depth result }
     {
         let mut bytes = Vec::new(self.context.alloc);
         'values: for value in values {

@@ -4,12 +4,10 @@ ghost use Rattle.std.specs.Prelude.{◌≡◌, ◌≤◌, false, [], ◌∷◌, 
 ghost use Rattle.rb_tree.specs.declared.span.Span.{Span as At};
 ghost use Rattle.rb_model.specs.Values.{plain};
 ghost use Rattle.rb_model.specs.Immediates.{value_told};
-ghost use Rattle.rb_model.specs.Log.{has_end};
-ghost use Rattle.rb_machine.specs.Control.{On, Then, Eval, Give, Passing, Creating, Listing, Pairing, IndexedBy, ReadOf, WriteTo, OfElement};
+ghost use Rattle.rb_machine.specs.Control.{On, Then, Give, Passing, Creating, Listing, Pairing, IndexedBy, ReadOf, WriteTo, OfElement};
 ghost use Rattle.rb_code.specs.Erase.{erase};
-ghost use Rattle.rb_code.specs.Resolved.{fits, every};
-ghost use Rattle.rb_walk.specs.Outcome.{is_left, value_of, outcome};
-ghost use Rattle.rb_walk.specs.Carries.{Carries, Keeps, both, built_by, me_of};
+ghost use Rattle.rb_walk.specs.Outcome.{is_left, value_of};
+ghost use Rattle.rb_walk.specs.Carries.{both, built_by, me_of};
 ghost use Rattle.rb_walk.specs.Answers.{IsGiven, steps_of};
 ghost use Rattle.rb_walk.specs.Methods.{HasNoMethods};
 ghost use Rattle.rb_walk.specs.Elements.{IsElementAt, IsToldBy, IsToldOf};
@@ -26,6 +24,8 @@ use rb_walk::slots::passed;
 use rb_walk::target::local_collection;
 
 impl<'p, O: ThreadStore + Drop> Walker<'p, O> {
+    ghost use Rattle.rb_interp.specs.Walks.{Walks, at_node_then, node_fits, nodes_fit};
+
     /// The list that an element of the array of a local is, at an index that is a leaf. Nothing is done for it, and no step is counted.
     #[inline(always)]
     fn row_at(&self, code: &Code, room: &[Value]) -> Option<Ref>
@@ -140,15 +140,11 @@ impl<'p, O: ThreadStore + Drop> Walker<'p, O> {
     /// The literal of an array.
     #[cycle(walk)]
     pub(super) fn array(&mut self, items: &'p [Code], depth: u32, room: &mut [Value]) -> Came
-        requires unended { has_end (O.log self.old.store).entries ≡ false }
-        requires steps { self.old.left ≤ self.old.context.steps }
         ensures base { self.new.base ≡ self.old.base }
         ensures context { self.new.context ≡ self.old.context }
         ensures room { length room.new ≡ length room.old }
         ensures less { self.new.left ≤ self.old.left }
-        ensures unended { has_end (O.log self.new.store).entries ≡ false }
-        ensures kept { (at : At) → Keeps self.old.context.script.now self.old.context.program.now (λ S. every (map (fits S) items.now)) self.old.base room.old room.new }
-        ensures came { (at : At) → Carries self.old.context.script.now self.old.context.program.now self.old.context.steps (me_of self.old.context.me) (λ S. every (map (fits S) items.now)) (λ S k sc d n. On (Passing Listing [] (map erase items.now) at) k sc d n) self.old.base depth self.old.left self.new.left room.old room.new (O.log self.old.store) (O.log self.new.store) (O.private self.old.store) (O.private self.new.store) (outcome result self.new.value self.new.leave) }
+        ensures came { (at : At) → Walks (nodes_fit items.now) (λ S k sc d n. On (Passing Listing [] (map erase items.now) at) k sc d n) self.old self.new room.old room.new depth result }
     {
         let before = self.base;
         let came = self.arguments(items, depth, room);
@@ -168,15 +164,11 @@ impl<'p, O: ThreadStore + Drop> Walker<'p, O> {
         depth: u32,
         room: &mut [Value],
     ) -> Came
-        requires unended { has_end (O.log self.old.store).entries ≡ false }
-        requires steps { self.old.left ≤ self.old.context.steps }
         ensures base { self.new.base ≡ self.old.base }
         ensures context { self.new.context ≡ self.old.context }
         ensures room { length room.new ≡ length room.old }
         ensures less { self.new.left ≤ self.old.left }
-        ensures unended { has_end (O.log self.new.store).entries ≡ false }
-        ensures kept { Keeps self.old.context.script.now self.old.context.program.now (λ S. every (map (fits S) items.now)) self.old.base room.old room.new }
-        ensures came { Carries self.old.context.script.now self.old.context.program.now self.old.context.steps (me_of self.old.context.me) (λ S. every (map (fits S) items.now)) (λ S k sc d n. On (Passing Pairing [] (map erase items.now) at) k sc d n) self.old.base depth self.old.left self.new.left room.old room.new (O.log self.old.store) (O.log self.new.store) (O.private self.old.store) (O.private self.new.store) (outcome result self.new.value self.new.leave) }
+        ensures came { Walks (nodes_fit items.now) (λ S k sc d n. On (Passing Pairing [] (map erase items.now) at) k sc d n) self.old self.new room.old room.new depth result }
     {
         let before = self.base;
         let came = self.arguments(items, depth, room);
@@ -198,15 +190,11 @@ impl<'p, O: ThreadStore + Drop> Walker<'p, O> {
         depth: u32,
         room: &mut [Value],
     ) -> Came
-        requires unended { has_end (O.log self.old.store).entries ≡ false }
-        requires steps { self.old.left ≤ self.old.context.steps }
         ensures base { self.new.base ≡ self.old.base }
         ensures context { self.new.context ≡ self.old.context }
         ensures room { length room.new ≡ length room.old }
         ensures less { self.new.left ≤ self.old.left }
-        ensures unended { has_end (O.log self.new.store).entries ≡ false }
-        ensures kept { Keeps self.old.context.script.now self.old.context.program.now (built_by class name (λ S. every (map (fits S) args.now))) self.old.base room.old room.new }
-        ensures came { Carries self.old.context.script.now self.old.context.program.now self.old.context.steps (me_of self.old.context.me) (built_by class name (λ S. every (map (fits S) args.now))) (λ S k sc d n. On (Passing (Creating name) [] (map erase args.now) at) k sc d n) self.old.base depth self.old.left self.new.left room.old room.new (O.log self.old.store) (O.log self.new.store) (O.private self.old.store) (O.private self.new.store) (outcome result self.new.value self.new.leave) }
+        ensures came { Walks (built_by class name (nodes_fit args.now)) (λ S k sc d n. On (Passing (Creating name) [] (map erase args.now) at) k sc d n) self.old self.new room.old room.new depth result }
     {
         let before = self.base;
         let came = self.arguments(args, depth, room);
@@ -229,15 +217,11 @@ impl<'p, O: ThreadStore + Drop> Walker<'p, O> {
         depth: u32,
         room: &mut [Value],
     ) -> Came
-        requires unended { has_end (O.log self.old.store).entries ≡ false }
-        requires steps { self.old.left ≤ self.old.context.steps }
         ensures base { self.new.base ≡ self.old.base }
         ensures context { self.new.context ≡ self.old.context }
         ensures room { length room.new ≡ length room.old }
         ensures less { self.new.left ≤ self.old.left }
-        ensures unended { has_end (O.log self.new.store).entries ≡ false }
-        ensures kept { Keeps self.old.context.script.now self.old.context.program.now (both (λ S. fits S receiver.now) (both (λ S. fits S index.now) (λ S. fits S value.now))) self.old.base room.old room.new }
-        ensures came { Carries self.old.context.script.now self.old.context.program.now self.old.context.steps (me_of self.old.context.me) (both (λ S. fits S receiver.now) (both (λ S. fits S index.now) (λ S. fits S value.now))) (λ S k sc d n. On (Eval (erase receiver.now)) (Then (IndexedBy (erase index.now) op (erase value.now) at) ∷ k) sc d n) self.old.base depth self.old.left self.new.left room.old room.new (O.log self.old.store) (O.log self.new.store) (O.private self.old.store) (O.private self.new.store) (outcome result self.new.value self.new.leave) }
+        ensures came { Walks (both (node_fits receiver.now) (both (node_fits index.now) (node_fits value.now))) (at_node_then receiver.now (λ S. IndexedBy (erase index.now) op (erase value.now) at)) self.old self.new room.old room.new depth result }
     {
         let came = self.walk(receiver, depth, room);
         if is_left(came) {
@@ -273,15 +257,11 @@ impl<'p, O: ThreadStore + Drop> Walker<'p, O> {
         room: &mut [Value],
     ) -> Came
         requires came { is_left current ≡ false }
-        requires unended { has_end (O.log self.old.store).entries ≡ false }
-        requires steps { self.old.left ≤ self.old.context.steps }
         ensures base { self.new.base ≡ self.old.base }
         ensures context { self.new.context ≡ self.old.context }
         ensures room { length room.new ≡ length room.old }
         ensures less { self.new.left ≤ self.old.left }
-        ensures unended { has_end (O.log self.new.store).entries ≡ false }
-        ensures kept { Keeps self.old.context.script.now self.old.context.program.now (λ S. fits S value.now) self.old.base room.old room.new }
-        ensures came { Carries self.old.context.script.now self.old.context.program.now self.old.context.steps (me_of self.old.context.me) (λ S. fits S value.now) (λ S k sc d n. On (Give (value_of current self.old.value)) (Then (ReadOf (OfElement (plain receiver.now) (plain index)) op (erase value.now) at) ∷ k) sc d n) self.old.base depth self.old.left self.new.left room.old room.new (O.log self.old.store) (O.log self.new.store) (O.private self.old.store) (O.private self.new.store) (outcome result self.new.value self.new.leave) }
+        ensures came { Walks (node_fits value.now) (λ S k sc d n. On (Give (value_of current self.old.value)) (Then (ReadOf (OfElement (plain receiver.now) (plain index)) op (erase value.now) at) ∷ k) sc d n) self.old self.new room.old room.new depth result }
     {
         match op {
             AssignOp::OrElse => {
@@ -317,15 +297,11 @@ impl<'p, O: ThreadStore + Drop> Walker<'p, O> {
         depth: u32,
         room: &mut [Value],
     ) -> Came
-        requires unended { has_end (O.log self.old.store).entries ≡ false }
-        requires steps { self.old.left ≤ self.old.context.steps }
         ensures base { self.new.base ≡ self.old.base }
         ensures context { self.new.context ≡ self.old.context }
         ensures room { length room.new ≡ length room.old }
         ensures less { self.new.left ≤ self.old.left }
-        ensures unended { has_end (O.log self.new.store).entries ≡ false }
-        ensures kept { Keeps self.old.context.script.now self.old.context.program.now (λ S. fits S value.now) self.old.base room.old room.new }
-        ensures came { Carries self.old.context.script.now self.old.context.program.now self.old.context.steps (me_of self.old.context.me) (λ S. fits S value.now) (λ S k sc d n. On (Eval (erase value.now)) (Then (WriteTo (OfElement (plain receiver.now) (plain index)) at) ∷ k) sc d n) self.old.base depth self.old.left self.new.left room.old room.new (O.log self.old.store) (O.log self.new.store) (O.private self.old.store) (O.private self.new.store) (outcome result self.new.value self.new.leave) }
+        ensures came { Walks (node_fits value.now) (at_node_then value.now (λ S. WriteTo (OfElement (plain receiver.now) (plain index)) at)) self.old self.new room.old room.new depth result }
     {
         let came = self.walk(value, depth, room);
         if is_left(came) {

@@ -1,14 +1,12 @@
 // Arrays that are written line by line: values are asked for their texts.
 
-ghost use Rattle.std.specs.Prelude.{◌≡◌, ◌≤◌, ◌<◌, ◌+◌, ℕ, true, false, length, slice_get, Some, None, Err, OnOk, IfSome};
+ghost use Rattle.std.specs.Prelude.{◌≡◌, ◌≤◌, ◌<◌, ◌+◌, ℕ, false, length, slice_get, Some, None, Err, OnOk, IfSome};
 ghost use Rattle.rb_model.specs.Values.{plain};
-ghost use Rattle.rb_model.specs.Log.{has_end};
 ghost use Rattle.rb_machine.specs.Drafts.{with_line};
 ghost use Rattle.rb_machine.specs.Texts.{shown};
 ghost use Rattle.rb_walk.specs.Outcome.{is_left, outcome, value_of};
-ghost use Rattle.rb_walk.specs.Carries.{me_of};
 ghost use Rattle.rb_walk.specs.Collections.{Shortens, work_of};
-ghost use Rattle.rb_walk.specs.Lines.{AdvancesLine, AsksLine, GivesLines, JoinsLine};
+ghost use Rattle.rb_walk.specs.Lines.{JoinsLine};
 ghost use Rattle.rb_walk.specs.Texts.{as_text};
 
 use super::Walker;
@@ -46,6 +44,8 @@ fn depth_inside(depth: u32, begun: usize) -> Option<u32>
 }
 
 impl<'p, O: ThreadStore + Drop> Walker<'p, O> {
+    ghost use Rattle.rb_interp.specs.Texts.{AdvancesLine, AsksLine, GivesLines};
+
     /// Adds the text of the value that came to a text, as a line.
     fn add_line(&mut self, draft: &mut Draft, came: Came, at: Span) -> Came
         ensures base { self.new.base ≡ self.old.base }
@@ -73,16 +73,13 @@ impl<'p, O: ThreadStore + Drop> Walker<'p, O> {
         depth: u32,
         room: &mut [Value],
     ) -> Came
-        requires unended { has_end (O.log self.old.store).entries ≡ false }
-        requires steps { self.old.left ≤ self.old.context.steps }
         ensures base { self.new.base ≡ self.old.base }
         ensures context { self.new.context ≡ self.old.context }
         ensures room { length room.new ≡ length room.old }
         ensures less { self.new.left ≤ self.old.left }
-        ensures unended { has_end (O.log self.new.store).entries ≡ false }
         ensures kept { (i : ℕ) → i < self.old.base → slice_get room.new i ≡ slice_get room.old i }
         ensures work { is_left result ≡ false → work_of draft.new ≤ length draft.old.begun }
-        ensures came { AsksLine self.old.context.script.now self.old.context.program.now self.old.context.steps (me_of self.old.context.me) (plain value.now) draft.old draft.new at self.old.base depth self.old.left self.new.left room.old room.new (O.log self.old.store) (O.log self.new.store) (O.private self.old.store) (O.private self.new.store) result (outcome result self.new.value self.new.leave) }
+        ensures came { AsksLine (plain value.now) draft.old draft.new at self.old self.new room.old room.new depth result }
     {
         // Always a number, as depths stay far below.
         let Some(inside) = depth_inside(depth, draft.depth()) else {
@@ -109,16 +106,13 @@ impl<'p, O: ThreadStore + Drop> Walker<'p, O> {
         depth: u32,
         room: &mut [Value],
     ) -> Came
-        requires unended { has_end (O.log self.old.store).entries ≡ false }
-        requires steps { self.old.left ≤ self.old.context.steps }
         ensures base { self.new.base ≡ self.old.base }
         ensures context { self.new.context ≡ self.old.context }
         ensures room { length room.new ≡ length room.old }
         ensures less { self.new.left ≤ self.old.left }
-        ensures unended { has_end (O.log self.new.store).entries ≡ false }
         ensures kept { (i : ℕ) → i < self.old.base → slice_get room.new i ≡ slice_get room.old i }
         ensures shortens { Shortens self.old.context.program.now want.now draft.old draft.new self.old.left self.new.left result }
-        ensures came { AdvancesLine self.old.context.script.now self.old.context.program.now self.old.context.steps (me_of self.old.context.me) want.now draft.old draft.new at self.old.base depth self.old.left self.new.left room.old room.new (O.log self.old.store) (O.log self.new.store) (O.private self.old.store) (O.private self.new.store) result (outcome result self.new.value self.new.leave) }
+        ensures came { AdvancesLine want.now draft.old draft.new at self.old self.new room.old room.new depth result }
     {
         match want {
             Want::Text(value) => self.line(draft, value, at, depth, room),
@@ -130,16 +124,13 @@ impl<'p, O: ThreadStore + Drop> Walker<'p, O> {
     #[cycle(walk)]
     #[inline(never)]
     pub(super) fn lines(&mut self, array: Ref, at: Span, depth: u32, room: &mut [Value]) -> Came
-        requires unended { has_end (O.log self.old.store).entries ≡ false }
-        requires steps { self.old.left ≤ self.old.context.steps }
         ensures base { self.new.base ≡ self.old.base }
         ensures context { self.new.context ≡ self.old.context }
         ensures room { length room.new ≡ length room.old }
         ensures less { self.new.left ≤ self.old.left }
-        ensures unended { has_end (O.log self.new.store).entries ≡ false }
         ensures kept { (i : ℕ) → i < self.old.base → slice_get room.new i ≡ slice_get room.old i }
         ensures text { as_text self.old.context.program.now (outcome result self.new.value self.new.leave) ≡ outcome result self.new.value self.new.leave }
-        ensures came { GivesLines self.old.context.script.now self.old.context.program.now self.old.context.steps (me_of self.old.context.me) array at self.old.base depth self.old.left self.new.left room.old room.new (O.log self.old.store) (O.log self.new.store) (O.private self.old.store) (O.private self.new.store) (outcome result self.new.value self.new.leave) }
+        ensures came { GivesLines array at self.old self.new room.old room.new depth result }
     {
         let mut draft = Draft::new(self.context.alloc, TextForm::Lined, Value::Ref(array));
         'text: loop {

@@ -1,18 +1,15 @@
 // Methods of the script: which one a call finds, and how it is entered.
 
-ghost use Rattle.std.specs.Prelude.{◌≡◌, ◌≤◌, ◌<◌, ◌*◌, ℕ, false, List, [], ◌∷◌, length, map, slice_get, IfSome, Some, None};
+ghost use Rattle.std.specs.Prelude.{◌≡◌, ◌≤◌, ◌<◌, ◌*◌, ℕ, false, [], ◌∷◌, length, map, slice_get, IfSome, Some, None};
 ghost use Rattle.rb_model.specs.Values.{Int, plain};
 ghost use Rattle.rb_model.specs.declared.value.Value.{Value as Held};
-ghost use Rattle.rb_model.specs.Log.{has_end};
 ghost use Rattle.rb_model.specs.Acts.{SetField};
 ghost use Rattle.rb_machine.specs.Control.{On, Passing, ByName};
 ghost use Rattle.rb_code.specs.Erase.{erase};
-ghost use Rattle.rb_code.specs.Resolved.{fits, every, method_fits};
 ghost use Rattle.rb_walk.specs.Outcome.{Gave, Settles, is_left, value_of, outcome};
-ghost use Rattle.rb_walk.specs.Carries.{Carries, Keeps, Unread, unnamed, me_of};
-ghost use Rattle.rb_walk.specs.Methods.{IsTarget, HasNone, Enters, EntersWith, Invokes};
-ghost use Rattle.rb_walk.specs.Objects.{Asks};
-ghost use Rattle.rb_walk.specs.Readers.{EntersAtOnce, EntersUnread, OnlyAssigns};
+ghost use Rattle.rb_walk.specs.Carries.{unnamed, me_of};
+ghost use Rattle.rb_walk.specs.Methods.{IsTarget, HasNone};
+ghost use Rattle.rb_walk.specs.Readers.{OnlyAssigns};
 
 use super::Walker;
 use rb_builtin::Builtin;
@@ -27,6 +24,10 @@ use rb_walk::target::{
 };
 
 impl<'p, O: ThreadStore + Drop> Walker<'p, O> {
+    ghost use Rattle.rb_interp.specs.Answers.{AsksTo};
+    ghost use Rattle.rb_interp.specs.Calls.{AssignsAtOnce, Enters, EntersAtOnce, EntersUnread, EntersWith, Invokes};
+    ghost use Rattle.rb_interp.specs.Walks.{Walks, nodes_fit};
+
     /// The method of the class of `self` that a name finds.
     #[inline(always)]
     pub(super) fn own_target(&self, name: NameId) -> Option<Target<'p>>
@@ -65,15 +66,12 @@ impl<'p, O: ThreadStore + Drop> Walker<'p, O> {
         depth: u32,
         room: &mut [Value],
     ) -> Came
-        requires unended { has_end (O.log self.old.store).entries ≡ false }
-        requires steps { self.old.left ≤ self.old.context.steps }
         ensures base { self.new.base ≡ self.old.base }
         ensures context { self.new.context ≡ self.old.context }
         ensures room { length room.new ≡ length room.old }
         ensures less { self.new.left ≤ self.old.left }
-        ensures unended { has_end (O.log self.new.store).entries ≡ false }
         ensures kept { (i : ℕ) → i < self.old.base → slice_get room.new i ≡ slice_get room.old i }
-        ensures came { Enters self.old.context.script.now self.old.context.program.now self.old.context.steps (me_of self.old.context.me) (me_of me) method.now count at self.old.base depth self.old.left self.new.left room.old room.new (O.log self.old.store) (O.log self.new.store) (O.private self.old.store) (O.private self.new.store) (outcome result self.new.value self.new.leave) }
+        ensures came { Enters (me_of me) method.now count at self.old self.new room.old room.new depth result }
     {
         if count != method.params.len() {
             return self.raise(Fault::ArgumentCount, at);
@@ -105,15 +103,12 @@ impl<'p, O: ThreadStore + Drop> Walker<'p, O> {
         depth: u32,
         room: &mut [Value],
     ) -> Came
-        requires unended { has_end (O.log self.old.store).entries ≡ false }
-        requires steps { self.old.left ≤ self.old.context.steps }
         ensures base { self.new.base ≡ self.old.base }
         ensures context { self.new.context ≡ self.old.context }
         ensures room { length room.new ≡ length room.old }
         ensures less { self.new.left ≤ self.old.left }
-        ensures unended { has_end (O.log self.new.store).entries ≡ false }
         ensures kept { (i : ℕ) → i < self.old.base → slice_get room.new i ≡ slice_get room.old i }
-        ensures came { EntersWith self.old.context.script.now self.old.context.program.now self.old.context.steps (me_of self.old.context.me) (me_of (Some target.entry.object)) target.entry.method.now (plain arg) at self.old.base depth self.old.left self.new.left room.old room.new (O.log self.old.store) (O.log self.new.store) (O.private self.old.store) (O.private self.new.store) (outcome result self.new.value self.new.leave) }
+        ensures came { EntersWith (me_of (Some target.entry.object)) target.entry.method.now (plain arg) at self.old self.new room.old room.new depth result }
     {
         if self.base >= room.len() {
             return self.over(Cut::Memory);
@@ -130,14 +125,13 @@ impl<'p, O: ThreadStore + Drop> Walker<'p, O> {
         count: usize,
         depth: u32,
     ) -> Option<Came>
-        requires unended { has_end (O.log self.old.store).entries ≡ false }
         ensures none { result ≡ None → self.new ≡ self.old }
         ensures count { IfSome result (λ _. count ≡ 0) }
         ensures base { self.new.base ≡ self.old.base }
         ensures context { self.new.context ≡ self.old.context }
         ensures less { self.new.left ≤ self.old.left }
         ensures log { O.log self.new.store ≡ O.log self.old.store }
-        ensures came { IfSome result (λ came. EntersAtOnce self.old.context.steps (me_of (Some target.entry.object)) target.entry.method.now [] depth self.old.left self.new.left (O.log self.old.store) (O.log self.new.store) (O.private self.old.store) (O.private self.new.store) (outcome came self.new.value self.new.leave)) }
+        ensures came { IfSome result (λ came. EntersAtOnce (me_of (Some target.entry.object)) target.entry.method.now [] self.old self.new depth (outcome came self.new.value self.new.leave)) }
     {
         if count != 0 || self.left == 0 || depth >= MAX_DEPTH {
             return None;
@@ -152,13 +146,12 @@ impl<'p, O: ThreadStore + Drop> Walker<'p, O> {
     /// is done.
     #[inline(always)]
     fn entered_writer(&mut self, target: Target<'p>, args: &[Value], depth: u32) -> Option<Came>
-        requires unended { has_end (O.log self.old.store).entries ≡ false }
         ensures none { result ≡ None → self.new ≡ self.old }
         ensures base { self.new.base ≡ self.old.base }
         ensures context { self.new.context ≡ self.old.context }
         ensures less { self.new.left ≤ self.old.left }
         ensures log { O.log self.new.store ≡ O.log self.old.store }
-        ensures came { IfSome result (λ came. EntersAtOnce self.old.context.steps (me_of (Some target.entry.object)) target.entry.method.now (map plain args.now) depth self.old.left self.new.left (O.log self.old.store) (O.log self.new.store) (O.private self.old.store) (O.private self.new.store) (outcome came self.new.value self.new.leave)) }
+        ensures came { IfSome result (λ came. EntersAtOnce (me_of (Some target.entry.object)) target.entry.method.now (map plain args.now) self.old self.new depth (outcome came self.new.value self.new.leave)) }
     {
         let n = only_integer(args)?;
         let came = self.entered_writing(target, Came::Int(n), depth)?;
@@ -174,14 +167,13 @@ impl<'p, O: ThreadStore + Drop> Walker<'p, O> {
         came: Came,
         depth: u32,
     ) -> Option<Came>
-        requires unended { has_end (O.log self.old.store).entries ≡ false }
         ensures none { result ≡ None → self.new ≡ self.old }
         ensures base { self.new.base ≡ self.old.base }
         ensures context { self.new.context ≡ self.old.context }
         ensures less { self.new.left ≤ self.old.left }
         ensures log { O.log self.new.store ≡ O.log self.old.store }
         ensures integer { IfSome result (λ _. (v w : Held) → value_of came v ≡ value_of came w) }
-        ensures came { IfSome result (λ done. (v : Held) → EntersAtOnce self.old.context.steps (me_of (Some target.entry.object)) target.entry.method.now (value_of came v ∷ []) depth self.old.left self.new.left (O.log self.old.store) (O.log self.new.store) (O.private self.old.store) (O.private self.new.store) (outcome done self.new.value self.new.leave)) }
+        ensures came { IfSome result (λ done. (v : Held) → EntersAtOnce (me_of (Some target.entry.object)) target.entry.method.now (value_of came v ∷ []) self.old self.new depth (outcome done self.new.value self.new.leave)) }
     {
         let Came::Int(n) = came else {
             return None;
@@ -204,7 +196,6 @@ impl<'p, O: ThreadStore + Drop> Walker<'p, O> {
         came: Came,
         depth: u32,
     ) -> Option<Came>
-        requires unended { has_end (O.log self.old.store).entries ≡ false }
         requires came { is_left came ≡ false }
         ensures none { result ≡ None → self.new ≡ self.old }
         ensures base { self.new.base ≡ self.old.base }
@@ -212,7 +203,7 @@ impl<'p, O: ThreadStore + Drop> Walker<'p, O> {
         ensures less { self.new.left ≤ self.old.left }
         ensures log { O.log self.new.store ≡ O.log self.old.store }
         ensures settled { IfSome result (λ done. Settles (value_of came self.old.value) (outcome done self.new.value self.new.leave)) }
-        ensures came { IfSome result (λ done. EntersAtOnce self.old.context.steps (me_of (Some target.entry.object)) target.entry.method.now (value_of came self.old.value ∷ []) depth self.old.left self.new.left (O.log self.old.store) (O.log self.new.store) (O.private self.old.store) (O.private self.new.store) (outcome done self.new.value self.new.leave)) }
+        ensures came { IfSome result (λ done. EntersAtOnce (me_of (Some target.entry.object)) target.entry.method.now (value_of came self.old.value ∷ []) self.old self.new depth (outcome done self.new.value self.new.leave)) }
     {
         if self.left < 2 || depth >= MAX_DEPTH - 1 {
             return None;
@@ -238,7 +229,7 @@ impl<'p, O: ThreadStore + Drop> Walker<'p, O> {
         ensures context { self.new.context ≡ self.old.context }
         ensures less { self.new.left ≤ self.old.left }
         ensures log { O.log self.new.store ≡ O.log self.old.store }
-        ensures came { IfSome result (λ sum. (v : Held) → EntersAtOnce self.old.context.steps (me_of (Some target.entry.object)) target.entry.method.now (value_of came v ∷ []) depth self.old.left self.new.left (O.log self.old.store) (O.log self.new.store) (O.private self.old.store) (O.private self.new.store) (Gave (Int sum))) }
+        ensures came { IfSome result (λ sum. (v : Held) → EntersAtOnce (me_of (Some target.entry.object)) target.entry.method.now (value_of came v ∷ []) self.old self.new depth (Gave (Int sum))) }
     {
         let Came::Int(n) = came else {
             return None;
@@ -264,15 +255,12 @@ impl<'p, O: ThreadStore + Drop> Walker<'p, O> {
         depth: u32,
         room: &mut [Value],
     ) -> Came
-        requires unended { has_end (O.log self.old.store).entries ≡ false }
-        requires steps { self.old.left ≤ self.old.context.steps }
         ensures base { self.new.base ≡ self.old.base }
         ensures context { self.new.context ≡ self.old.context }
         ensures room { length room.new ≡ length room.old }
         ensures less { self.new.left ≤ self.old.left }
-        ensures unended { has_end (O.log self.new.store).entries ≡ false }
         ensures kept { (i : ℕ) → i < self.old.base → slice_get room.new i ≡ slice_get room.old i }
-        ensures came { Enters self.old.context.script.now self.old.context.program.now self.old.context.steps (me_of self.old.context.me) (me_of (Some target.entry.object)) target.entry.method.now count at self.old.base depth self.old.left self.new.left room.old room.new (O.log self.old.store) (O.log self.new.store) (O.private self.old.store) (O.private self.new.store) (outcome result self.new.value self.new.leave) }
+        ensures came { Enters (me_of (Some target.entry.object)) target.entry.method.now count at self.old self.new room.old room.new depth result }
     {
         match self.entered_writer(target, passed(room, self.base, count), depth) {
             Some(came) => came,
@@ -291,15 +279,12 @@ impl<'p, O: ThreadStore + Drop> Walker<'p, O> {
         depth: u32,
         room: &mut [Value],
     ) -> Came
-        requires unended { has_end (O.log self.old.store).entries ≡ false }
-        requires steps { self.old.left ≤ self.old.context.steps }
         ensures base { self.new.base ≡ self.old.base }
         ensures context { self.new.context ≡ self.old.context }
         ensures room { length room.new ≡ length room.old }
         ensures less { self.new.left ≤ self.old.left }
-        ensures unended { has_end (O.log self.new.store).entries ≡ false }
         ensures kept { (i : ℕ) → i < self.old.base → slice_get room.new i ≡ slice_get room.old i }
-        ensures came { EntersWith self.old.context.script.now self.old.context.program.now self.old.context.steps (me_of self.old.context.me) (me_of (Some target.entry.object)) target.entry.method.now (plain arg) at self.old.base depth self.old.left self.new.left room.old room.new (O.log self.old.store) (O.log self.new.store) (O.private self.old.store) (O.private self.new.store) (outcome result self.new.value self.new.leave) }
+        ensures came { EntersWith (me_of (Some target.entry.object)) target.entry.method.now (plain arg) at self.old self.new room.old room.new depth result }
     {
         if self.base >= room.len() {
             return self.over(Cut::Memory);
@@ -311,12 +296,11 @@ impl<'p, O: ThreadStore + Drop> Walker<'p, O> {
     /// Gives a value to an instance variable of an object.
     #[inline(always)]
     fn assign(&mut self, object: Ref, assignment: Assignment, value: &Value) -> Came
-        requires unended { has_end (O.log self.old.store).entries ≡ false }
         ensures base { self.new.base ≡ self.old.base }
         ensures left { self.new.left ≡ self.old.left }
         ensures context { self.new.context ≡ self.old.context }
         ensures log { O.log self.new.store ≡ O.log self.old.store }
-        ensures came { Asks self.old.context.steps (me_of (Some object)) (SetField assignment.field (plain value.now)) assignment.at self.old.left (O.log self.old.store) (O.private self.old.store) (O.private self.new.store) (outcome result self.new.value self.new.leave) }
+        ensures came { AsksTo (me_of (Some object)) (SetField assignment.field (plain value.now)) assignment.at self.old self.new result }
     {
         let Value::Int(n) = value else {
             return self.assign_any(object, assignment, value);
@@ -331,12 +315,11 @@ impl<'p, O: ThreadStore + Drop> Walker<'p, O> {
     /// The same of any value.
     #[inline(never)]
     fn assign_any(&mut self, object: Ref, assignment: Assignment, value: &Value) -> Came
-        requires unended { has_end (O.log self.old.store).entries ≡ false }
         ensures base { self.new.base ≡ self.old.base }
         ensures left { self.new.left ≡ self.old.left }
         ensures context { self.new.context ≡ self.old.context }
         ensures log { O.log self.new.store ≡ O.log self.old.store }
-        ensures came { Asks self.old.context.steps (me_of (Some object)) (SetField assignment.field (plain value.now)) assignment.at self.old.left (O.log self.old.store) (O.private self.old.store) (O.private self.new.store) (outcome result self.new.value self.new.leave) }
+        ensures came { AsksTo (me_of (Some object)) (SetField assignment.field (plain value.now)) assignment.at self.old self.new result }
     {
         let Ok(copy) = value.share() else {
             return self.over(Cut::Memory);
@@ -352,7 +335,6 @@ impl<'p, O: ThreadStore + Drop> Walker<'p, O> {
         args: &[Value],
         depth: u32,
     ) -> Came
-        requires unended { has_end (O.log self.old.store).entries ≡ false }
         requires assigns { OnlyAssigns (length args.now) method.now }
         requires steps { 2 * length method.now.body ≤ self.old.left }
         requires depth { depth < 999 }
@@ -360,7 +342,7 @@ impl<'p, O: ThreadStore + Drop> Walker<'p, O> {
         ensures context { self.new.context ≡ self.old.context }
         ensures less { self.new.left ≤ self.old.left }
         ensures log { O.log self.new.store ≡ O.log self.old.store }
-        ensures came { EntersUnread self.old.context.steps (me_of (Some object)) method.now (map plain args.now) depth self.old.left self.new.left (O.log self.old.store) (O.log self.new.store) (O.private self.old.store) (O.private self.new.store) result (outcome result self.new.value self.new.leave) }
+        ensures came { AssignsAtOnce (me_of (Some object)) method.now (map plain args.now) self.old self.new depth result }
     {
         let statements = method.body.as_slice();
         'statements: for code in statements {
@@ -386,13 +368,12 @@ impl<'p, O: ThreadStore + Drop> Walker<'p, O> {
         args: &[Value],
         depth: u32,
     ) -> Option<Came>
-        requires unended { has_end (O.log self.old.store).entries ≡ false }
         ensures none { result ≡ None → self.new ≡ self.old }
         ensures base { self.new.base ≡ self.old.base }
         ensures context { self.new.context ≡ self.old.context }
         ensures less { self.new.left ≤ self.old.left }
         ensures log { O.log self.new.store ≡ O.log self.old.store }
-        ensures came { IfSome result (λ came. EntersUnread self.old.context.steps (me_of (Some object)) method.now (map plain args.now) depth self.old.left self.new.left (O.log self.old.store) (O.log self.new.store) (O.private self.old.store) (O.private self.new.store) came (outcome came self.new.value self.new.leave)) }
+        ensures came { IfSome result (λ came. AssignsAtOnce (me_of (Some object)) method.now (map plain args.now) self.old self.new depth came) }
     {
         if self.left / 2 < method.body.len() as u64 || depth >= MAX_DEPTH - 1 {
             return None;
@@ -416,15 +397,12 @@ impl<'p, O: ThreadStore + Drop> Walker<'p, O> {
         depth: u32,
         room: &mut [Value],
     ) -> Came
-        requires unended { has_end (O.log self.old.store).entries ≡ false }
-        requires steps { self.old.left ≤ self.old.context.steps }
         ensures base { self.new.base ≡ self.old.base }
         ensures context { self.new.context ≡ self.old.context }
         ensures room { length room.new ≡ length room.old }
         ensures less { self.new.left ≤ self.old.left }
-        ensures unended { has_end (O.log self.new.store).entries ≡ false }
         ensures kept { (i : ℕ) → i < self.old.base → slice_get room.new i ≡ slice_get room.old i }
-        ensures came { Unread result (outcome result self.new.value self.new.leave) (Enters self.old.context.script.now self.old.context.program.now self.old.context.steps (me_of self.old.context.me) (me_of (Some object)) method.now count at self.old.base depth self.old.left self.new.left room.old room.new (O.log self.old.store) (O.log self.new.store) (O.private self.old.store) (O.private self.new.store)) }
+        ensures came { EntersUnread (me_of (Some object)) method.now count at self.old self.new room.old room.new depth result }
     {
         match self.entered_assigning(object, method, passed(room, self.base, count), depth) {
             Some(came) => came,
@@ -445,15 +423,12 @@ impl<'p, O: ThreadStore + Drop> Walker<'p, O> {
         depth: u32,
         room: &mut [Value],
     ) -> Came
-        requires unended { has_end (O.log self.old.store).entries ≡ false }
-        requires steps { self.old.left ≤ self.old.context.steps }
         ensures base { self.new.base ≡ self.old.base }
         ensures context { self.new.context ≡ self.old.context }
         ensures room { length room.new ≡ length room.old }
         ensures less { self.new.left ≤ self.old.left }
-        ensures unended { has_end (O.log self.new.store).entries ≡ false }
         ensures kept { (i : ℕ) → i < self.old.base → slice_get room.new i ≡ slice_get room.old i }
-        ensures came { Invokes self.old.context.script.now self.old.context.program.now self.old.context.steps (me_of self.old.context.me) (plain receiver.now) method name count at self.old.base depth self.old.left self.new.left room.old room.new (O.log self.old.store) (O.log self.new.store) (O.private self.old.store) (O.private self.new.store) (outcome result self.new.value self.new.leave) }
+        ensures came { Invokes (plain receiver.now) method name count at self.old self.new room.old room.new depth result }
     {
         match target_of(self.context.script, receiver, name) {
             Some(target) => match self.entered_reader(target, count, depth) {
@@ -476,16 +451,12 @@ impl<'p, O: ThreadStore + Drop> Walker<'p, O> {
         depth: u32,
         room: &mut [Value],
     ) -> Came
-        requires unended { has_end (O.log self.old.store).entries ≡ false }
-        requires steps { self.old.left ≤ self.old.context.steps }
         requires target { IsTarget self.old.context.script.now (me_of self.old.context.me) name target.object target.method.now }
         ensures base { self.new.base ≡ self.old.base }
         ensures context { self.new.context ≡ self.old.context }
         ensures room { length room.new ≡ length room.old }
         ensures less { self.new.left ≤ self.old.left }
-        ensures unended { has_end (O.log self.new.store).entries ≡ false }
-        ensures kept { Keeps self.old.context.script.now self.old.context.program.now (λ S. every (map (fits S) args.now)) self.old.base room.old room.new }
-        ensures came { Carries self.old.context.script.now self.old.context.program.now self.old.context.steps (me_of self.old.context.me) (λ S. every (map (fits S) args.now)) (λ S k sc d n. On (Passing (ByName name) [] (map erase args.now) at) k sc d n) self.old.base depth self.old.left self.new.left room.old room.new (O.log self.old.store) (O.log self.new.store) (O.private self.old.store) (O.private self.new.store) (outcome result self.new.value self.new.leave) }
+        ensures came { Walks (nodes_fit args.now) (λ S k sc d n. On (Passing (ByName name) [] (map erase args.now) at) k sc d n) self.old self.new room.old room.new depth result }
     {
         let before = self.base;
         let came = self.arguments(args, depth, room);
@@ -513,15 +484,11 @@ impl<'p, O: ThreadStore + Drop> Walker<'p, O> {
         depth: u32,
         room: &mut [Value],
     ) -> Came
-        requires unended { has_end (O.log self.old.store).entries ≡ false }
-        requires steps { self.old.left ≤ self.old.context.steps }
         ensures base { self.new.base ≡ self.old.base }
         ensures context { self.new.context ≡ self.old.context }
         ensures room { length room.new ≡ length room.old }
         ensures less { self.new.left ≤ self.old.left }
-        ensures unended { has_end (O.log self.new.store).entries ≡ false }
-        ensures kept { Keeps self.old.context.script.now self.old.context.program.now (unnamed name (λ S. every (map (fits S) args.now))) self.old.base room.old room.new }
-        ensures came { Carries self.old.context.script.now self.old.context.program.now self.old.context.steps (me_of self.old.context.me) (unnamed name (λ S. every (map (fits S) args.now))) (λ S k sc d n. On (Passing (ByName name) [] (map erase args.now) at) k sc d n) self.old.base depth self.old.left self.new.left room.old room.new (O.log self.old.store) (O.log self.new.store) (O.private self.old.store) (O.private self.new.store) (outcome result self.new.value self.new.leave) }
+        ensures came { Walks (unnamed name (nodes_fit args.now)) (λ S k sc d n. On (Passing (ByName name) [] (map erase args.now) at) k sc d n) self.old self.new room.old room.new depth result }
     {
         if let Some(target) = self.own_target(name) {
             return self.own(target, name, args, at, depth, room);

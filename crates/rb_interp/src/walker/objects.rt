@@ -1,17 +1,15 @@
 // Objects: `self`, instance variables and new objects.
 
-ghost use Rattle.std.specs.Prelude.{◌≡◌, ◌≤◌, ◌<◌, ℕ, false, List, [], ◌∷◌, length, map, slice_get, Some, None, IfErr, IfSome};
-ghost use Rattle.rb_model.specs.Values.{Int, plain};
-ghost use Rattle.rb_model.specs.Log.{has_end};
+ghost use Rattle.std.specs.Prelude.{◌≡◌, ◌≤◌, ◌<◌, ℕ, false, [], length, map, slice_get, Some, None, IfErr, IfSome};
+ghost use Rattle.rb_model.specs.Values.{Int};
 ghost use Rattle.rb_model.specs.Doing.{doing};
 ghost use Rattle.rb_model.specs.Acts.{At, GetField};
-ghost use Rattle.rb_machine.specs.Control.{On, Then, Step, Eval, Passing, Creating, OfField};
+ghost use Rattle.rb_machine.specs.Control.{On, Step, Passing, Creating, OfField};
 ghost use Rattle.rb_machine.specs.Call.{read_place};
 ghost use Rattle.rb_code.specs.Erase.{erase};
-ghost use Rattle.rb_code.specs.Resolved.{fits, every};
 ghost use Rattle.rb_walk.specs.Outcome.{Gave, IsOver, Settles, fetched, is_left, value_of, outcome};
-ghost use Rattle.rb_walk.specs.Carries.{Carries, Keeps, made_by, me_of};
-ghost use Rattle.rb_walk.specs.Objects.{Asks, Fields, Creates, UpdatesField, WritesField};
+ghost use Rattle.rb_walk.specs.Carries.{made_by, me_of};
+ghost use Rattle.rb_walk.specs.Objects.{Asks, Fields, UpdatesField};
 
 use super::Walker;
 use rb_code::Code;
@@ -22,6 +20,10 @@ use rb_walk::came::{Came, Cut, immediate, is_left, is_told};
 use rb_walk::leaf::small;
 
 impl<'p, O: ThreadStore + Drop> Walker<'p, O> {
+    ghost use Rattle.rb_interp.specs.Answers.{AsksTo, WritesField};
+    ghost use Rattle.rb_interp.specs.Calls.{Creates};
+    ghost use Rattle.rb_interp.specs.Walks.{Kept, Walks, WalksTo, at_node_then, node_fits, nodes_fit};
+
     /// Gives `self`.
     pub(super) fn give_self(&mut self) -> Came
         ensures gives { outcome result self.new.value self.new.leave ≡ Gave (me_of self.old.context.me) }
@@ -39,12 +41,11 @@ impl<'p, O: ThreadStore + Drop> Walker<'p, O> {
     /// Asks something of a thing. A thing that is not the thread's own would be shared, and nothing is yet.
     #[inline(always)]
     pub(super) fn ask(&mut self, thing: Ref, act: Act, at: Span) -> Came
-        requires unended { has_end (O.log self.old.store).entries ≡ false }
         ensures base { self.new.base ≡ self.old.base }
         ensures left { self.new.left ≡ self.old.left }
         ensures context { self.new.context ≡ self.old.context }
         ensures log { O.log self.new.store ≡ O.log self.old.store }
-        ensures came { Asks self.old.context.steps (me_of (Some thing)) (doing act) at self.old.left (O.log self.old.store) (O.private self.old.store) (O.private self.new.store) (outcome result self.new.value self.new.leave) }
+        ensures came { AsksTo (me_of (Some thing)) (doing act) at self.old self.new result }
     {
         if !self.store.holds(thing.id) {
             return self.over(Cut::Memory);
@@ -63,7 +64,6 @@ impl<'p, O: ThreadStore + Drop> Walker<'p, O> {
     // It stands beside `ask`, since a value that goes from one to the other takes more instructions than one that is kept where it comes.
     #[inline(always)]
     pub(super) fn fetch(&mut self, thing: Ref, act: Act, at: Span) -> Result<Value, Came>
-        requires unended { has_end (O.log self.old.store).entries ≡ false }
         ensures base { self.new.base ≡ self.old.base }
         ensures left { self.new.left ≡ self.old.left }
         ensures context { self.new.context ≡ self.old.context }
@@ -87,12 +87,11 @@ impl<'p, O: ThreadStore + Drop> Walker<'p, O> {
     /// The same apart, where what is asked is known only then.
     #[inline(never)]
     pub(super) fn ask_apart(&mut self, thing: Ref, act: Act, at: Span) -> Came
-        requires unended { has_end (O.log self.old.store).entries ≡ false }
         ensures base { self.new.base ≡ self.old.base }
         ensures left { self.new.left ≡ self.old.left }
         ensures context { self.new.context ≡ self.old.context }
         ensures log { O.log self.new.store ≡ O.log self.old.store }
-        ensures came { Asks self.old.context.steps (me_of (Some thing)) (doing act) at self.old.left (O.log self.old.store) (O.private self.old.store) (O.private self.new.store) (outcome result self.new.value self.new.leave) }
+        ensures came { AsksTo (me_of (Some thing)) (doing act) at self.old self.new result }
     {
         self.ask(thing, act, at)
     }
@@ -100,12 +99,11 @@ impl<'p, O: ThreadStore + Drop> Walker<'p, O> {
     /// Asks an array for the element at an index.
     #[inline(always)]
     pub(super) fn element(&mut self, array: Ref, index: i64, at: Span) -> Came
-        requires unended { has_end (O.log self.old.store).entries ≡ false }
         ensures base { self.new.base ≡ self.old.base }
         ensures left { self.new.left ≡ self.old.left }
         ensures context { self.new.context ≡ self.old.context }
         ensures log { O.log self.new.store ≡ O.log self.old.store }
-        ensures came { Asks self.old.context.steps (me_of (Some array)) (At index) at self.old.left (O.log self.old.store) (O.private self.old.store) (O.private self.new.store) (outcome result self.new.value self.new.leave) }
+        ensures came { AsksTo (me_of (Some array)) (At index) at self.old self.new result }
     {
         let element = self.store.immediate_element(array.id, index);
         if is_told(element) {
@@ -117,12 +115,11 @@ impl<'p, O: ThreadStore + Drop> Walker<'p, O> {
     /// The same of any element.
     #[inline(never)]
     fn element_apart(&mut self, array: Ref, index: i64, at: Span) -> Came
-        requires unended { has_end (O.log self.old.store).entries ≡ false }
         ensures base { self.new.base ≡ self.old.base }
         ensures left { self.new.left ≡ self.old.left }
         ensures context { self.new.context ≡ self.old.context }
         ensures log { O.log self.new.store ≡ O.log self.old.store }
-        ensures came { Asks self.old.context.steps (me_of (Some array)) (At index) at self.old.left (O.log self.old.store) (O.private self.old.store) (O.private self.new.store) (outcome result self.new.value self.new.leave) }
+        ensures came { AsksTo (me_of (Some array)) (At index) at self.old self.new result }
     {
         match self.store.element(array.id, index) {
             Some(value) => self.hand(value),
@@ -133,12 +130,11 @@ impl<'p, O: ThreadStore + Drop> Walker<'p, O> {
     /// An instance variable of `self`.
     #[inline(always)]
     pub(super) fn field(&mut self, name: NameId, at: Span) -> Came
-        requires unended { has_end (O.log self.old.store).entries ≡ false }
         ensures base { self.new.base ≡ self.old.base }
         ensures left { self.new.left ≡ self.old.left }
         ensures context { self.new.context ≡ self.old.context }
         ensures log { O.log self.new.store ≡ O.log self.old.store }
-        ensures came { Asks self.old.context.steps (me_of self.old.context.me) (GetField name) at self.old.left (O.log self.old.store) (O.private self.old.store) (O.private self.new.store) (outcome result self.new.value self.new.leave) }
+        ensures came { AsksTo (me_of self.old.context.me) (GetField name) at self.old self.new result }
     {
         match self.context.me {
             None => self.raise(Fault::NoMethod, at),
@@ -149,12 +145,11 @@ impl<'p, O: ThreadStore + Drop> Walker<'p, O> {
     /// The same apart.
     #[inline(never)]
     pub(super) fn field_apart(&mut self, name: NameId, at: Span) -> Came
-        requires unended { has_end (O.log self.old.store).entries ≡ false }
         ensures base { self.new.base ≡ self.old.base }
         ensures left { self.new.left ≡ self.old.left }
         ensures context { self.new.context ≡ self.old.context }
         ensures log { O.log self.new.store ≡ O.log self.old.store }
-        ensures came { Asks self.old.context.steps (me_of self.old.context.me) (GetField name) at self.old.left (O.log self.old.store) (O.private self.old.store) (O.private self.new.store) (outcome result self.new.value self.new.leave) }
+        ensures came { AsksTo (me_of self.old.context.me) (GetField name) at self.old self.new result }
     {
         self.field(name, at)
     }
@@ -162,13 +157,12 @@ impl<'p, O: ThreadStore + Drop> Walker<'p, O> {
     /// Writes the value that came to an instance variable of `self`, and gives it on.
     #[inline(always)]
     pub(super) fn write_field(&mut self, name: NameId, came: Came, at: Span) -> Came
-        requires unended { has_end (O.log self.old.store).entries ≡ false }
         requires came { is_left came ≡ false }
         ensures base { self.new.base ≡ self.old.base }
         ensures left { self.new.left ≡ self.old.left }
         ensures context { self.new.context ≡ self.old.context }
         ensures log { O.log self.new.store ≡ O.log self.old.store }
-        ensures came { WritesField self.old.context.steps (me_of self.old.context.me) name (value_of came self.old.value) at self.old.left (O.log self.old.store) (O.private self.old.store) (O.private self.new.store) (outcome result self.new.value self.new.leave) }
+        ensures came { WritesField (me_of self.old.context.me) name (value_of came self.old.value) at self.old self.new result }
     {
         let Some(object) = self.context.me else {
             return self.raise(Fault::NoMethod, at);
@@ -182,12 +176,11 @@ impl<'p, O: ThreadStore + Drop> Walker<'p, O> {
     /// Writes an integer to an instance variable of an object, and gives it on.
     #[inline(always)]
     pub(super) fn write_integer(&mut self, object: Ref, name: NameId, n: i64, at: Span) -> Came
-        requires unended { has_end (O.log self.old.store).entries ≡ false }
         ensures base { self.new.base ≡ self.old.base }
         ensures left { self.new.left ≡ self.old.left }
         ensures context { self.new.context ≡ self.old.context }
         ensures log { O.log self.new.store ≡ O.log self.old.store }
-        ensures came { WritesField self.old.context.steps (me_of (Some object)) name (Int n) at self.old.left (O.log self.old.store) (O.private self.old.store) (O.private self.new.store) (outcome result self.new.value self.new.leave) }
+        ensures came { WritesField (me_of (Some object)) name (Int n) at self.old self.new result }
     {
         let done = self.ask(object, Act::SetField(name, Value::Int(n)), at);
         if is_left(done) {
@@ -199,14 +192,13 @@ impl<'p, O: ThreadStore + Drop> Walker<'p, O> {
     /// Writes any value that came to an instance variable of an object, and gives it on.
     #[inline(never)]
     pub(super) fn write_value(&mut self, object: Ref, name: NameId, came: Came, at: Span) -> Came
-        requires unended { has_end (O.log self.old.store).entries ≡ false }
         requires came { is_left came ≡ false }
         ensures base { self.new.base ≡ self.old.base }
         ensures left { self.new.left ≡ self.old.left }
         ensures context { self.new.context ≡ self.old.context }
         ensures log { O.log self.new.store ≡ O.log self.old.store }
         ensures settled { Settles (value_of came self.old.value) (outcome result self.new.value self.new.leave) }
-        ensures came { WritesField self.old.context.steps (me_of (Some object)) name (value_of came self.old.value) at self.old.left (O.log self.old.store) (O.private self.old.store) (O.private self.new.store) (outcome result self.new.value self.new.leave) }
+        ensures came { WritesField (me_of (Some object)) name (value_of came self.old.value) at self.old self.new result }
     {
         let value = self.take(came);
         let Ok(copy) = value.share() else {
@@ -229,15 +221,12 @@ impl<'p, O: ThreadStore + Drop> Walker<'p, O> {
         depth: u32,
         room: &mut [Value],
     ) -> Came
-        requires unended { has_end (O.log self.old.store).entries ≡ false }
-        requires steps { self.old.left ≤ self.old.context.steps }
         ensures base { self.new.base ≡ self.old.base }
         ensures context { self.new.context ≡ self.old.context }
         ensures room { length room.new ≡ length room.old }
         ensures less { self.new.left ≤ self.old.left }
-        ensures unended { has_end (O.log self.new.store).entries ≡ false }
-        ensures kept { Keeps self.old.context.script.now self.old.context.program.now (λ S. fits S value.now) self.old.base room.old room.new }
-        ensures came { (step : Step) → Fields name at step → Carries self.old.context.script.now self.old.context.program.now self.old.context.steps (me_of self.old.context.me) (λ S. fits S value.now) (λ S k sc d n. On (Eval (erase value.now)) (Then step ∷ k) sc d n) self.old.base depth self.old.left self.new.left room.old room.new (O.log self.old.store) (O.log self.new.store) (O.private self.old.store) (O.private self.new.store) (outcome result self.new.value self.new.leave) }
+        ensures kept { Kept (node_fits value.now) self.old room.old room.new }
+        ensures came { (step : Step) → Fields name at step → WalksTo (node_fits value.now) (at_node_then value.now (λ S. step)) self.old self.new room.old room.new depth result }
     {
         let came = self.evaluate_leaf(value, depth, room);
         if is_left(came) {
@@ -289,15 +278,11 @@ impl<'p, O: ThreadStore + Drop> Walker<'p, O> {
         depth: u32,
         room: &mut [Value],
     ) -> Came
-        requires unended { has_end (O.log self.old.store).entries ≡ false }
-        requires steps { self.old.left ≤ self.old.context.steps }
         ensures base { self.new.base ≡ self.old.base }
         ensures context { self.new.context ≡ self.old.context }
         ensures room { length room.new ≡ length room.old }
         ensures less { self.new.left ≤ self.old.left }
-        ensures unended { has_end (O.log self.new.store).entries ≡ false }
-        ensures kept { Keeps self.old.context.script.now self.old.context.program.now (λ S. fits S value.now) self.old.base room.old room.new }
-        ensures came { Carries self.old.context.script.now self.old.context.program.now self.old.context.steps (me_of self.old.context.me) (λ S. fits S value.now) (λ S k sc d n. read_place S (OfField name) op (erase value.now) at k sc d n) self.old.base depth self.old.left self.new.left room.old room.new (O.log self.old.store) (O.log self.new.store) (O.private self.old.store) (O.private self.new.store) (outcome result self.new.value self.new.leave) }
+        ensures came { Walks (node_fits value.now) (λ S k sc d n. read_place S (OfField name) op (erase value.now) at k sc d n) self.old self.new room.old room.new depth result }
     {
         let current = self.field(name, at);
         if is_left(current) {
@@ -338,15 +323,11 @@ impl<'p, O: ThreadStore + Drop> Walker<'p, O> {
         depth: u32,
         room: &mut [Value],
     ) -> Came
-        requires unended { has_end (O.log self.old.store).entries ≡ false }
-        requires steps { self.old.left ≤ self.old.context.steps }
         ensures base { self.new.base ≡ self.old.base }
         ensures context { self.new.context ≡ self.old.context }
         ensures room { length room.new ≡ length room.old }
         ensures less { self.new.left ≤ self.old.left }
-        ensures unended { has_end (O.log self.new.store).entries ≡ false }
-        ensures kept { Keeps self.old.context.script.now self.old.context.program.now (made_by class first name (λ S. every (map (fits S) args.now))) self.old.base room.old room.new }
-        ensures came { Carries self.old.context.script.now self.old.context.program.now self.old.context.steps (me_of self.old.context.me) (made_by class first name (λ S. every (map (fits S) args.now))) (λ S k sc d n. On (Passing (Creating name) [] (map erase args.now) at) k sc d n) self.old.base depth self.old.left self.new.left room.old room.new (O.log self.old.store) (O.log self.new.store) (O.private self.old.store) (O.private self.new.store) (outcome result self.new.value self.new.leave) }
+        ensures came { Walks (made_by class first name (nodes_fit args.now)) (λ S k sc d n. On (Passing (Creating name) [] (map erase args.now) at) k sc d n) self.old self.new room.old room.new depth result }
     {
         let before = self.base;
         let came = self.arguments(args, depth, room);
@@ -372,16 +353,13 @@ impl<'p, O: ThreadStore + Drop> Walker<'p, O> {
         depth: u32,
         room: &mut [Value],
     ) -> Came
-        requires unended { has_end (O.log self.old.store).entries ≡ false }
-        requires steps { self.old.left ≤ self.old.context.steps }
         requires class { object.sort ≡ Sort.Object class }
         ensures base { self.new.base ≡ self.old.base }
         ensures context { self.new.context ≡ self.old.context }
         ensures room { length room.new ≡ length room.old }
         ensures less { self.new.left ≤ self.old.left }
-        ensures unended { has_end (O.log self.new.store).entries ≡ false }
         ensures kept { (i : ℕ) → i < self.old.base → slice_get room.new i ≡ slice_get room.old i }
-        ensures came { Creates self.old.context.script.now self.old.context.program.now self.old.context.steps (me_of self.old.context.me) (me_of (Some object)) class first count at self.old.base depth self.old.left self.new.left room.old room.new (O.log self.old.store) (O.log self.new.store) (O.private self.old.store) (O.private self.new.store) (outcome result self.new.value self.new.leave) }
+        ensures came { Creates (me_of (Some object)) class first count at self.old self.new room.old room.new depth result }
     {
         let Some(number) = first else {
             if count > 0 {

@@ -1,15 +1,9 @@
 // Operands that are integers of objects, read where they stand, and operations over them.
 
 ghost use Rattle.std.specs.Prelude.{◌≡◌, ◌≤◌, false, List, length, IfSome};
-ghost use Rattle.rb_tree.specs.declared.node.Node.{out-Node};
 ghost use Rattle.rb_model.specs.declared.value.Value.{Value as Held};
-ghost use Rattle.rb_model.specs.Log.{has_end};
-ghost use Rattle.rb_machine.specs.Begin.{begin};
 ghost use Rattle.rb_builtin.specs.Integers as integers;
-ghost use Rattle.rb_code.specs.Erase.{erase};
-ghost use Rattle.rb_code.specs.Resolved.{fits};
-ghost use Rattle.rb_walk.specs.Outcome.{outcome};
-ghost use Rattle.rb_walk.specs.Carries.{Carries, Keeps, me_of};
+ghost use Rattle.rb_walk.specs.Carries.{me_of};
 ghost use Rattle.rb_walk.specs.Answers.{steps_of};
 ghost use Rattle.rb_walk.specs.Readers.{Fetches, HasInteger, IsFetched};
 
@@ -24,6 +18,8 @@ use rb_walk::leaf::{computed, is_long, local_at, operation_by, steps_of};
 use rb_walk::target::reader_of;
 
 impl<'p, O: ThreadStore + Drop> Walker<'p, O> {
+    ghost use Rattle.rb_interp.specs.Walks.{Walks, begun, node_fits};
+
     /// The integer that an instance variable of an object has. Nothing is done for it.
     #[inline(always)]
     fn integer_of(&self, object: Ref, field: NameId) -> Option<i64>
@@ -133,15 +129,11 @@ impl<'p, O: ThreadStore + Drop> Walker<'p, O> {
         depth: u32,
         room: &mut [Value],
     ) -> Came
-        requires unended { has_end (O.log self.old.store).entries ≡ false }
-        requires steps { self.old.left ≤ self.old.context.steps }
         ensures base { self.new.base ≡ self.old.base }
         ensures context { self.new.context ≡ self.old.context }
         ensures room { length room.new ≡ length room.old }
         ensures less { self.new.left ≤ self.old.left }
-        ensures unended { has_end (O.log self.new.store).entries ≡ false }
-        ensures kept { Keeps self.old.context.script.now self.old.context.program.now (λ S. fits S code.now) self.old.base room.old room.new }
-        ensures came { Carries self.old.context.script.now self.old.context.program.now self.old.context.steps (me_of self.old.context.me) (λ S. fits S code.now) (λ S k sc d n. begin S (out-Node (erase code.now)) k sc d n) self.old.base depth self.old.left self.new.left room.old room.new (O.log self.old.store) (O.log self.new.store) (O.private self.old.store) (O.private self.new.store) (outcome result self.new.value self.new.leave) }
+        ensures came { Walks (node_fits code.now) (begun code.now) self.old self.new room.old room.new depth result }
     {
         match code {
             Code::Operate(method, _, left, right, at) => {

@@ -1,14 +1,11 @@
 // Texts of values, for which the `to_s` of their class may be asked.
 
 ghost use Rattle.std.specs.Prelude.{◌≡◌, ◌≤◌, ◌<◌, ◌+◌, ◌++◌, ℕ, false, length, slice_get, Err, OnOk};
-ghost use Rattle.rb_model.specs.Log.{has_end};
 ghost use Rattle.rb_model.specs.Values.{plain};
 ghost use Rattle.rb_machine.specs.Texts.{max_bytes, shown, styled};
 ghost use Rattle.rb_render.specs.Forms.{style_of};
 ghost use Rattle.rb_walk.specs.Outcome.{is_left, value_of, outcome};
-ghost use Rattle.rb_walk.specs.Carries.{me_of};
-ghost use Rattle.rb_walk.specs.Lines.{JoinsText, WritesArray, WritesOne};
-ghost use Rattle.rb_walk.specs.Texts.{Tells, TellsSlot, WritesTexts};
+ghost use Rattle.rb_walk.specs.Lines.{JoinsText};
 
 use super::Walker;
 use rb_model::{Ref, ThreadStore, Value};
@@ -34,20 +31,19 @@ fn add_taken(
 }
 
 impl<'p, O: ThreadStore + Drop> Walker<'p, O> {
+    ghost use Rattle.rb_interp.specs.Texts.{Tells, TellsSlot, WritesArray, WritesOne, WritesTexts};
+
     /// A value that came, as its text is told: what `to_s` of its class answers, where that is a string, and else the value as it is.
     #[cycle(walk)]
     #[inline(never)]
     pub(super) fn told(&mut self, came: Came, at: Span, depth: u32, room: &mut [Value]) -> Came
-        requires unended { has_end (O.log self.old.store).entries ≡ false }
-        requires steps { self.old.left ≤ self.old.context.steps }
         requires came { is_left came ≡ false }
         ensures base { self.new.base ≡ self.old.base }
         ensures context { self.new.context ≡ self.old.context }
         ensures room { length room.new ≡ length room.old }
         ensures less { self.new.left ≤ self.old.left }
-        ensures unended { has_end (O.log self.new.store).entries ≡ false }
         ensures kept { (i : ℕ) → i < self.old.base → slice_get room.new i ≡ slice_get room.old i }
-        ensures came { Tells self.old.context.script.now self.old.context.program.now self.old.context.steps (me_of self.old.context.me) (value_of came self.old.value) at self.old.base depth self.old.left self.new.left room.old room.new (O.log self.old.store) (O.log self.new.store) (O.private self.old.store) (O.private self.new.store) (outcome result self.new.value self.new.leave) }
+        ensures came { Tells (value_of came self.old.value) at self.old self.new room.old room.new depth result }
     {
         let Came::Other = came else {
             return came;
@@ -68,15 +64,12 @@ impl<'p, O: ThreadStore + Drop> Walker<'p, O> {
     /// The value of a slot, as its text is told.
     #[cycle(walk)]
     pub(super) fn told_at(&mut self, slot: usize, at: Span, depth: u32, room: &mut [Value]) -> Came
-        requires unended { has_end (O.log self.old.store).entries ≡ false }
-        requires steps { self.old.left ≤ self.old.context.steps }
         ensures base { self.new.base ≡ self.old.base }
         ensures context { self.new.context ≡ self.old.context }
         ensures room { length room.new ≡ length room.old }
         ensures less { self.new.left ≤ self.old.left }
-        ensures unended { has_end (O.log self.new.store).entries ≡ false }
         ensures kept { (i : ℕ) → i < self.old.base → slice_get room.new i ≡ slice_get room.old i }
-        ensures came { TellsSlot self.old.context.script.now self.old.context.program.now self.old.context.steps (me_of self.old.context.me) slot at self.old.base depth self.old.left self.new.left room.old room.new (O.log self.old.store) (O.log self.new.store) (O.private self.old.store) (O.private self.new.store) (outcome result self.new.value self.new.leave) }
+        ensures came { TellsSlot slot at self.old self.new room.old room.new depth result }
     {
         let Some(value) = room.get(slot) else {
             return self.over(Cut::Memory);
@@ -99,15 +92,12 @@ impl<'p, O: ThreadStore + Drop> Walker<'p, O> {
         depth: u32,
         room: &mut [Value],
     ) -> Came
-        requires unended { has_end (O.log self.old.store).entries ≡ false }
-        requires steps { self.old.left ≤ self.old.context.steps }
         ensures base { self.new.base ≡ self.old.base }
         ensures context { self.new.context ≡ self.old.context }
         ensures room { length room.new ≡ length room.old }
         ensures less { self.new.left ≤ self.old.left }
-        ensures unended { has_end (O.log self.new.store).entries ≡ false }
         ensures kept { (i : ℕ) → i < self.old.base → slice_get room.new i ≡ slice_get room.old i }
-        ensures came { WritesTexts self.old.context.script.now self.old.context.program.now self.old.context.steps (me_of self.old.context.me) (style_of style) self.old.base count at depth self.old.left self.new.left room.old room.new (O.log self.old.store) (O.log self.new.store) (O.private self.old.store) (O.private self.new.store) (outcome result self.new.value self.new.leave) }
+        ensures came { WritesTexts (style_of style) self.old.base count at self.old self.new room.old room.new depth result }
     {
         let first = self.base;
         if room.len() < first || room.len() - first < count {
@@ -130,17 +120,14 @@ impl<'p, O: ThreadStore + Drop> Walker<'p, O> {
         depth: u32,
         room: &mut [Value],
     ) -> Came
-        requires unended { has_end (O.log self.old.store).entries ≡ false }
-        requires steps { self.old.left ≤ self.old.context.steps }
         requires behind { self.old.base ≡ first + count }
         requires within { first + count ≤ length room.old }
         ensures base { self.new.base ≡ self.old.base }
         ensures context { self.new.context ≡ self.old.context }
         ensures room { length room.new ≡ length room.old }
         ensures less { self.new.left ≤ self.old.left }
-        ensures unended { has_end (O.log self.new.store).entries ≡ false }
         ensures kept { (i : ℕ) → i < self.old.base → slice_get room.new i ≡ slice_get room.old i }
-        ensures came { WritesTexts self.old.context.script.now self.old.context.program.now self.old.context.steps (me_of self.old.context.me) (style_of style) first count at depth self.old.left self.new.left room.old room.new (O.log self.old.store) (O.log self.new.store) (O.private self.old.store) (O.private self.new.store) (outcome result self.new.value self.new.leave) }
+        ensures came { WritesTexts (style_of style) first count at self.old self.new room.old room.new depth result }
     {
         let mut bytes = Vec::new(self.context.alloc);
         'values: for index in 0..count {
@@ -167,16 +154,13 @@ impl<'p, O: ThreadStore + Drop> Walker<'p, O> {
         depth: u32,
         room: &mut [Value],
     ) -> Came
-        requires unended { has_end (O.log self.old.store).entries ≡ false }
-        requires steps { self.old.left ≤ self.old.context.steps }
         ensures base { self.new.base ≡ self.old.base }
         ensures context { self.new.context ≡ self.old.context }
         ensures room { length room.new ≡ length room.old }
         ensures less { self.new.left ≤ self.old.left }
-        ensures unended { has_end (O.log self.new.store).entries ≡ false }
         ensures kept { (i : ℕ) → i < self.old.base → slice_get room.new i ≡ slice_get room.old i }
         ensures fits { is_left result ≡ false → length bytes.new.items ≤ max_bytes }
-        ensures came { WritesOne self.old.context.script.now self.old.context.program.now self.old.context.steps (me_of self.old.context.me) (style_of style) slot bytes.old.items bytes.new.items at self.old.base depth self.old.left self.new.left room.old room.new (O.log self.old.store) (O.log self.new.store) (O.private self.old.store) (O.private self.new.store) result (outcome result self.new.value self.new.leave) }
+        ensures came { WritesOne (style_of style) slot bytes.old.items bytes.new.items at self.old self.new room.old room.new depth result }
     {
         if let Some(array) = lined(style, room, slot) {
             return self.write_array(array, bytes, at, depth, room);
@@ -198,16 +182,13 @@ impl<'p, O: ThreadStore + Drop> Walker<'p, O> {
         depth: u32,
         room: &mut [Value],
     ) -> Came
-        requires unended { has_end (O.log self.old.store).entries ≡ false }
-        requires steps { self.old.left ≤ self.old.context.steps }
         ensures base { self.new.base ≡ self.old.base }
         ensures context { self.new.context ≡ self.old.context }
         ensures room { length room.new ≡ length room.old }
         ensures less { self.new.left ≤ self.old.left }
-        ensures unended { has_end (O.log self.new.store).entries ≡ false }
         ensures kept { (i : ℕ) → i < self.old.base → slice_get room.new i ≡ slice_get room.old i }
         ensures fits { is_left result ≡ false → length bytes.new.items ≤ max_bytes }
-        ensures came { WritesArray self.old.context.script.now self.old.context.program.now self.old.context.steps (me_of self.old.context.me) array bytes.old.items bytes.new.items at self.old.base depth self.old.left self.new.left room.old room.new (O.log self.old.store) (O.log self.new.store) (O.private self.old.store) (O.private self.new.store) result (outcome result self.new.value self.new.leave) }
+        ensures came { WritesArray array bytes.old.items bytes.new.items at self.old self.new room.old room.new depth result }
     {
         let came = self.lines(array, at, depth, room);
         if is_left(came) {

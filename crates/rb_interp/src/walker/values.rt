@@ -1,14 +1,11 @@
 // Values as they come, and what is done with one.
 
-ghost use Rattle.std.specs.Prelude.{◌≡◌, ◌≤◌, ◌<◌, ℕ, true, false, List, length, map, take, slice_get, Some, None};
+ghost use Rattle.std.specs.Prelude.{◌≡◌, ◌≤◌, ◌<◌, true, false, length, map, take, slice_get, Some, None};
 ghost use Rattle.rb_model.specs.Values.{Nil, Int, Str, plain, truthy};
 ghost use Rattle.rb_model.specs.declared.value.Value.{Value as Held};
 ghost use Rattle.rb_model.specs.Ends.{Raised, Sink, over};
-ghost use Rattle.rb_model.specs.Log.{has_end};
 ghost use Rattle.rb_machine.specs.Control.{Give};
-ghost use Rattle.rb_machine.specs.Methods.{deed};
 ghost use Rattle.rb_machine.specs.Texts.{max_bytes};
-ghost use Rattle.rb_builtin.specs.Names.{builtin_of};
 ghost use Rattle.rb_builtin.specs.Integers as integers;
 ghost use Rattle.rb_walk.specs.Outcome.{end_by, is_left, value_of, outcome, Gave, Over};
 ghost use Rattle.rb_walk.specs.Carries.{Shows, me_of};
@@ -17,7 +14,7 @@ ghost use Rattle.rb_walk.specs.Texts.{ShowsBytes, is_text};
 
 use super::Walker;
 use rb_builtin::{Builtin, Deed, IntegerAnswer, deed_of};
-use rb_model::{Answer, Call, End, Fault, Ref, SharedText, ThreadStore, Value};
+use rb_model::{Answer, End, Fault, Ref, SharedText, ThreadStore, Value};
 use rb_render::{Form, RenderFault, render};
 use rb_tree::Span;
 use rb_walk::asked::is_text;
@@ -28,6 +25,8 @@ use rb_walk::slots::put;
 use std::mem;
 
 impl<'p, O: ThreadStore + Drop> Walker<'p, O> {
+    ghost use Rattle.rb_interp.specs.Answers.{AnswersBy};
+
     /// The value that came. It is taken out of the walker.
     pub(super) fn take(&mut self, came: Came) -> Value
         ensures value { plain result ≡ value_of came self.old.value }
@@ -308,7 +307,7 @@ impl<'p, O: ThreadStore + Drop> Walker<'p, O> {
         args: &[Value],
         at: Span,
     ) -> Came
-        ensures gives { (name : List ℕ) → builtin_of name ≡ method → OrMemory (outcome_of (deed self.old.context.program.now (plain receiver.now) name (map plain args.now) None) at) (outcome result self.new.value self.new.leave) }
+        ensures gives { AnswersBy method (plain receiver.now) (map plain args.now) at self.old self.new result }
         ensures base { self.new.base ≡ self.old.base }
         ensures left { self.new.left ≡ self.old.left }
         ensures context { self.new.context ≡ self.old.context }
@@ -344,7 +343,7 @@ impl<'p, O: ThreadStore + Drop> Walker<'p, O> {
         args: &[Value],
         at: Span,
     ) -> Came
-        ensures gives { (name : List ℕ) → builtin_of name ≡ method → OrMemory (outcome_of (deed self.old.context.program.now (plain receiver.now) name (map plain args.now) None) at) (outcome result self.new.value self.new.leave) }
+        ensures gives { AnswersBy method (plain receiver.now) (map plain args.now) at self.old self.new result }
         ensures base { self.new.base ≡ self.old.base }
         ensures left { self.new.left ≡ self.old.left }
         ensures context { self.new.context ≡ self.old.context }
@@ -358,12 +357,9 @@ impl<'p, O: ThreadStore + Drop> Walker<'p, O> {
 
     /// Shows bytes by one print, where there are any, and gives nil or a value.
     pub(super) fn show(&mut self, form: Form, args: &[Value], at: Span) -> Came
-        requires unended { has_end (O.log self.old.store).entries ≡ false }
-        requires steps { self.old.left ≤ self.old.context.steps }
         ensures base { self.new.base ≡ self.old.base }
         ensures left { self.new.left ≡ self.old.left }
         ensures context { self.new.context ≡ self.old.context }
-        ensures unended { has_end (O.log self.new.store).entries ≡ false }
         ensures private { O.private self.new.store ≡ O.private self.old.store }
         ensures came { Shows self.old.context.program.now self.old.context.steps form (map plain args.now) at self.old.left (O.log self.old.store) (O.log self.new.store) (outcome result self.new.value self.new.leave) }
     {
@@ -376,13 +372,10 @@ impl<'p, O: ThreadStore + Drop> Walker<'p, O> {
 
     /// Shows bytes, which are not too many, by one print, where there are any.
     pub(super) fn show_bytes(&mut self, bytes: Vec<u8>) -> Came
-        requires unended { has_end (O.log self.old.store).entries ≡ false }
-        requires steps { self.old.left ≤ self.old.context.steps }
         requires fits { length bytes.items ≤ max_bytes }
         ensures base { self.new.base ≡ self.old.base }
         ensures left { self.new.left ≡ self.old.left }
         ensures context { self.new.context ≡ self.old.context }
-        ensures unended { has_end (O.log self.new.store).entries ≡ false }
         ensures private { O.private self.new.store ≡ O.private self.old.store }
         ensures came { ShowsBytes self.old.context.steps bytes.items self.old.left (O.log self.old.store) (O.log self.new.store) (outcome result self.new.value self.new.leave) }
     {
@@ -392,10 +385,7 @@ impl<'p, O: ThreadStore + Drop> Walker<'p, O> {
         let Ok(text) = SharedText::from_vec(self.context.alloc, bytes) else {
             return self.over(Cut::Memory);
         };
-        match self
-            .store
-            .call(self.context.steps - self.left, &Call::Print(text))
-        {
+        match self.store.print(self.context.steps - self.left, text) {
             Answer::Done => Came::Nil,
             Answer::SinkFailed => self.over(Cut::Sink),
             Answer::Memory => self.over(Cut::Memory),

@@ -1,18 +1,16 @@
 // Calls with a block: what they come to before an iteration, and iterations over arrays and hashes.
 
-ghost use Rattle.std.specs.Prelude.{◌≡◌, ◌≤◌, ◌<◌, ℕ, true, false, List, [], ◌∷◌, length, map, None, IfSome};
+ghost use Rattle.std.specs.Prelude.{◌≡◌, ◌≤◌, ◌<◌, true, false, [], ◌∷◌, length, map, None, IfSome};
 ghost use Rattle.rb_model.specs.Values.{Value as Val, To, plain};
 ghost use Rattle.rb_model.specs.Doing.{pair};
-ghost use Rattle.rb_model.specs.Log.{has_end};
 ghost use Rattle.rb_machine.specs.Control.{On, Turning, Reading, Walking, EachPair, ForEach};
 ghost use Rattle.rb_machine.specs.Turns.{is_below};
 ghost use Rattle.rb_builtin.specs.Deeds.{answer_of, thing_of, walk_of};
 ghost use Rattle.rb_code.specs.Erase.{erase_block};
 ghost use Rattle.rb_code.specs.Resolved.{block_fits};
 ghost use Rattle.rb_walk.specs.Outcome.{is_left, value_of, outcome};
-ghost use Rattle.rb_walk.specs.Carries.{Carries, Keeps, goes_on, me_of};
-ghost use Rattle.rb_walk.specs.Collections.{Comes};
-ghost use Rattle.rb_walk.specs.Walks.{FindsElement, FindsNone, Iterates, Opens, OpensBy, finishing, second_value, value_on, walking};
+ghost use Rattle.rb_walk.specs.Carries.{goes_on};
+ghost use Rattle.rb_walk.specs.Walks.{FindsElement, FindsNone, Opens, OpensBy, finishing, second_value, value_on, walking};
 
 use super::Walker;
 use rb_builtin::{Builtin, Deed, Pass, deed_of};
@@ -36,6 +34,10 @@ fn second_value(pass: Pass, index: u32) -> Value
 }
 
 impl<'p, O: ThreadStore + Drop> Walker<'p, O> {
+    ghost use Rattle.rb_interp.specs.Answers.{ComesAtOnce};
+    ghost use Rattle.rb_interp.specs.Calls.{Iterates};
+    ghost use Rattle.rb_interp.specs.Walks.{Kept, Walks};
+
     /// What the call of a method of a value with a block comes to before an iteration.
     pub(super) fn iterations(
         &mut self,
@@ -114,16 +116,13 @@ impl<'p, O: ThreadStore + Drop> Walker<'p, O> {
         depth: u32,
         room: &mut [Value],
     ) -> Came
-        requires unended { has_end (O.log self.old.store).entries ≡ false }
-        requires steps { self.old.left ≤ self.old.context.steps }
         ensures counted { goes_on (outcome result self.new.value self.new.leave) ≡ true → self.new.left < self.old.left }
         ensures base { self.new.base ≡ self.old.base }
         ensures context { self.new.context ≡ self.old.context }
         ensures room { length room.new ≡ length room.old }
         ensures less { self.new.left ≤ self.old.left }
-        ensures unended { has_end (O.log self.new.store).entries ≡ false }
-        ensures kept { Keeps self.old.context.script.now self.old.context.program.now (λ S. block_fits S block.now) self.old.base room.old room.new }
-        ensures came { Iterates self.old.context.script.now self.old.context.program.now self.old.context.steps (me_of self.old.context.me) block.now (plain first ∷ plain second ∷ []) self.old.base depth self.old.left self.new.left room.old room.new (O.log self.old.store) (O.log self.new.store) (O.private self.old.store) (O.private self.new.store) (outcome result self.new.value self.new.leave) }
+        ensures kept { Kept (λ S. block_fits S block.now) self.old room.old room.new }
+        ensures came { Iterates block.now (plain first ∷ plain second ∷ []) self.old self.new room.old room.new depth result }
     {
         if self.left == 0 {
             return self.over(Cut::Steps);
@@ -157,7 +156,6 @@ impl<'p, O: ThreadStore + Drop> Walker<'p, O> {
     /// The element of an array at the next place of a walk; none behind the last. The length is asked before.
     #[inline(always)]
     fn next_element(&mut self, array: Ref, next: u32, at: Span) -> Option<Came>
-        requires unended { has_end (O.log self.old.store).entries ≡ false }
         ensures some { IfSome result (λ came. FindsElement self.old.context.steps array next at self.old.left (O.log self.old.store) (O.private self.old.store) (O.private self.new.store) came (outcome came self.new.value self.new.leave)) }
         ensures none { result ≡ None → FindsNone self.old.context.steps array next at self.old.left (O.log self.old.store) (O.private self.old.store) (O.private self.new.store) }
         ensures base { self.new.base ≡ self.old.base }
@@ -177,12 +175,11 @@ impl<'p, O: ThreadStore + Drop> Walker<'p, O> {
 
     /// What a walk over an array answers in the end: the array, or what it made.
     fn finish(&mut self, array: Ref, pass: Pass, made: Vec<Value>) -> Came
-        requires unended { has_end (O.log self.old.store).entries ≡ false }
         ensures base { self.new.base ≡ self.old.base }
         ensures left { self.new.left ≡ self.old.left }
         ensures context { self.new.context ≡ self.old.context }
         ensures log { O.log self.new.store ≡ O.log self.old.store }
-        ensures came { (last : Val) (depth : ℕ) → Comes self.old.context.steps (finishing array (walking pass (map plain made.items) last)) self.old.context.program.now depth self.old.left self.old.left (O.log self.old.store) (O.log self.new.store) (O.private self.old.store) (O.private self.new.store) (outcome result self.new.value self.new.leave) }
+        ensures came { (last : Val) → ComesAtOnce (finishing array (walking pass (map plain made.items) last)) self.old self.new result }
     {
         match pass {
             Pass::Each | Pass::WithIndex => self.give(Value::Ref(array)),
@@ -202,15 +199,11 @@ impl<'p, O: ThreadStore + Drop> Walker<'p, O> {
         depth: u32,
         room: &mut [Value],
     ) -> Came
-        requires unended { has_end (O.log self.old.store).entries ≡ false }
-        requires steps { self.old.left ≤ self.old.context.steps }
         ensures base { self.new.base ≡ self.old.base }
         ensures context { self.new.context ≡ self.old.context }
         ensures room { length room.new ≡ length room.old }
         ensures less { self.new.left ≤ self.old.left }
-        ensures unended { has_end (O.log self.new.store).entries ≡ false }
-        ensures kept { Keeps self.old.context.script.now self.old.context.program.now (λ S. block_fits S block.now) self.old.base room.old room.new }
-        ensures came { Carries self.old.context.script.now self.old.context.program.now self.old.context.steps (me_of self.old.context.me) (λ S. block_fits S block.now) (λ S k sc d n. On (Turning (Walking (thing_of array) 0 (walk_of pass) at) (erase_block block.now)) k sc d n) self.old.base depth self.old.left self.new.left room.old room.new (O.log self.old.store) (O.log self.new.store) (O.private self.old.store) (O.private self.new.store) (outcome result self.new.value self.new.leave) }
+        ensures came { Walks (λ S. block_fits S block.now) (λ S k sc d n. On (Turning (Walking (thing_of array) 0 (walk_of pass) at) (erase_block block.now)) k sc d n) self.old self.new room.old room.new depth result }
     {
         let mut made = Vec::new(self.context.alloc);
         let mut next = 0;
@@ -252,15 +245,11 @@ impl<'p, O: ThreadStore + Drop> Walker<'p, O> {
         depth: u32,
         room: &mut [Value],
     ) -> Came
-        requires unended { has_end (O.log self.old.store).entries ≡ false }
-        requires steps { self.old.left ≤ self.old.context.steps }
         ensures base { self.new.base ≡ self.old.base }
         ensures context { self.new.context ≡ self.old.context }
         ensures room { length room.new ≡ length room.old }
         ensures less { self.new.left ≤ self.old.left }
-        ensures unended { has_end (O.log self.new.store).entries ≡ false }
-        ensures kept { Keeps self.old.context.script.now self.old.context.program.now (λ S. block_fits S block.now) self.old.base room.old room.new }
-        ensures came { Carries self.old.context.script.now self.old.context.program.now self.old.context.steps (me_of self.old.context.me) (λ S. block_fits S block.now) (λ S k sc d n. On (Turning (EachPair (map pair pairs.items) (To (thing_of hash))) (erase_block block.now)) k sc d n) self.old.base depth self.old.left self.new.left room.old room.new (O.log self.old.store) (O.log self.new.store) (O.private self.old.store) (O.private self.new.store) (outcome result self.new.value self.new.leave) }
+        ensures came { Walks (λ S. block_fits S block.now) (λ S k sc d n. On (Turning (EachPair (map pair pairs.items) (To (thing_of hash))) (erase_block block.now)) k sc d n) self.old self.new room.old room.new depth result }
     {
         'pairs: for (key, value) in pairs {
             let came = self.iteration(key, value, block, depth, room);
@@ -281,15 +270,11 @@ impl<'p, O: ThreadStore + Drop> Walker<'p, O> {
         depth: u32,
         room: &mut [Value],
     ) -> Came
-        requires unended { has_end (O.log self.old.store).entries ≡ false }
-        requires steps { self.old.left ≤ self.old.context.steps }
         ensures base { self.new.base ≡ self.old.base }
         ensures context { self.new.context ≡ self.old.context }
         ensures room { length room.new ≡ length room.old }
         ensures less { self.new.left ≤ self.old.left }
-        ensures unended { has_end (O.log self.new.store).entries ≡ false }
-        ensures kept { Keeps self.old.context.script.now self.old.context.program.now (λ S. block_fits S block.now) self.old.base room.old room.new }
-        ensures came { Carries self.old.context.script.now self.old.context.program.now self.old.context.steps (me_of self.old.context.me) (λ S. block_fits S block.now) (λ S k sc d n. On (Reading (thing_of hash) (ForEach (To (thing_of hash)) (erase_block block.now)) at) k sc d n) self.old.base depth self.old.left self.new.left room.old room.new (O.log self.old.store) (O.log self.new.store) (O.private self.old.store) (O.private self.new.store) (outcome result self.new.value self.new.leave) }
+        ensures came { Walks (λ S. block_fits S block.now) (λ S k sc d n. On (Reading (thing_of hash) (ForEach (To (thing_of hash)) (erase_block block.now)) at) k sc d n) self.old self.new room.old room.new depth result }
     {
         match self.copied(hash) {
             Ok(Reply::Pairs(pairs)) => self.pair_turns(pairs, hash, block, depth, room),

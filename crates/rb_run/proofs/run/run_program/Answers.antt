@@ -7,7 +7,7 @@ pub returns-in-Ok-run_with-clause-runs : goal.returns-in-Ok-run_with-clause-runs
 returns-in-Ok-run_with-clause-runs g c =
     let ran = c.in-Ok-run_with.ensures in
     let done = ran.follows (script_of c.args.program.now) c.in-Ok.ensures refl in
-    is_run c.args.program.now c.args.steps _ _ _ _ _ done.0 done.1 ran.own ran.written done.2
+    is_run c.args.program.now c.args.steps _ _ _ _ _ done.0 done.1 done.2 ran.own ran.written done.3
 
 pub returns-in-Ok-run_with-clause-cause : goal.returns-in-Ok-run_with-clause-cause
 returns-in-Ok-run_with-clause-cause g c = λ q.

@@ -2,7 +2,6 @@ use Rattle.std.proofs.Common.{take, ◌≡◌, ℕ, ◌≤◌, ◌<◌, ◌+◌,
 use Rattle.std.specs.Prelude.{pos, ◌+ℤ◌, ◌≤ℤ◌, slice_get}
 use Rattle.rb_tree.specs.declared.span.Span.{Span}
 use Rattle.rb_model.specs.Values.{Value as Val, To, Nil, Int, plain}
-use Rattle.rb_model.specs.Log.{has_end}
 use Rattle.rb_machine.specs.Control.{EachPair, On, Following, Looping, Turning, Counting, Passing, Joining, Aim}
 use Rattle.rb_code.specs.Erase.{erase, erase_block, erase_piece}
 use Rattle.rb_code.specs.Resolved.{fits, piece_fits, block_fits, every}
@@ -15,7 +14,8 @@ use Rattle.rb_model.specs.Doing.{pair}
 use Rattle.rb_builtin.specs.Deeds.{thing_of}
 use Rattle.rb_walk.specs.Lines.{LinesOn}
 use Rattle.rb_walk.specs.Collections.{work_of}
-use Rattle.rb_walk.specs.Carries.{Keeps, Reaches, both, me_of}
+use Rattle.rb_walk.specs.Carries.{both, me_of}
+use Rattle.rb_interp.specs.Walks.{Kept, Reached}
 use Rattle.rb_interp.proofs.walker.Walker.+walk.Given as goal
 
 abbrev pub decreases-walk : goal.decreases-walk
@@ -289,9 +289,8 @@ invariant-body-nodes g l =
       context : l.self.context ≡ l.fn.self.context;
       room : length l.room ≡ length l.fn.room;
       less : l.self.left ≤ l.fn.self.left;
-      unended : has_end (g.O.ThreadStore.log l.self.store).entries ≡ false;
-      kept : Keeps l.fn.self.context.script.now l.fn.self.context.program.now (λ S. every (map (fits S) l.nodes)) l.fn.self.base l.fn.room l.room;
-      came : (v : Val) × Reaches l.fn.self.context.script.now l.fn.self.context.program.now l.fn.self.context.steps (me_of l.fn.self.context.me) (λ S. every (map (fits S) l.nodes)) (λ S k sc d n. On (Following Nil (map erase l.nodes)) k sc d n) (λ S k sc d n. On (Following v (map erase (drop l.node-index l.nodes))) k sc d n) l.fn.self.base l.depth l.fn.self.left l.self.left l.fn.room l.room (g.O.ThreadStore.log l.fn.self.store) (g.O.ThreadStore.log l.self.store) (g.O.ThreadStore.private l.fn.self.store) (g.O.ThreadStore.private l.self.store);
+      kept : Kept (λ S. every (map (fits S) l.nodes)) l.fn.self l.fn.room l.room;
+      came : (v : Val) × Reached (λ S. every (map (fits S) l.nodes)) (λ S k sc d n. On (Following Nil (map erase l.nodes)) k sc d n) (λ S k sc d n. On (Following v (map erase (drop l.node-index l.nodes))) k sc d n) l.fn.self l.self l.fn.room l.room l.depth;
     }
 
 abbrev pub invariant-passage-nodes : goal.invariant-passage-nodes
@@ -301,9 +300,8 @@ invariant-passage-nodes g l =
       context : l.self.context ≡ l.fn.self.context;
       room : length l.room ≡ length l.fn.room;
       less : l.self.left ≤ l.fn.self.left;
-      unended : has_end (g.O.ThreadStore.log l.self.store).entries ≡ false;
-      kept : Keeps l.fn.self.context.script.now l.fn.self.context.program.now (λ S. every (map (fits S) l.nodes)) l.fn.self.base l.fn.room l.room;
-      came : (v : Val) × Reaches l.fn.self.context.script.now l.fn.self.context.program.now l.fn.self.context.steps (me_of l.fn.self.context.me) (λ S. every (map (fits S) l.nodes)) (λ S k sc d n. On (Following Nil (map erase l.nodes)) k sc d n) (λ S k sc d n. On (Following v (map erase (drop l.node-index l.nodes))) k sc d n) l.fn.self.base l.depth l.fn.self.left l.self.left l.fn.room l.room (g.O.ThreadStore.log l.fn.self.store) (g.O.ThreadStore.log l.self.store) (g.O.ThreadStore.private l.fn.self.store) (g.O.ThreadStore.private l.self.store);
+      kept : Kept (λ S. every (map (fits S) l.nodes)) l.fn.self l.fn.room l.room;
+      came : (v : Val) × Reached (λ S. every (map (fits S) l.nodes)) (λ S k sc d n. On (Following Nil (map erase l.nodes)) k sc d n) (λ S k sc d n. On (Following v (map erase (drop l.node-index l.nodes))) k sc d n) l.fn.self l.self l.fn.room l.room l.depth;
     }
 
 abbrev pub invariant-repeat-turns : goal.invariant-repeat-turns
@@ -313,9 +311,8 @@ invariant-repeat-turns g l =
       context : l.self.context ≡ l.fn.self.context;
       room : length l.room ≡ length l.fn.room;
       less : l.self.left ≤ l.fn.self.left;
-      unended : has_end (g.O.ThreadStore.log l.self.store).entries ≡ false;
-      kept : Keeps l.fn.self.context.script.now l.fn.self.context.program.now (both (λ S. fits S l.condition) (λ S. every (map (fits S) l.body))) l.fn.self.base l.fn.room l.room;
-      came : Reaches l.fn.self.context.script.now l.fn.self.context.program.now l.fn.self.context.steps (me_of l.fn.self.context.me) (both (λ S. fits S l.condition) (λ S. every (map (fits S) l.body))) (λ S k sc d n. On (Looping (erase l.condition) (map erase l.body)) k sc d n) (λ S k sc d n. On (Looping (erase l.condition) (map erase l.body)) k sc d n) l.fn.self.base l.depth l.fn.self.left l.self.left l.fn.room l.room (g.O.ThreadStore.log l.fn.self.store) (g.O.ThreadStore.log l.self.store) (g.O.ThreadStore.private l.fn.self.store) (g.O.ThreadStore.private l.self.store);
+      kept : Kept (both (λ S. fits S l.condition) (λ S. every (map (fits S) l.body))) l.fn.self l.fn.room l.room;
+      came : Reached (both (λ S. fits S l.condition) (λ S. every (map (fits S) l.body))) (λ S k sc d n. On (Looping (erase l.condition) (map erase l.body)) k sc d n) (λ S k sc d n. On (Looping (erase l.condition) (map erase l.body)) k sc d n) l.fn.self l.self l.fn.room l.room l.depth;
     }
 
 abbrev pub decreases-repeat-turns : goal.decreases-repeat-turns
@@ -328,11 +325,10 @@ invariant-turns-turns g l =
       context : l.self.context ≡ l.fn.self.context;
       room : length l.room ≡ length l.fn.room;
       less : l.self.left ≤ l.fn.self.left;
-      unended : has_end (g.O.ThreadStore.log l.self.store).entries ≡ false;
       ordered : l.next ≤ℤ l.last;
       within : l.from + l.count ≤ length l.room;
-      kept : Keeps l.fn.self.context.script.now l.fn.self.context.program.now (λ S. block_fits S l.block) l.fn.self.base l.fn.room l.room;
-      came : Reaches l.fn.self.context.script.now l.fn.self.context.program.now l.fn.self.context.steps (me_of l.fn.self.context.me) (λ S. block_fits S l.block) (λ S k sc d n. On (Turning (Counting l.fn.first (l.last +ℤ pos 1) (Int l.answer)) (erase_block l.block)) k sc d n) (λ S k sc d n. On (Turning (Counting l.next (l.last +ℤ pos 1) (Int l.answer)) (erase_block l.block)) k sc d n) l.fn.self.base l.depth l.fn.self.left l.self.left l.fn.room l.room (g.O.ThreadStore.log l.fn.self.store) (g.O.ThreadStore.log l.self.store) (g.O.ThreadStore.private l.fn.self.store) (g.O.ThreadStore.private l.self.store);
+      kept : Kept (λ S. block_fits S l.block) l.fn.self l.fn.room l.room;
+      came : Reached (λ S. block_fits S l.block) (λ S k sc d n. On (Turning (Counting l.fn.first (l.last +ℤ pos 1) (Int l.answer)) (erase_block l.block)) k sc d n) (λ S k sc d n. On (Turning (Counting l.next (l.last +ℤ pos 1) (Int l.answer)) (erase_block l.block)) k sc d n) l.fn.self l.self l.fn.room l.room l.depth;
     }
 
 abbrev pub decreases-turns-turns : goal.decreases-turns-turns
@@ -345,9 +341,8 @@ invariant-text-pieces g l =
       context : l.self.context ≡ l.fn.self.context;
       room : length l.room ≡ length l.fn.room;
       less : l.self.left ≤ l.fn.self.left;
-      unended : has_end (g.O.ThreadStore.log l.self.store).entries ≡ false;
-      kept : Keeps l.fn.self.context.script.now l.fn.self.context.program.now (λ S. every (map (piece_fits S) l.pieces)) l.fn.self.base l.fn.room l.room;
-      came : Reaches l.fn.self.context.script.now l.fn.self.context.program.now l.fn.self.context.steps (me_of l.fn.self.context.me) (λ S. every (map (piece_fits S) l.pieces)) (λ S k sc d n. On (Joining [] (map erase_piece l.pieces) l.at) k sc d n) (λ S k sc d n. On (Joining l.bytes.items (map erase_piece (drop l.piece-index l.pieces)) l.at) k sc d n) l.fn.self.base l.depth l.fn.self.left l.self.left l.fn.room l.room (g.O.ThreadStore.log l.fn.self.store) (g.O.ThreadStore.log l.self.store) (g.O.ThreadStore.private l.fn.self.store) (g.O.ThreadStore.private l.self.store);
+      kept : Kept (λ S. every (map (piece_fits S) l.pieces)) l.fn.self l.fn.room l.room;
+      came : Reached (λ S. every (map (piece_fits S) l.pieces)) (λ S k sc d n. On (Joining [] (map erase_piece l.pieces) l.at) k sc d n) (λ S k sc d n. On (Joining l.bytes.items (map erase_piece (drop l.piece-index l.pieces)) l.at) k sc d n) l.fn.self l.self l.fn.room l.room l.depth;
     }
 
 abbrev pub invariant-lines-text : goal.invariant-lines-text
@@ -357,7 +352,6 @@ invariant-lines-text g l =
       context : l.self.context ≡ l.fn.self.context;
       room : length l.room ≡ length l.fn.room;
       less : l.self.left ≤ l.fn.self.left;
-      unended : has_end (g.O.ThreadStore.log l.self.store).entries ≡ false;
       kept : (i : ℕ) → i < l.fn.self.base → slice_get l.room i ≡ slice_get l.fn.room i;
       came : LinesOn l.fn.self.context.script.now l.fn.self.context.program.now l.fn.self.context.steps (me_of l.fn.self.context.me) l.fn.array l.draft l.at l.fn.self.base l.depth l.fn.self.left l.self.left l.fn.room l.room (g.O.ThreadStore.log l.fn.self.store) (g.O.ThreadStore.log l.self.store) (g.O.ThreadStore.private l.fn.self.store) (g.O.ThreadStore.private l.self.store);
     }
@@ -372,7 +366,6 @@ invariant-print_from-values g l =
       context : l.self.context ≡ l.fn.self.context;
       room : length l.room ≡ length l.fn.room;
       less : l.self.left ≤ l.fn.self.left;
-      unended : has_end (g.O.ThreadStore.log l.self.store).entries ≡ false;
       fits : length l.bytes.items ≤ max_bytes;
       kept : (i : ℕ) → i < l.fn.self.base → slice_get l.room i ≡ slice_get l.fn.room i;
       came : WritesOn l.fn.self.context.script.now l.fn.self.context.program.now l.fn.self.context.steps (me_of l.fn.self.context.me) (style_of l.style) l.bytes.items (map plain (take l.count (drop l.first l.fn.room))) (drop l.index (map plain (take l.count (drop l.first l.fn.room)))) l.first l.at l.depth l.fn.self.left l.self.left l.fn.room l.room (g.O.ThreadStore.log l.fn.self.store) (g.O.ThreadStore.log l.self.store) (g.O.ThreadStore.private l.fn.self.store) (g.O.ThreadStore.private l.self.store);
@@ -386,10 +379,9 @@ invariant-arguments-each g l =
       context : l.self.context ≡ l.fn.self.context;
       room : length l.room ≡ length l.fn.room;
       less : l.self.left ≤ l.fn.self.left;
-      unended : has_end (g.O.ThreadStore.log l.self.store).entries ≡ false;
-      kept : Keeps l.fn.self.context.script.now l.fn.self.context.program.now (λ S. every (map (fits S) l.args)) l.fn.self.base l.fn.room l.room;
-      came : (aim : Aim) (at : Span) → Reaches l.fn.self.context.script.now l.fn.self.context.program.now l.fn.self.context.steps (me_of l.fn.self.context.me) (λ S. every (map (fits S) l.args)) (λ S k sc d n. On (Passing aim [] (map erase l.args) at) k sc d n)
-          (λ S k sc d n. On (Passing aim (map plain (take l.arg-index (drop l.fn.self.base l.room))) (map erase (drop l.arg-index l.args)) at) k sc d n) l.fn.self.base l.depth l.fn.self.left l.self.left l.fn.room l.room (g.O.ThreadStore.log l.fn.self.store) (g.O.ThreadStore.log l.self.store) (g.O.ThreadStore.private l.fn.self.store) (g.O.ThreadStore.private l.self.store);
+      kept : Kept (λ S. every (map (fits S) l.args)) l.fn.self l.fn.room l.room;
+      came : (aim : Aim) (at : Span) → Reached (λ S. every (map (fits S) l.args)) (λ S k sc d n. On (Passing aim [] (map erase l.args) at) k sc d n)
+          (λ S k sc d n. On (Passing aim (map plain (take l.arg-index (drop l.fn.self.base l.room))) (map erase (drop l.arg-index l.args)) at) k sc d n) l.fn.self l.self l.fn.room l.room l.depth;
     }
 
 abbrev pub invariant-walk_elements-elements : goal.invariant-walk_elements-elements
@@ -399,8 +391,7 @@ invariant-walk_elements-elements g l =
       context : l.self.context ≡ l.fn.self.context;
       room : length l.room ≡ length l.fn.room;
       less : l.self.left ≤ l.fn.self.left;
-      unended : has_end (g.O.ThreadStore.log l.self.store).entries ≡ false;
-      kept : Keeps l.fn.self.context.script.now l.fn.self.context.program.now (λ S. block_fits S l.block) l.fn.self.base l.fn.room l.room;
+      kept : Kept (λ S. block_fits S l.block) l.fn.self l.fn.room l.room;
       came : WalksOn l.fn.self.context.script.now l.fn.self.context.program.now l.fn.self.context.steps (me_of l.fn.self.context.me) l.block l.array l.pass l.at l.next (map plain l.made.items) l.fn.self.base l.depth l.fn.self.left l.self.left l.fn.room l.room (g.O.ThreadStore.log l.fn.self.store) (g.O.ThreadStore.log l.self.store) (g.O.ThreadStore.private l.fn.self.store) (g.O.ThreadStore.private l.self.store);
     }
 
@@ -414,9 +405,8 @@ invariant-pair_turns-pairs g l =
       context : l.self.context ≡ l.fn.self.context;
       room : length l.room ≡ length l.fn.room;
       less : l.self.left ≤ l.fn.self.left;
-      unended : has_end (g.O.ThreadStore.log l.self.store).entries ≡ false;
-      kept : Keeps l.fn.self.context.script.now l.fn.self.context.program.now (λ S. block_fits S l.block) l.fn.self.base l.fn.room l.room;
-      came : Reaches l.fn.self.context.script.now l.fn.self.context.program.now l.fn.self.context.steps (me_of l.fn.self.context.me) (λ S. block_fits S l.block) (λ S k sc d n. On (Turning (EachPair (map pair l.fn.pairs.items) (To (thing_of l.hash))) (erase_block l.block)) k sc d n) (λ S k sc d n. On (Turning (EachPair (map pair (into_iter_items l.key-iterator)) (To (thing_of l.hash))) (erase_block l.block)) k sc d n) l.fn.self.base l.depth l.fn.self.left l.self.left l.fn.room l.room (g.O.ThreadStore.log l.fn.self.store) (g.O.ThreadStore.log l.self.store) (g.O.ThreadStore.private l.fn.self.store) (g.O.ThreadStore.private l.self.store);
+      kept : Kept (λ S. block_fits S l.block) l.fn.self l.fn.room l.room;
+      came : Reached (λ S. block_fits S l.block) (λ S k sc d n. On (Turning (EachPair (map pair l.fn.pairs.items) (To (thing_of l.hash))) (erase_block l.block)) k sc d n) (λ S k sc d n. On (Turning (EachPair (map pair (into_iter_items l.key-iterator)) (To (thing_of l.hash))) (erase_block l.block)) k sc d n) l.fn.self l.self l.fn.room l.room l.depth;
     }
 
 abbrev pub decreases-operate_collection : goal.decreases-operate_collection

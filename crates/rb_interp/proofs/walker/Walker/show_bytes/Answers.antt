@@ -1,11 +1,7 @@
 use Rattle.std.proofs.Common.{◌≡◌, ◌∙◌, ap, sym, refl, false, arith, ◌-◌, ◌<◌, length}
 use Rattle.std.specs.Prelude.{◌==◌}
-use Rattle.rb_model.specs.Log.{Log, has_end, plain_entry, Print}
-use Rattle.rb_walk.proofs.Showing.{no_end, printed, not_zero}
+use Rattle.rb_walk.proofs.Showing.{printed, not_zero}
 use Rattle.rb_interp.proofs.walker.Walker.show_bytes.Goals as goal
-
-pub returns-in-Done-clause-unended : goal.returns-in-Done-clause-unended
-returns-in-Done-clause-unended g c = ap (λ (l : Log). has_end l.entries) c.in-Done.ensures.answers ∙ no_end (g.O.ThreadStore.log c.args.self.now.store).entries (plain_entry (c.args.self.now.context.steps - c.args.self.now.left) (Print c.in-Ok.text)) c.requires.unended refl
 
 pub returns-in-Done-clause-came : goal.returns-in-Done-clause-came
 returns-in-Done-clause-came g c = λ S start h after at k sc d a.

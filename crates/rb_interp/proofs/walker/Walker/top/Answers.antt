@@ -24,4 +24,4 @@ returns-clause-came g c = λ S start k st e a.
     ∙ ap (λ ls. On (Following Nil (map erase script.main)) k (record { me = Nil; locals = ls }) 0 left) (sym opens)) in
     let under = lies (every (map (fits S) script.main)) S.main_names size c.args.self.now.base (length room) right.1 right.0 (omega (arith, c.requires.base)) (omega (arith, c.requires.base, short, c.clear.ensures.room)) in
     let f = rw (c.as_slice.ensures, kept, c.requires.me) at c.body.ensures.came in
-    f S start k S.main_names size st e under b
+    (f S S.main_names size st e under).1 start k b

@@ -1,0 +1,5 @@
+pub mod Answers
+pub mod Calls
+pub mod Going
+pub mod Texts
+pub mod Walks

@@ -1,0 +1,20 @@
+use Rattle.std.proofs.Common.{◌∙◌, sym}
+use Rattle.rb_run.proofs.Closing.{closed_by, told_refusals, told_full}
+use Rattle.rb_run.proofs.run.run_with.Goals as goal
+
+pub returns-clause-follows : goal.returns-clause-follows
+returns-clause-follows g c = λ S st e.
+    let goes = c.run_main-store.ensures.goes S st e in
+    let done = closed_by _ _ _ _ _ _ _ _ _ goes.tells c.close-end.ensures.closes goes.comes in
+    (c.run_main-store.result.0.things, sym c.into_shapes-shapes.ensures, c.run_main-store.ensures.live.1, rw c.into_parts-out.ensures.front done)
+
+pub returns-clause-refused : goal.returns-clause-refused
+returns-clause-refused g c = λ S st e q.
+    let goes = c.run_main-store.ensures.goes S st e in
+    let told = told_refusals _ _ _ _ _ c.close-end.ensures.closes q in
+    let last = goes.refused told.0 in
+    (last.0, last.1, rw c.into_parts-out.ensures.front (told.1 ∙ last.2))
+
+pub returns-clause-never_full : goal.returns-clause-never_full
+returns-clause-never_full g c = λ S st e used asked q.
+    (c.run_main-store.ensures.goes S st e).never_full used asked (told_full _ _ _ _ _ used asked c.close-end.ensures.closes q)
