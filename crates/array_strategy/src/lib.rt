@@ -7,8 +7,6 @@ mod flags;
 mod growth;
 mod place;
 mod storage;
-#[cfg(test)]
-mod tests;
 
 pub use array::{LocalArray, MAX_LEN};
 pub use fault::PutFault;

@@ -9,8 +9,6 @@ mod object;
 mod pairs;
 mod row;
 mod slot;
-#[cfg(test)]
-mod tests;
 mod told;
 
 pub use heap::LocalHeap;

@@ -5,8 +5,6 @@
 mod few;
 mod indexed;
 mod pairs;
-#[cfg(test)]
-mod tests;
 
 // A crate can name pairs in a contract only if the types of their fields are exported.
 #[doc(hidden)]

@@ -240,12 +240,6 @@ impl OrderedPairs {
         self.form = Form::Few(FewPairs::new(self.alloc));
     }
 
-    /// Whether the pairs have an index.
-    #[cfg(test)]
-    pub(crate) fn has_index(&self) -> bool {
-        matches!(&self.form, Form::Indexed(_))
-    }
-
     /// A copy of all pairs. No bytes are copied.
     pub fn copy(&self, alloc: Global) -> Result<Vec<(Value, Value)>, AllocError>
         ensures { IfOk result (λ pairs. map pair_of pairs.items ≡ self.now) }

@@ -5,8 +5,6 @@
 mod builtin;
 mod deed;
 mod integer;
-#[cfg(test)]
-mod tests;
 
 pub use builtin::{Builtin, builtin_of};
 pub use deed::{Behind, Deed, Loop, Pass, Purpose, deed_of};

@@ -6,8 +6,6 @@ mod class;
 mod cursor;
 mod fault;
 mod scope;
-#[cfg(test)]
-mod tests;
 mod word;
 
 pub use class::{ATTR_READER, ATTR_WRITER, Class, class_of, is_marked};

@@ -76,6 +76,3 @@ pub fn write_all<K: Sink>(sink: &mut K, text: &[u8]) -> Result<(), SinkFailed>
     }
     Ok(())
 }
-
-#[cfg(test)]
-mod tests;

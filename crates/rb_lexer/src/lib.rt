@@ -13,8 +13,6 @@ mod newline;
 mod part;
 mod reader;
 mod stack;
-#[cfg(test)]
-mod tests;
 mod token;
 mod turn;
 mod words;

@@ -3,8 +3,6 @@
 #![tactic(auto)]
 
 mod parser;
-#[cfg(test)]
-mod tests;
 
 pub use parser::parse;
 pub use rb_cursor::ParseFault;

@@ -6,6 +6,7 @@ mod refusals;
 mod scripts;
 mod shapes;
 mod sources;
+mod tokens;
 
 use crate::{Report, run};
 use rb_edge::{Gate, MemoryFiles, MemorySink, OpenGate};

@@ -9,8 +9,6 @@ ghost use Rattle.rb_render.specs.Drafting.{form_of, mark_text, reference, open_o
 
 mod marks;
 mod parts;
-#[cfg(test)]
-mod tests;
 mod ways;
 mod written;
 

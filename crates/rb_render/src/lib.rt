@@ -4,8 +4,6 @@
 mod draft;
 mod pieces;
 mod show;
-#[cfg(test)]
-mod tests;
 mod text;
 
 pub use draft::{Draft, TextForm, Want};

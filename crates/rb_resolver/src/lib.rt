@@ -9,8 +9,6 @@ mod known;
 mod nodes;
 mod script;
 mod stores;
-#[cfg(test)]
-mod tests;
 mod threads;
 
 pub use fault::ResolveFault;

@@ -8,8 +8,6 @@ mod nesting;
 mod operator;
 mod params;
 mod sets;
-#[cfg(test)]
-mod tests;
 
 pub use beginning::{Beginning, beginning_of};
 pub use lines::{skip_lines, take_then};

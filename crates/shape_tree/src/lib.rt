@@ -7,8 +7,6 @@ mod key;
 mod rows;
 mod table;
 mod tables;
-#[cfg(test)]
-mod tests;
 mod tree;
 
 pub use shape_core::{Edge, Kind, NameId, Place, ShapeFacts, ShapeId, ShapeStore};

@@ -2,8 +2,10 @@
 
 mod captures;
 mod crowded;
+mod depth;
 mod large;
 mod parts;
+mod syntax;
 
 use crate::refusal::{Refusal, Row, row_of};
 use crate::source::{Unaccepted, accept};
@@ -244,6 +246,7 @@ fn each_rule_of_names_is_broken_where_it_says(rt: HostRuntime) -> Result<(), Fai
         FIRSTS.as_slice(),
         parts::ROWS.as_slice(),
         captures::ROWS.as_slice(),
+        syntax::ROWS.as_slice(),
     ] {
         for (source, fault) in rows {
             let found = found(rt.alloc(), source)?;

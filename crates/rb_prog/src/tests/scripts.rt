@@ -288,6 +288,75 @@ const BLOCKS: [Row; 11] = [
     ("puts 0.times { |i| puts i }", "0\n", ""),
 ];
 
+/// How tightly operators, commands and choices bind.
+const BINDING: [Row; 10] = [
+    (
+        "puts 6 % -3, 6 / -3, 5 - -1, 2 * 3 % 4 == 2",
+        "0\n-2\n6\ntrue\n",
+        "",
+    ),
+    (
+        "puts 2 < 2, 2 <= 2, 2 > 2, 3 > 2, 2 >= 3",
+        "false\ntrue\nfalse\ntrue\nfalse\n",
+        "",
+    ),
+    (
+        "puts \"ab\" == \"abc\", :a == :b, nil == nil, 1 == 2",
+        "false\nfalse\ntrue\nfalse\n",
+        "",
+    ),
+    (
+        "p !1 == 2, true || nil && nil, nil && nil || 3",
+        "false\ntrue\n3\n",
+        "",
+    ),
+    (
+        "p 1 ? 2 : 3 ? 4 : 5\np nil ? 2 : nil ? 4 : 5\np 1 ? nil ? 3 : 4 : 5",
+        "2\n5\n4\n",
+        "",
+    ),
+    ("p [] << 1 + 2\np -2.to_s", "[3]\n\"-2\"\n", ""),
+    (
+        "a = 5\np a -1\nputs (1) + 2\nx = 1\np((x = 2) + x)",
+        "4\n3\n4\n",
+        "",
+    ),
+    ("puts(1) + 2", "1\n", "fault NoMethod at 1:9"),
+    (
+        "p \"#{1 if \"a\"}\", [1, [2],\n], { a: 1, \"b\" => 2, }",
+        "\"1\"\n[1, [2]]\n{:a=>1, \"b\"=>2}\n",
+        "",
+    ),
+    ("p '\u{e9}\r'", "\"\u{e9}\r\"\n", ""),
+];
+
+/// Where locals and methods are known.
+const SCOPES: [Row; 7] = [
+    ("x = 1 if false\n3.times { x = 2 }\np x", "2\n", ""),
+    ("3.times { x = 2 }\nx = 1\np x", "1\n", ""),
+    (
+        "2.times { x = 1 }\n2.times { y = 1; z = 2; p y + z }",
+        "3\n3\n",
+        "",
+    ),
+    ("x = 5\n2.times { |x| puts x }\nputs x", "0\n1\n5\n", ""),
+    (
+        "def f(n)\n  n.times { |i| n.upto(9) { |j| return i + j } }\nend\np f(4)",
+        "4\n",
+        "",
+    ),
+    (
+        "class A\n  def f\n    2\n  end\n  def g\n    f\n  end\nend\ndef f\n  1\nend\nputs A.new.g, f",
+        "2\n1\n",
+        "",
+    ),
+    (
+        "class A\n  def puts(x)\n    x\n  end\n  def g\n    puts 1\n  end\nend\np A.new.g",
+        "1\n",
+        "",
+    ),
+];
+
 /// Assignments with operators.
 const ASSIGNMENTS: [Row; 6] = [
     (
@@ -432,9 +501,11 @@ pub(super) fn all_hold<R: Abort>(rt: &R, alloc: Global, rows: &[Row]) -> Result<
 
 #[test]
 fn scripts_print_what_they_should_and_end_so(rt: HostRuntime) -> Result<(), Fail> {
-    let tables: [&[Row]; 7] = [
+    let tables: [&[Row]; 9] = [
         &SUMS,
         &COMPARISONS,
+        &BINDING,
+        &SCOPES,
         &METHODS,
         &FLOW,
         &BLOCKS,

@@ -1,6 +1,6 @@
 // Sources and their tokens, by hand from the rules of the language.
 
-use crate::{LexFault, Token, TokenKind, lex};
+use rb_lexer::{LexFault, Token, TokenKind, lex};
 use std::alloc::{AllocError, Global};
 use std::test::Fail;
 
@@ -184,111 +184,9 @@ fn first_wrong(alloc: Global) -> Result<Option<usize>, LexFault> {
     Ok(None)
 }
 
-/// A source, and its first fault.
-const FAULTS: [(&[u8], LexFault); 46] = [
-    (b"~", LexFault::BadCharacter(0)),
-    (b"a ~\nb", LexFault::BadCharacter(2)),
-    (b"a\n~", LexFault::BadCharacter(2)),
-    (b"\"\xc3\xa9\" ~", LexFault::BadCharacter(5)),
-    (b"# \xc3\xa9\n~", LexFault::BadCharacter(5)),
-    (b"\xc3\xa9", LexFault::BadCharacter(0)),
-    (b"1a", LexFault::BadCharacter(1)),
-    (b"1.5", LexFault::BadCharacter(1)),
-    (b"x = 12abc", LexFault::BadCharacter(6)),
-    (b"\"#{~}", LexFault::BadCharacter(3)),
-    (b"\"", LexFault::UnclosedText(0)),
-    (b"a = 'b", LexFault::UnclosedText(4)),
-    (b"\"#{", LexFault::UnclosedText(0)),
-    (b"\"a#{\"b", LexFault::UnclosedText(0)),
-    (b"\"\" \"#{'a' + 'b", LexFault::UnclosedText(3)),
-    (b"'a\\'", LexFault::UnclosedText(0)),
-    (b"\"a\\", LexFault::UnclosedText(0)),
-    (b"\"\\q\"", LexFault::BadEscape(1)),
-    (b"\"\xc3\xa9\\z\"", LexFault::BadEscape(3)),
-    (b"\"a#{1}\\a\"", LexFault::BadEscape(6)),
-    (b"9223372036854775808", LexFault::IntegerTooWide(0)),
-    (b"a 9_223_372_036_854_775_808b", LexFault::IntegerTooWide(2)),
-    (b"a = 9223372036854775808\nb", LexFault::IntegerTooWide(4)),
-    (
-        b"\"\xc3\xa9\" 9223372036854775808",
-        LexFault::IntegerTooWide(5),
-    ),
-    (b"'\xc3\xa9' 'b", LexFault::UnclosedText(5)),
-    (b"puts ~1", LexFault::BadCharacter(5)),
-    (b"puts \"a\\q\"", LexFault::BadEscape(7)),
-    (b"puts \"ab", LexFault::UnclosedText(5)),
-    (b"puts 9223372036854775808", LexFault::IntegerTooWide(5)),
-    (b"00", LexFault::BadCharacter(1)),
-    (b"1_", LexFault::BadCharacter(1)),
-    (b"1__0", LexFault::BadCharacter(1)),
-    (b"12_a", LexFault::BadCharacter(2)),
-    (b"9_223_372_036_854_775_808", LexFault::IntegerTooWide(0)),
-    (b"18446744073709551616", LexFault::IntegerTooWide(0)),
-    (b"@1", LexFault::BadCharacter(0)),
-    (b"@@a", LexFault::BadCharacter(0)),
-    (b"$?", LexFault::BadCharacter(0)),
-    (b"a & b", LexFault::BadCharacter(2)),
-    (b"a ^ b", LexFault::BadCharacter(2)),
-    (b"a =~ b", LexFault::BadCharacter(3)),
-    (b"a !~ b", LexFault::BadCharacter(3)),
-    (b"\xff", LexFault::NotUtf8(0)),
-    (b"~\xc3", LexFault::NotUtf8(1)),
-    (b"a\xc3\xa9\xffb", LexFault::NotUtf8(3)),
-    (b"a = 1\nb\xffc", LexFault::NotUtf8(7)),
-];
-
-/// The number of the first source that has another.
-fn first_wrong_fault(alloc: Global) -> Option<usize> {
-    for (at, (source, fault)) in FAULTS.iter().enumerate() {
-        if lex(alloc, source).err() != Some(*fault) {
-            return Some(at);
-        }
-    }
-    None
-}
-
-/// A part so many times over.
-fn repeated(alloc: Global, part: &[u8], times: u32) -> Result<Vec<u8>, AllocError> {
-    let mut source = Vec::new(alloc);
-    for _ in 0..times {
-        source.extend_from_slice(part)?;
-    }
-    Ok(source)
-}
-
-/// A part, how often it stands in a source, and how many tokens that has, in a time that grows with the source.
-const LARGE: [(&[u8], u32, usize); 2] = [
-    (b"abc = 1\n", 131_072, 524_289),
-    (b"'.......'\n", 104_857, 419_429),
-];
-
-/// The number of the first large source that has so many not.
-fn first_wrong_count(alloc: Global) -> Result<Option<usize>, LexFault> {
-    for (at, (part, times, count)) in LARGE.iter().enumerate() {
-        let source = repeated(alloc, part, *times)?;
-        if lex(alloc, source.as_slice())?.len() != *count {
-            return Ok(Some(at));
-        }
-    }
-    Ok(None)
-}
-
-/// What is found in a text of code in texts, which is opened as often as a source has room for.
-fn deep(alloc: Global) -> Result<Option<LexFault>, AllocError> {
-    let source = repeated(alloc, b"\"#{", 349_525)?;
-    Ok(lex(alloc, source.as_slice()).err())
-}
-
 #[test]
-fn sources_have_these_tokens_or_faults(rt: HostRuntime) -> Result<(), Fail> {
-    let wrong = (first_wrong(rt.alloc())?, first_wrong_fault(rt.alloc()));
-    assert_eq!(rt; wrong, (None, None));
-    Ok(())
-}
-
-#[test]
-fn large_sources_are_read_in_time(rt: HostRuntime) -> Result<(), Fail> {
-    let wrong = (first_wrong_count(rt.alloc())?, deep(rt.alloc())?);
-    assert_eq!(rt; wrong, (None, Some(LexFault::UnclosedText(0))));
+fn sources_have_these_tokens(rt: HostRuntime) -> Result<(), Fail> {
+    let wrong = first_wrong(rt.alloc())?;
+    assert_eq!(rt; wrong, None);
     Ok(())
 }

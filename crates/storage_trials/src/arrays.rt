@@ -1,9 +1,9 @@
-//! That the calls succeed where memory is there, how the items are then held, and a caller that a runtime would have.
+// Arrays: that the calls succeed where memory is there, how the items are then held, and a caller that a runtime would have.
 
 ghost use Rattle.std.specs.Prelude.{◌≡◌, ◌-ℤ◌, pos, Some, length, IfSome, IfNone, IfOk, IsSomeAnd, OnErr};
 ghost use Rattle.array_strategy.specs.Elements.{item_at, place_of, put_at};
 
-use crate::{LocalArray, Peeked, PutFault, Strategy};
+use array_strategy::{LocalArray, Peeked, PutFault, Strategy};
 use std::alloc::{AllocError, Global};
 use std::test::Fail;
 use typed_location::{Flag, Item};
@@ -44,7 +44,7 @@ use Value::{False, Int, Nil, Text, True};
 impl Item for Value {
     ghost use Rattle.std.specs.Prelude.{ℤ, Some, None, false, refl};
     ghost use Rattle.typed_location.specs.declared.flag.Flag.TheVariants as flags;
-    ghost use Rattle.array_strategy.specs.declared.tests.Value.TheVariants.{Nil, False, True, Int, Text};
+    ghost use Rattle.storage_trials.specs.declared.arrays.Value.TheVariants.{Nil, False, True, Int, Text};
 
     ghost int = { Int };
 

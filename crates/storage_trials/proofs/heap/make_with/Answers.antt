@@ -4,7 +4,7 @@ use Rattle.rb_model.specs.Values.{Int}
 use Rattle.rb_model.specs.Things.{Object}
 use Rattle.rb_model.specs.Private.{held}
 use Rattle.local_heap.proofs.Callers.{held_made, held_done}
-use Rattle.local_heap.proofs.tests.make_with.Goals as goal
+use Rattle.storage_trials.proofs.heap.make_with.Goals as goal
 
 pub apply-requires : goal.apply-requires
 apply-requires g c =
