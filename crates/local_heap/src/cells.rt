@@ -209,6 +209,7 @@ impl Cells {
                     thread: self.thread,
                     serial,
                 },
+                at: 0,
             }),
         }
     }

@@ -12,7 +12,7 @@ use Rattle.rb_model.specs.Acts.{Act, Done}
 use Rattle.rb_model.specs.Acts as reply
 use Rattle.rb_model.specs.Ends.{End, Steps}
 use Rattle.rb_model.specs.Ends
-use Rattle.rb_model.specs.Things.{Thing, gives}
+use Rattle.rb_model.specs.Things.{Thing, gives_to}
 use Rattle.rb_model.specs.Private.{Private, held, entered, acted}
 use Rattle.rb_machine.specs.Scopes.{Script, Scope}
 use Rattle.rb_machine.specs.Control.{State, On, Cont, Then, Under, Turns, Counting, Walking, EachPair, WithElement, Eval, Give, Leave, Following, Looping, Turning, Passing, Joining, Drafting, Making, Calling, Reading, Showing, Ended, max_depth}
@@ -170,9 +170,9 @@ module _ (S : Script) (N j : ℕ) where
   makes_longer b h s thing e keep (inr out) = let wrong : Stop Steps ≡ Make thing = ap (move S) (sym out.0) ∙ e in absurd (cc)
 
   acts_longer : (b : List ℕ) (h : Private) (s : State) (r : Reference) (act : Act) (thing : Thing) → move S s ≡ Ask r act → held h r.id ≡ Some thing → Keeps S j s (Ask r act) → Longer b h s
-      → Longer b (acted h r.id act thing) (replied s (gives thing act))
+      → Longer b (acted h r.id act thing) (replied s (gives_to h.thread thing act))
   acts_longer b h s r act thing e f (inl keep) (inl run) =
-      inl (subst (λ t. Runs S (N + j) b (acted h r.id act thing) t) (replied_longer j s (gives thing act)) (acts b h (longer j s) r act thing run keep f))
+      inl (subst (λ t. Runs S (N + j) b (acted h r.id act thing) t) (replied_longer j s (gives_to h.thread thing act)) (acts b h (longer j s) r act thing run keep f))
   acts_longer b h s r act thing e f (inr lacks) run = let wrong : Ask r act ≡ Go spent = sym e ∙ lacks_spent S s lacks in absurd (cc)
   acts_longer b h s r act thing e f keep (inr out) = let wrong : Stop Steps ≡ Ask r act = ap (move S) (sym out.0) ∙ e in absurd (cc)
 

@@ -315,6 +315,7 @@ answer_local (reply.Value v) at r k sc d left = refl
 answer_local (reply.Elements vs) at r k sc d left = refl
 answer_local (reply.Pairs ps) at r k sc d left = refl
 answer_local reply.Done at r k sc d left = refl
+answer_local (reply.Started number thread) at r k sc d left = refl
 answer_local (reply.Ended (ending.Value v)) at r k sc d left = refl
 answer_local (reply.Ended (ending.Raised f p)) at r k sc d left = refl
 answer_local (reply.Ended ending.Steps) at r k sc d left = refl

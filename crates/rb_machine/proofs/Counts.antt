@@ -128,6 +128,7 @@ answer_left (reply.Value v) at k sc d left = refl
 answer_left (reply.Elements vs) at k sc d left = refl
 answer_left (reply.Pairs ps) at k sc d left = refl
 answer_left reply.Done at k sc d left = refl
+answer_left (reply.Started number thread) at k sc d left = refl
 answer_left (reply.Ended (ending.Value v)) at k sc d left = refl
 answer_left (reply.Ended (ending.Raised f p)) at k sc d left = refl
 answer_left (reply.Ended ending.Steps) at k sc d left = refl

@@ -9,7 +9,7 @@ use Rattle.rb_model.specs.Values.{Int, To, Reference}
 use Rattle.rb_model.specs.Acts.{Act, Reply, Done}
 use Rattle.rb_model.specs.Acts as reply
 use Rattle.rb_model.specs.Ends.{End, Raised}
-use Rattle.rb_model.specs.Things.{Thing, gives}
+use Rattle.rb_model.specs.Things.{Thing, gives_to}
 use Rattle.rb_model.specs.Private.{Private, held, entered, acted}
 use Rattle.rb_machine.specs.Scopes.{Script, Scope}
 use Rattle.rb_machine.specs.Control.{State, On, Cont, Then, Under, Counting, EachPair, WithElement, Eval, Give, Turning, Drafting, max_depth}
@@ -40,7 +40,7 @@ module _ (S : Script) where
   left_within begins = omega arith
   left_within (goes b h s t run e) = omega (arith, left_within run, not_fewer (begins_step S s) (left_in s) (left_in t) (counted_move S s t e))
   left_within (makes b h s thing run e) = omega (arith, left_within run, replies_are_free s (reply.Value (To (next_thing h thing))))
-  left_within (acts b h s r act thing run e f) = omega (arith, left_within run, replies_are_free s (gives thing act))
+  left_within (acts b h s r act thing run e f) = omega (arith, left_within run, replies_are_free s (gives_to h.thread thing act))
   left_within (shows b h s bytes run e) = omega (arith, left_within run, replies_are_free s Done)
 
   -- the end of a script that is too deep
@@ -145,9 +145,9 @@ module _ (S : Script) (n j : ℕ) where
   makes_shorter b h s thing e (inr deep) = let wrong : Stop (Raised TooDeep deep.0) ≡ Make thing = ap (move S) (sym deep.2) ∙ e in absurd (cc)
 
   acts_shorter : (b : List ℕ) (h : Private) (s : State) (r : Reference) (act : Act) (thing : Thing) → move S s ≡ Ask r act → held h r.id ≡ Some thing → Shorter b h s
-      → Shorter b (acted h r.id act thing) (replied s (gives thing act))
+      → Shorter b (acted h r.id act thing) (replied s (gives_to h.thread thing act))
   acts_shorter b h s r act thing e f (inl x) =
-      inl (replied x.0 (gives thing act), replied_shorter s x.0 (gives thing act) x.1, acts b h x.0 r act thing x.2 (wanted S j x.0 (Ask r act) tt (ap (move S) (sym x.1) ∙ e)) f)
+      inl (replied x.0 (gives_to h.thread thing act), replied_shorter s x.0 (gives_to h.thread thing act) x.1, acts b h x.0 r act thing x.2 (wanted S j x.0 (Ask r act) tt (ap (move S) (sym x.1) ∙ e)) f)
   acts_shorter b h s r act thing e f (inr deep) = let wrong : Stop (Raised TooDeep deep.0) ≡ Ask r act = ap (move S) (sym deep.2) ∙ e in absurd (cc)
 
   shows_shorter : (b : List ℕ) (h : Private) (s : State) (bytes : List ℕ) → move S s ≡ Show bytes → Shorter b h s → Shorter (b ++ bytes) h (replied s Done)
@@ -160,7 +160,7 @@ module _ (S : Script) (n j : ℕ) where
       goes_shorter b h s t e small (runs_shorter run (omega (arith, small, not_fewer (begins_step S s) (left_in s) (left_in t) (counted_move S s t e))))
   runs_shorter (makes b h s thing run e) small =
       makes_shorter b h s thing e (runs_shorter run (omega (arith, small, replies_are_free s (reply.Value (To (next_thing h thing))))))
-  runs_shorter (acts b h s r act thing run e f) small = acts_shorter b h s r act thing e f (runs_shorter run (omega (arith, small, replies_are_free s (gives thing act))))
+  runs_shorter (acts b h s r act thing run e f) small = acts_shorter b h s r act thing e f (runs_shorter run (omega (arith, small, replies_are_free s (gives_to h.thread thing act))))
   runs_shorter (shows b h s bytes run e) small = shows_shorter b h s bytes e (runs_shorter run (omega (arith, small, replies_are_free s Done)))
 
 left_longer : (j : ℕ) (s : State) → left_in (longer j s) ≡ left_in s + j

@@ -6,7 +6,7 @@ use Rattle.rb_model.specs.Values.{Value, Reference}
 use Rattle.rb_model.specs.Acts.{Act, Reply, Done}
 use Rattle.rb_model.specs.Acts as reply
 use Rattle.rb_model.specs.Ends as ending
-use Rattle.rb_model.specs.Things.{Thing, gives}
+use Rattle.rb_model.specs.Things.{Thing, gives_to}
 use Rattle.rb_model.specs.Private.{Private, held}
 use Rattle.rb_machine.specs.Scopes.{Script, Scope}
 use Rattle.rb_machine.specs.Control.{State, On, Cont, Draft, Form, Inspected, Lined, Use, Keys, Values, ForEach, ForText, Eval, Give, Leave, Following, Looping, Turning, Passing, Joining, Drafting, Making, Calling, Reading, Showing, Ended}
@@ -32,6 +32,7 @@ module _ (S : Script) (N : ℕ) where
   answered_less (reply.Elements vs) at k sc d left = (refl, omega arith)
   answered_less (reply.Pairs ps) at k sc d left = (refl, omega arith)
   answered_less reply.Done at k sc d left = (refl, omega arith)
+  answered_less (reply.Started number thread) at k sc d left = (refl, omega arith)
   answered_less (reply.Ended (ending.Value v)) at k sc d left = (refl, omega arith)
   answered_less (reply.Ended (ending.Raised f p)) at k sc d left = (refl, omega arith)
   answered_less (reply.Ended ending.Steps) at k sc d left = (refl, omega arith)
@@ -90,7 +91,7 @@ module _ (S : Script) (N : ℕ) where
   asked : (s : State) (q : Reference) (act : Act) (thing : Option Thing) (b : List ℕ) (h : Private) → Runs S N b h s → move S s ≡ Ask q act → held h q.id ≡ thing
       → ((r : Reply) → Run (replied s r)) → Finishes S N
   asked s q act None b h run e f later = misses b h s q act run e f
-  asked s q act (Some thing) b h run e f later = later (gives thing act) _ _ (acts b h s q act thing run e f)
+  asked s q act (Some thing) b h run e f later = later (gives_to h.thread thing act) _ _ (acts b h s q act thing run e f)
 
   step : (s : State) (next : Next) → move S s ≡ next → Down S s next → (Wants next → (r : Reply) → Run (replied s r)) → ((t : State) → Less S t s → Run t) → Run s
   step s (Go t) e d reply later b h run = later t d b h (goes b h s t run e)

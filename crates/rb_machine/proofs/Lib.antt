@@ -17,6 +17,7 @@ pub mod Turns
 pub mod Division
 pub mod Budgets
 pub mod Main
+pub mod Rising
 pub mod Examples
 pub mod Making
 pub mod Telling

@@ -8,40 +8,42 @@ use Rattle.std.proofs.lemmas.Bool.{and_parts, and_from}
 use Rattle.std.proofs.lemmas.Grind.{flat_map-append}
 use Rattle.rb_model.specs.Values.{Value as Val, To, Reference}
 use Rattle.rb_model.specs.declared.value.Id.{Id}
-use Rattle.rb_model.specs.Acts.{Act, Done}
+use Rattle.rb_model.specs.Acts.{Act, Reply, Done}
 use Rattle.rb_model.specs.Acts as reply
-use Rattle.rb_model.specs.Ends.{End}
-use Rattle.rb_model.specs.Things.{Thing, Object, becomes, gives}
+use Rattle.rb_model.specs.Ends.{End, closing}
+use Rattle.rb_model.specs.Things.{Thing, Object, becomes_by, gives_to}
 use Rattle.rb_model.specs.Paths.{shape_made, shape_behind}
 use Rattle.rb_model.specs.Private.{Private, Item, Leaves, nothing_waits, no_thing, elsewhere, moves, bare, held, or_none, entered, acted, with_shape_of}
-use Rattle.rb_model.specs.Log.{Log, Deed, printed, prints}
+use Rattle.rb_model.specs.Log.{Log, Entry, Call, On, Start, Gather, Print, last_step, printed, prints}
+use Rattle.rb_model.specs.Log as log
+use Rattle.rb_model.specs.Started.{after_call, after_entries, ungathered}
 use Rattle.rb_machine.specs.Scopes.{Script}
 use Rattle.rb_machine.specs.Control.{State}
 use Rattle.rb_machine.specs.Move.{Go, Make, Ask, Show, Stop, move, replied}
-use Rattle.rb_machine.specs.Follows.{At, Comes, ends, cut, fills, refuses, Follows, closes, late, full, next_thing, last_entry, step_of}
+use Rattle.rb_machine.specs.Follows.{At, Comes, ends, cut, fills, refuses, Tail, all_gathered, gathers, leaves_out, Follows, closes, late, full, next_thing, last_entry, step_of}
 use Rattle.rb_machine.specs.Follows as thread
 use Rattle.rb_machine.specs.Alone.{Runs, Alone, opening}
 use Rattle.rb_machine.specs.Alone as run
-use Rattle.rb_machine.specs.Laws.{asks_thing, keeps_to_itself, last_step, is_cut, DoesAsAlone, ShowsAFront}
+use Rattle.rb_machine.specs.Laws.{asks_thing, keeps_to_itself, is_cut, DoesAsAlone, ShowsAFront}
 use Rattle.rb_machine.proofs.Once.{front}
 
 -- ---- one entry more
 
-prints_more : (es : List Deed) (e : Deed) → prints (es ++ e ∷ []) ≡ prints es ++ printed e.call
-prints_more es e = flat_map-append (λ (e : Deed). printed e.call) es (e ∷ []) ∙ ap (λ l. prints es ++ l) (append-nil (printed e.call))
+prints_more : (es : List Entry) (e : Entry) → prints (es ++ e ∷ []) ≡ prints es ++ printed e.call
+prints_more es e = flat_map-append (λ (e : Entry). printed e.call) es (e ∷ []) ∙ ap (λ l. prints es ++ l) (append-nil (printed e.call))
 
 -- an entry that shows nothing
-prints_same : (es : List Deed) (e : Deed) → printed e.call ≡ [] → prints (es ++ e ∷ []) ≡ prints es
+prints_same : (es : List Entry) (e : Entry) → printed e.call ≡ [] → prints (es ++ e ∷ []) ≡ prints es
 prints_same es e h = prints_more es e ∙ ap (λ l. prints es ++ l) h ∙ append-nil (prints es)
 
-keeps_more : (es : List Deed) (e : Deed) → keeps_to_itself (es ++ e ∷ []) ≡ true → (keeps_to_itself es ≡ true) × (not (asks_thing e.call) ≡ true)
+keeps_more : (es : List Entry) (e : Entry) → keeps_to_itself (es ++ e ∷ []) ≡ true → (keeps_to_itself es ≡ true) × (not (asks_thing e.call) ≡ true)
 keeps_more [] e h = (refl, (and_parts (not (asks_thing e.call)) true h).0)
 keeps_more (f ∷ es) e h =
     let p = and_parts (not (asks_thing f.call)) (keeps_to_itself (es ++ e ∷ [])) h in
     let q = keeps_more es e p.1 in
     (and_from (not (asks_thing f.call)) (keeps_to_itself es) p.0 q.0, q.1)
 
-last_step_more : (es : List Deed) (e : Deed) → last_step (es ++ e ∷ []) ≡ e.step
+pub last_step_more : (es : List Entry) (e : Entry) → last_step (es ++ e ∷ []) ≡ e.step
 last_step_more [] e = refl
 last_step_more (f ∷ []) e = refl
 last_step_more (f ∷ g ∷ es) e = last_step_more (g ∷ es) e
@@ -72,7 +74,7 @@ changes_both : (xs : List (Option Thing)) (fs : List (Option Shape)) (ss : List 
 changes_both xs fs ss t zero act thing h = absurd (nothing_held (t == 0) thing h)
 changes_both xs fs ss t (suc n) act thing h =
     let behind = option_map (shape_behind act) (or_none (slice_get fs n)) in
-    (h, set xs n (Some (becomes thing act)), set fs n behind, with_shape_of ss behind, refl, refl)
+    (h, set xs n (Some (becomes_by 0 thing act)), set fs n behind, with_shape_of ss behind, refl, refl)
 
 -- ---- the run beside the thread
 
@@ -96,26 +98,22 @@ module _ (S : Script) (N : ℕ) where
       (xs ++ Some thing ∷ [], fs ++ shape_made thing ∷ [], with_shape_of ss (shape_made thing), refl, run.makes b (globals_before xs fs ss) s thing r e)
 
   acts_beside : (b : List ℕ) (h : Private) (s : State) (r : Reference) (act : Act) (thing : Thing) → Beside S N b h s → move S s ≡ Ask r act → held h r.id ≡ Some thing
-      → Beside S N b (acted h r.id act thing) (replied s (gives thing act))
+      → Beside S N b (acted h r.id act thing) (replied s (gives_to h.thread thing act))
   acts_beside b h s r act thing (xs, fs, ss, is, ran) e f =
       let there : held (bare_before xs fs ss) r.id ≡ Some thing = ap (λ g. held g r.id) (sym is) ∙ f in
       acts_both b h s r act thing xs fs ss is ran e (changes_both xs fs ss r.id.thread r.id.serial act thing there)
     where
       acts_both : (b : List ℕ) (h : Private) (s : State) (r : Reference) (act : Act) (thing : Thing) (xs : List (Option Thing)) (fs : List (Option Shape)) (ss : List Shape)
           → h ≡ bare_before xs fs ss → Runs S N b (globals_before xs fs ss) s → move S s ≡ Ask r act → ChangesBoth xs fs ss r.id act thing
-          → Beside S N b (acted h r.id act thing) (replied s (gives thing act))
-      acts_both b h s r act thing xs fs ss is ran e (there, ys, gs, ts, bare, globals) = (
-        ys,
-        gs,
-        ts,
-        ap (λ g. acted g r.id act thing) is ∙ bare,
-        subst (λ g. Runs S N b g (replied s (gives thing act))) globals (run.acts b (globals_before xs fs ss) s r act thing ran e there),
-      )
+          → Beside S N b (acted h r.id act thing) (replied s (gives_to h.thread thing act))
+      acts_both b h s r act thing xs fs ss is ran e (there, ys, gs, ts, bare, globals) =
+          subst (λ g. Beside S N b (acted g r.id act thing) (replied s (gives_to g.thread thing act))) (sym is)
+          (ys, gs, ts, bare, subst (λ g. Runs S N b g (replied s (gives_to 0 thing act))) globals (run.acts b (globals_before xs fs ss) s r act thing ran e there))
 
   goes_beside : (b : List ℕ) (h : Private) (s s' : State) → Beside S N b h s → move S s ≡ Go s' → Beside S N b h s'
   goes_beside b h s s' (xs, fs, ss, is, r) e = (xs, fs, ss, is, run.goes b (globals_before xs fs ss) s s' r e)
 
-  shows_beside : (es : List Deed) (e : Deed) (h : Private) (s : State) (bytes : List ℕ) → Beside S N (prints es) h s → move S s ≡ Show bytes → printed e.call ≡ bytes
+  shows_beside : (es : List Entry) (e : Entry) (h : Private) (s : State) (bytes : List ℕ) → Beside S N (prints es) h s → move S s ≡ Show bytes → printed e.call ≡ bytes
       → Beside S N (prints (es ++ e ∷ [])) h (replied s Done)
   shows_beside es e h s bytes (xs, fs, ss, is, r) m p =
       (xs, fs, ss, is, subst (λ b. Runs S N b (globals_before xs fs ss) (replied s Done)) (sym (prints_more es e ∙ ap (λ b. prints es ++ b) p)) (run.shows (prints es) (globals_before xs fs ss) s bytes r m))
@@ -135,11 +133,11 @@ module _ (S : Script) (N : ℕ) where
 
   own_end : {l : Log} {h : Private} {how : End} {n : ℕ} → Comes S N (opening S N) l h how n → h.thread ≡ 0 → keeps_to_itself l.entries ≡ true → is_cut how ≡ false → Alone S N (prints l.entries) how n
   own_end (ends l h s e a stop) z k c = own_alone l h s e (beside a z k) stop
-  own_end (cut l h want n a w le) z k c = let wrong : true ≡ false = c in absurd (cc)
+  own_end (cut l h want n a w ge le) z k c = let wrong : true ≡ false = c in absurd (cc)
   own_end (fills l h h' s r act moved used asked a e f g) z k c = let wrong : true ≡ false = c in absurd (cc)
   own_end (refuses l h s bytes a e) z k c = let wrong : true ≡ false = c in absurd (cc)
 
-  closed_alone : (l : Log) (how : End) (n : ℕ) (last : Deed) → printed last.call ≡ [] → last.step ≡ n → Alone S N (prints l.entries) how n
+  closed_alone : (l : Log) (how : End) (n : ℕ) (last : Entry) → printed last.call ≡ [] → last.step ≡ n → Alone S N (prints l.entries) how n
       → Alone S N (prints (l.entries ++ last ∷ [])) how (last_step (l.entries ++ last ∷ []))
   closed_alone l how n last silent at alone =
       subst (λ m. Alone S N (prints (l.entries ++ last ∷ [])) how m) (sym (last_step_more l.entries last ∙ at))
@@ -159,24 +157,77 @@ module _ (S : Script) (N : ℕ) where
 
   shown_in : {l : Log} {h : Private} {how : End} {n : ℕ} → Comes S N (opening S N) l h how n → h.thread ≡ 0 → keeps_to_itself l.entries ≡ true → Shown (prints l.entries)
   shown_in (ends l h s e a stop) z k = shown_at l h s a z k
-  shown_in (cut l h want n a w le) z k = shown_at l h want a z k
+  shown_in (cut l h want n a w ge le) z k = shown_at l h want a z k
   shown_in (fills l h h' s r act moved used asked a e f g) z k = shown_at l h s a z k
   shown_in (refuses l h s bytes a e) z k = shown_at l h s a z k
 
-  shown_closed : (es : List Deed) (last : Deed) → printed last.call ≡ [] → keeps_to_itself (es ++ last ∷ []) ≡ true → (keeps_to_itself es ≡ true → Shown (prints es))
+  shown_closed : (es : List Entry) (last : Entry) → printed last.call ≡ [] → keeps_to_itself (es ++ last ∷ []) ≡ true → (keeps_to_itself es ≡ true → Shown (prints es))
       → Shown (prints (es ++ last ∷ []))
   shown_closed es last silent k shown = subst Shown (sym (prints_same es last silent)) (shown (keeps_more es last k).0)
 
+  -- ---- its tail
+
+  -- a call that keeps to itself starts no thread, so none waits to be gathered
+  none_after : (e : Entry) → not (asks_thing e.call) ≡ true → after_call [] e.call e.reply ≡ []
+  none_after e k = none_behind e.call e.reply k
+    where
+      none_behind : (c : Call) (r : Reply) → not (asks_thing c) ≡ true → after_call [] c r ≡ []
+      none_behind (On thing act) r k = absurd (let wrong : false ≡ true = k in cc)
+      none_behind (Start thing body values) r k = absurd (let wrong : false ≡ true = k in cc)
+      none_behind (Gather thread) r k = absurd (let wrong : false ≡ true = k in cc)
+      none_behind (Print bytes) r k = refl
+      none_behind (log.End how) r k = refl
+
+  none_waits : (es : List Entry) → keeps_to_itself es ≡ true → after_entries [] es ≡ []
+  none_waits [] k = refl
+  none_waits (e ∷ es) k =
+      let p = and_parts (not (asks_thing e.call)) (keeps_to_itself es) k in
+      ap (λ rs. after_entries rs es) (none_after e p.0) ∙ none_waits es p.1
+
+  -- where no thread waits, nothing is done behind the own work
+  abbrev Ends : Log → End → Log → End → Bool → Type 0
+  Ends l e l' e' lacking = (l' ≡ l) × (e' ≡ e) × (lacking ≡ false)
+
+  no_tail : {n : ℕ} {l l' : Log} {e e' : End} {rs : List Reference} {lacking : Bool} → Tail n l e rs l' e' lacking → rs ≡ [] → Ends l e l' e' lacking
+  no_tail (all_gathered l e) z = (refl, refl, refl)
+  no_tail (gathers l l' e how e' r rs lacking t) z = absurd (let wrong : (r ∷ rs) ≡ [] = z in cc)
+  no_tail (leaves_out l l' e e' r rs lacking t) z = absurd (let wrong : (r ∷ rs) ≡ [] = z in cc)
+
+  -- entries of a tail come behind those of the own work
+  keeps_before : {n : ℕ} {l l' : Log} {e e' : End} {rs : List Reference} {lacking : Bool} → Tail n l e rs l' e' lacking → keeps_to_itself l'.entries ≡ true → keeps_to_itself l.entries ≡ true
+  keeps_before (all_gathered l e) k = k
+  keeps_before (gathers l l' e how e' r rs lacking t) k = (keeps_more l.entries _ (keeps_before t k)).0
+  keeps_before (leaves_out l l' e e' r rs lacking t) k = keeps_before t k
+
+  tailless : {n : ℕ} {l l' : Log} {e e' : End} {lacking : Bool} → Tail n l e (ungathered l) l' e' lacking → keeps_to_itself l'.entries ≡ true → Ends l e l' e' lacking
+  tailless {l = l} t k = no_tail t (none_waits l.entries (keeps_before t k))
+
+  shown_behind : {n : ℕ} {l l' : Log} {h : Private} {own e' : End} {lacking : Bool} → Comes S N (opening S N) l h own n → h.thread ≡ 0 → Tail n l own (ungathered l) l' e' lacking
+      → keeps_to_itself l'.entries ≡ true → Shown (prints l'.entries)
+  shown_behind {l = l} c z t k =
+      let same = tailless t k in
+      subst (λ (m : Log). Shown (prints m.entries)) (sym same.0) (shown_in c z (subst (λ (m : Log). keeps_to_itself m.entries ≡ true) same.0 k))
+
   shown_by : {l : Log} {how : End} {h : Private} → Follows S N (opening S N) l how h → h.thread ≡ 0 → keeps_to_itself l.entries ≡ true → Shown (prints l.entries)
-  shown_by (closes l h h' e n moved c g) z k = shown_closed l.entries _ refl k (shown_in c (sym (leaves_thread g) ∙ z))
-  shown_by (late l h v n c) z k = shown_closed l.entries _ refl k (shown_in c z)
-  shown_by (full l h h' v n used asked moved c g) z k = shown_closed l.entries _ refl k (shown_in c z)
+  shown_by (closes l l' h h' own e n lacking moved c t g) z k = shown_closed l'.entries _ refl k (shown_behind c (sym (leaves_thread g) ∙ z) t)
+  shown_by (late l l' h own v n c t) z k = shown_closed l'.entries _ refl k (shown_behind c z t)
+  shown_by (full l l' h h' own v n used asked moved c t g) z k = shown_closed l'.entries _ refl k (shown_behind c z t)
+
+  -- what the own work came to, where the end is no cut
+  whole_behind : {n : ℕ} {l l' : Log} {h : Private} {own e : End} {lacking : Bool} → Comes S N (opening S N) l h own n → h.thread ≡ 0 → Tail n l own (ungathered l) l' e lacking
+      → keeps_to_itself l'.entries ≡ true → is_cut (closing e lacking) ≡ false → Alone S N (prints l'.entries) (closing e lacking) n
+  whole_behind {n = n} {l = l} {l' = l'} {own = own} {e = e} {lacking = lacking} c z t k whole =
+      let same = tailless t k in
+      let ended : closing e lacking ≡ own = ap (λ x. closing x lacking) same.1 ∙ ap (λ x. closing own x) same.2 in
+      let kept = subst (λ (m : Log). keeps_to_itself m.entries ≡ true) same.0 k in
+      let alone : Alone S N (prints l.entries) own n = own_end c z kept (subst (λ x. is_cut x ≡ false) ended whole) in
+      subst (λ (m : Log). Alone S N (prints m.entries) (closing e lacking) n) (sym same.0) (subst (λ x. Alone S N (prints l.entries) x n) (sym ended) alone)
 
 pub does_as_alone : DoesAsAlone
-does_as_alone S N l how o (closes m h h' e n moved c g) z k own =
-    closed_alone S N m e n (last_entry S N (opening S N) n e moved) refl refl (own_end S N c (sym (leaves_thread g) ∙ z) (keeps_more m.entries _ k).0 own)
-does_as_alone S N l how o (late m h v n c) z k own = let wrong : true ≡ false = own in absurd (cc)
-does_as_alone S N l how o (full m h h' v n used asked moved c g) z k own = let wrong : true ≡ false = own in absurd (cc)
+does_as_alone S N l how o (closes m m' h h' own e n lacking moved c t g) z k whole =
+    closed_alone S N m' (closing e lacking) n (last_entry S N (opening S N) n (closing e lacking) moved) refl refl (whole_behind S N c (sym (leaves_thread g) ∙ z) t (keeps_more m'.entries _ k).0 whole)
+does_as_alone S N l how o (late m m' h own v n c t) z k whole = let wrong : true ≡ false = whole in absurd (cc)
+does_as_alone S N l how o (full m m' h h' own v n used asked moved c t g) z k whole = let wrong : true ≡ false = whole in absurd (cc)
 
 pub shows_a_front : ShowsAFront
 shows_a_front S N l how o bytes own steps f z k alone = let p = shown_by S N f z k in front S N (prints l.entries) bytes p.0 p.1 own steps p.2 alone

@@ -5,7 +5,7 @@ use Rattle.rb_model.specs.Values.{To}
 use Rattle.rb_model.specs.Acts.{Done}
 use Rattle.rb_model.specs.Acts as reply
 use Rattle.rb_model.specs.Ends.{End}
-use Rattle.rb_model.specs.Things.{Thing, gives}
+use Rattle.rb_model.specs.Things.{Thing, gives_to}
 use Rattle.rb_model.specs.Private.{Private, held, entered, acted}
 use Rattle.rb_machine.specs.Scopes.{Script}
 use Rattle.rb_machine.specs.Control.{State}
@@ -22,7 +22,7 @@ pub record Point : Type 0 where
 
 abbrev answered_by : Option Thing → Next → Point → Point
 answered_by None next x = x
-answered_by (Some thing) (Ask r act) x = record { bytes = x.bytes; store = acted x.store r.id act thing; state = replied x.state (gives thing act) }
+answered_by (Some thing) (Ask r act) x = record { bytes = x.bytes; store = acted x.store r.id act thing; state = replied x.state (gives_to x.store.thread thing act) }
 answered_by (Some thing) next x = x
 
 abbrev after : Next → Point → Point

@@ -1,5 +1,5 @@
 -- Each state of a run has the names of the text in scope, and a run that ends for want of steps has used them all.
-use Rattle.std.specs.Prelude.{nat_lt}
+use Rattle.std.specs.Prelude.{nat_lt, ◌==◌}
 use Rattle.std.proofs.Common.{◌≡◌, ℕ, ◌-◌, Bool, true, false, cond, List, [], ◌∷◌, ◌++◌, length, take, drop, Option, Some, None, refl, sym, ap, ◌∙◌, subst, arith}
 use Rattle.std.proofs.lemmas.List.{drop-map, length-map, take-append-drop}
 use Rattle.std.proofs.Math.Seq.{drop-append_seam}
@@ -10,7 +10,7 @@ use Rattle.rb_tree.specs.declared.node.Piece.{out-Piece}
 use Rattle.rb_model.specs.Acts.{Act, Reply, Done}
 use Rattle.rb_model.specs.Acts as reply
 use Rattle.rb_model.specs.Ends.{Steps}
-use Rattle.rb_model.specs.Things.{Thing, Object, Elements, Pairs, Mutex, gives, put_reply, index_of, has_room, may_put, max_elements}
+use Rattle.rb_model.specs.Things.{Thing, Object, Elements, Pairs, Mutex, Thread, gives, gives_to, mutex_gives, put_reply, index_of, has_room, may_put, max_elements}
 use Rattle.rb_model.specs.Private.{Private}
 use Rattle.rb_machine.specs.Scopes.{Script, Scope, Locals}
 use Rattle.rb_machine.specs.Control.{State, On, Cont, Use, Keys, Values, ForEach, ForText, Eval, Give, Leave, Following, Looping, Turning, Passing, Joining, Drafting, Making, Calling, Reading, Showing, Ended}
@@ -20,9 +20,10 @@ use Rattle.rb_machine.specs.Alone.{Runs, begins, goes, makes, acts, shows}
 use Rattle.rb_machine.specs.Laws.{KeepsScopes, ScopesFollowTheText, IterationsLeaveTheRest, StepsAreUsedUp, AreInScope, names_in}
 use Rattle.rb_machine.proofs.Kept.{Sound, names_in-fresh, names_in-take, raised_sound, perform_sound, piece_sound, give_sound, leave_sound, node_sound, turn_sound, going_sound, drafted_sound}
 
--- no act ends a thread
-abbrev IsNoEnd : Reply → Type 0
+-- no act on what a thread may own starts or ends a thread
+abbrev pub IsNoEnd : Reply → Type 0
 IsNoEnd (reply.Ended how) = ⊥
+IsNoEnd (reply.Started number thread) = ⊥
 IsNoEnd r = Unit {0}
 
 no_end_if : (b : Bool) (r q : Reply) → IsNoEnd r → IsNoEnd q → IsNoEnd (cond b r q)
@@ -41,6 +42,20 @@ gives_no_end (Elements vs) (reply.Push v) = no_end_if (has_room (length vs)) _ _
 gives_no_end (Elements vs) (reply.Unshift v) = no_end_if (has_room (length vs)) _ _ tt tt
 gives_no_end (Pairs ps) (reply.KPut k v) = no_end_if (may_put k ps) _ _ tt tt
 gives_no_end thing act = tt
+
+mutex_no_end : (t : ℕ) (act : Act) (owner : Option ℕ) → IsNoEnd (mutex_gives t act owner)
+mutex_no_end t reply.Lock None = tt
+mutex_no_end t reply.Lock (Some owner) = tt
+mutex_no_end t reply.Unlock None = tt
+mutex_no_end t reply.Unlock (Some owner) = no_end_if (owner == t) _ _ tt tt
+mutex_no_end t act owner = tt
+
+pub gives_to_no_end : (t : ℕ) (thing : Thing) (act : Act) → IsNoEnd (gives_to t thing act)
+gives_to_no_end t (Object class fields) act = gives_no_end (Object class fields) act
+gives_to_no_end t (Elements vs) act = gives_no_end (Elements vs) act
+gives_to_no_end t (Pairs ps) act = gives_no_end (Pairs ps) act
+gives_to_no_end t (Mutex owner) act = mutex_no_end t act owner
+gives_to_no_end t (Thread s) act = tt
 
 module _ (S : Script) where
   abbrev GoesSound : Next → Type 0
@@ -73,6 +88,7 @@ module _ (S : Script) where
   answered_sound (reply.Elements vs) at k sc d left plain h = h
   answered_sound (reply.Pairs ps) at k sc d left plain h = h
   answered_sound reply.Done at k sc d left plain h = h
+  answered_sound (reply.Started number thread) at k sc d left plain h = absurd plain
   answered_sound (reply.Ended how) at k sc d left plain h = absurd plain
   answered_sound (reply.Failed f) at k sc d left plain h = raised_sound S f at left
 
@@ -105,7 +121,7 @@ module _ (S : Script) where
   runs_sound begins = names_in-fresh S.main_names []
   runs_sound (goes b h s t run e) = subst GoesSound e (moved s (runs_sound run))
   runs_sound (makes b h s thing run e) = reply_sound s _ tt (runs_sound run)
-  runs_sound (acts b h s r act thing run e f) = reply_sound s (gives thing act) (gives_no_end thing act) (runs_sound run)
+  runs_sound (acts b h s r act thing run e f) = reply_sound s (gives_to h.thread thing act) (gives_to_no_end h.thread thing act) (runs_sound run)
   runs_sound (shows b h s bytes run e) = reply_sound s Done tt (runs_sound run)
 
   in_scope : (s : State) → Sound S s → KeepsScopes S s

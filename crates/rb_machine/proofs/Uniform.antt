@@ -307,6 +307,7 @@ answer_uniform (reply.Value v) at k sc d j left = refl
 answer_uniform (reply.Elements vs) at k sc d j left = refl
 answer_uniform (reply.Pairs ps) at k sc d j left = refl
 answer_uniform reply.Done at k sc d j left = refl
+answer_uniform (reply.Started number thread) at k sc d j left = refl
 answer_uniform (reply.Ended (ending.Value v)) at k sc d j left = refl
 answer_uniform (reply.Ended (ending.Raised f p)) at k sc d j left = refl
 answer_uniform (reply.Ended ending.Steps) at k sc d j left = refl

@@ -4,7 +4,7 @@ use Rattle.rb_model.specs.Values.{Nil, To, Reference}
 use Rattle.rb_model.specs.Acts.{Act, Done}
 use Rattle.rb_model.specs.Acts as reply
 use Rattle.rb_model.specs.Ends.{End}
-use Rattle.rb_model.specs.Things.{Thing, Object, gives}
+use Rattle.rb_model.specs.Things.{Thing, Object, gives_to}
 use Rattle.rb_model.specs.Private.{Private, held, entered, acted}
 use Rattle.rb_machine.specs.Scopes.{Script, fresh}
 use Rattle.rb_machine.specs.Control.{State, On, Then, Following, Instead}
@@ -26,7 +26,7 @@ pub data Runs (S : Script) (N : ℕ) : List ℕ → Private → State → Type 0
   makes : (b : List ℕ) (h : Private) (s : State) (thing : Thing) → Runs S N b h s → move S s ≡ Make thing
       → Runs S N b (entered h thing) (replied s (reply.Value (To (next_thing h thing))))
   acts : (b : List ℕ) (h : Private) (s : State) (r : Reference) (act : Act) (thing : Thing) → Runs S N b h s → move S s ≡ Ask r act → held h r.id ≡ Some thing
-      → Runs S N b (acted h r.id act thing) (replied s (gives thing act))
+      → Runs S N b (acted h r.id act thing) (replied s (gives_to h.thread thing act))
   shows : (b : List ℕ) (h : Private) (s : State) (bytes : List ℕ) → Runs S N b h s → move S s ≡ Show bytes → Runs S N (b ++ bytes) h (replied s Done)
 
 -- With at most N steps, the script shows these bytes and ends so, having begun so many steps.

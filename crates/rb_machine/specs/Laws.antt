@@ -20,7 +20,7 @@ use Rattle.rb_model.specs.Private.{Private, held}
 use Rattle.rb_model.specs.Things.{Object, Elements, Pairs, gathered}
 use Rattle.rb_model.specs.Ends.{End, Steps, Raised}
 use Rattle.rb_model.specs.Ends as ending
-use Rattle.rb_model.specs.Log.{Call, Deed, Log, prints}
+use Rattle.rb_model.specs.Log.{Call, Entry, Log, prints, last_step}
 use Rattle.rb_model.specs.Log as log
 use Rattle.rb_machine.specs.Scopes.{Script, Scope, Text, text_of, Locals, with_locals, found, look, assign, fresh}
 use Rattle.rb_machine.specs.Control.{Control, State, On, Eval, Give, Leave, Following, Looping, Turning, Passing, Break, Next, Return, Turns, Counting, Cont, Then, Under, Test, Again, Turn, Frame, Aim, OnReceiver, Creating, Place, Argument, Initialize, Instead, Making, ReceiverOf, RightOfAnd, RightOfOr, ReadOf, WriteTo, PieceOf, JoinTo, WriteBehind, TextOf, Joining, Drafting, Lines, Plain, EachPair, WithElement, Ended, max_depth}
@@ -419,21 +419,17 @@ AndGoesOnWhereTrue = (S : Script) (v : Value) (place : Place) (right : Node) (at
 
 -- ---- the main thread, and its script alone
 
--- whether a call asks something of a shared thing
+-- whether a call asks something of a shared thing, or is of threads
 abbrev pub asks_thing : Call → Bool
 asks_thing (log.On thing act) = true
+asks_thing (log.Start thing body values) = true
+asks_thing (log.Gather thread) = true
 asks_thing call = false
 
 -- whether a thread asked nothing of what is shared
-abbrev pub keeps_to_itself : List Deed → Bool
+abbrev pub keeps_to_itself : List Entry → Bool
 keeps_to_itself [] = true
 keeps_to_itself (e ∷ es) = not (asks_thing e.call) && keeps_to_itself es
-
--- the step of the last entry
-abbrev pub last_step : List Deed → ℕ
-last_step [] = 0
-last_step (e ∷ []) = e.step
-last_step (e ∷ f ∷ es) = last_step (f ∷ es)
 
 -- the ends that cut a thread short, in the place of its own end
 abbrev pub is_cut : End → Bool

@@ -9,7 +9,7 @@ use Rattle.rb_tree.specs.declared.node.Node.TheOpen.{Piece-F}
 use Rattle.rb_tree.specs.declared.node.Node.TheOpen as node
 use Rattle.rb_tree.specs.Place.{place}
 use Rattle.rb_model.specs.declared.fault.Fault.TheVariants.{TooDeep}
-use Rattle.rb_model.specs.Values.{Value, Nil, Str, Reference}
+use Rattle.rb_model.specs.Values.{Value, Nil, Str, To, Reference}
 use Rattle.rb_model.specs.Acts.{Act, Copy, Reply}
 use Rattle.rb_model.specs.Acts as reply
 use Rattle.rb_model.specs.Ends.{End}
@@ -70,12 +70,14 @@ module _ (S : Script) where
   move (On (Showing bytes) k sc d left) = Show bytes
   move (On (Ended how) k sc d left) = Stop how
 
--- what a thing answers: a value is given, nothing gives nil, a fault is raised, an end that is no value is taken over
+-- what a thing answers: a value is given, and so is a thread that was started; nothing gives nil, a fault is raised, an end that is no value is
+-- taken over
 abbrev pub answered : Reply → Span → List Cont → Scope → ℕ → ℕ → State
 answered (reply.Value v) at k sc d left = On (Give v) k sc d left
 answered (reply.Elements vs) at k sc d left = On (Give Nil) k sc d left
 answered (reply.Pairs ps) at k sc d left = On (Give Nil) k sc d left
 answered reply.Done at k sc d left = On (Give Nil) k sc d left
+answered (reply.Started number thread) at k sc d left = On (Give (To thread)) k sc d left
 answered (reply.Ended (ending.Value v)) at k sc d left = On (Give v) k sc d left
 answered (reply.Ended how) at k sc d left = ended how left
 answered (reply.Failed fault) at k sc d left = raised fault at left

@@ -1,5 +1,5 @@
 -- How a thread ends.
-use Rattle.std.specs.Prelude.{ℕ, List, [], ◌∷◌}
+use Rattle.std.specs.Prelude.{ℕ, Bool, true, false, if◌then◌else◌, List, [], ◌∷◌}
 use Rattle.rb_tree.specs.declared.span.Span.{Span}
 use Rattle.rb_model.specs.declared.fault.Fault.{Fault}
 use Rattle.rb_model.specs.declared.call.End.{End as Held}
@@ -28,3 +28,18 @@ over held.Memory = Memory
 abbrev pub told : End → List Val
 told (Value v) = v ∷ []
 told e = []
+
+-- whether an end is neither a value nor a fault
+abbrev pub is_early : End → Bool
+is_early (Value v) = false
+is_early (Raised f at) = false
+is_early how = true
+
+-- the first of two ends that is neither a value nor a fault; where both are, the first
+abbrev pub later : End → End → End
+later e f = if is_early e then e else if is_early f then f else e
+
+-- The end of a thread, from the first early end among its own and those that it took over, or its own, and whether memory kept it from
+-- taking one over: that comes behind all others.
+abbrev pub closing : End → Bool → End
+closing e lacking = if lacking then later e Memory else e

@@ -13,3 +13,5 @@ pub mod Doing
 pub mod Paths
 pub mod Private
 pub mod Log
+pub mod Started
+pub mod Moving

@@ -5,7 +5,7 @@ use Rattle.shape_core.specs.Shape.{Shape, with_shape}
 use Rattle.rb_model.specs.declared.value.Id.{Id}
 use Rattle.rb_model.specs.Values.{Value as Val, To, Reference}
 use Rattle.rb_model.specs.Acts.{Act, Reply}
-use Rattle.rb_model.specs.Things.{Thing, mentioned, becomes, gives}
+use Rattle.rb_model.specs.Things.{Thing, mentioned, becomes_by, gives_to}
 use Rattle.rb_model.specs.Paths.{shape_made, shape_behind}
 
 -- What a thread made, by serial number: each thing, where it is still private, and the shape of each that is an object. Number 0 is no
@@ -61,7 +61,7 @@ changed h id thing shape = record {
 
 -- with what an act makes of a thing
 abbrev pub acted : Private → Id → Act → Thing → Private
-acted h id act thing = changed h id (becomes thing act) (option_map (shape_behind act) (shape_held h id))
+acted h id act thing = changed h id (becomes_by h.thread thing act) (option_map (shape_behind act) (shape_held h id))
 
 -- without a thing
 abbrev pub left : Private → Id → Private
@@ -69,7 +69,7 @@ left h id = record { thread = h.thread; things = set h.things id.serial None; sh
 
 -- a reply is what the thing of an id gives
 abbrev pub Gives : Private → Id → Act → Reply → Type 0
-Gives h id act reply = (thing : Thing) → held h id ≡ Some thing → reply ≡ gives thing act
+Gives h id act reply = (thing : Thing) → held h id ≡ Some thing → reply ≡ gives_to h.thread thing act
 
 -- a private store becomes another by an act on the thing of an id
 abbrev pub Becomes : Private → Id → Act → Private → Type 0

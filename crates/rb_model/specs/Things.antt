@@ -2,10 +2,11 @@
 use Rattle.std.specs.Prelude.{ℕ, suc, ◌-◌, ℤ, pos, negsuc, Bool, true, false, ◌==◌, ◌||◌, nat_lt, not, if◌then◌else◌, List, [], ◌∷◌, ◌++◌, length, map, take, drop, replicate, slice_get, slice_set, Option, Some, None}
 use Rattle.std.specs.List.{list_any, flat_map}
 use Rattle.rb_tree.specs.declared.span.NameId.{NameId}
-use Rattle.rb_model.specs.declared.fault.Fault.TheVariants.{IndexTooSmall, ArrayTooLong, NoMethod}
+use Rattle.rb_model.specs.declared.fault.Fault.TheVariants.{IndexTooSmall, ArrayTooLong, NoMethod, LockOwned, UnlockForeign}
 use Rattle.rb_model.specs.Values.{Value as Val, Nil, Int, truth, same, or_nil}
-use Rattle.rb_model.specs.Acts.{Act, GetField, SetField, At, Put, Push, Unshift, Pop, Shift, DeleteAt, KGet, KHas, KPut, KDelete, Clear, Len, Copy, Reply, Done}
+use Rattle.rb_model.specs.Acts.{Act, GetField, SetField, At, Put, Push, Unshift, Pop, Shift, DeleteAt, KGet, KHas, KPut, KDelete, Clear, Len, Copy, Lock, Unlock, Reply, Done}
 use Rattle.rb_model.specs.Acts as reply
+use Rattle.rb_model.specs.Ends.{End, told}
 
 -- A field: its name, its value, and whether a value that is no integer was ever written to it.
 pub record Field : Type 0 where
@@ -13,13 +14,21 @@ pub record Field : Type 0 where
   pub value : Val
   pub wide : Bool
 
+-- A thread: its number, the number of the thread that started it, whether that one has gathered it, and how it ended, once it has.
+pub record ThreadState : Type 0 where
+  pub number : ℕ
+  pub maker : ℕ
+  pub gathered : Bool
+  pub end : Option End
+
 -- an object of a class with its fields, in the order of their first writes; the elements of an array; the pairs of a hash, in the
--- order in which their keys came; a mutex with the number of the thread that holds it
+-- order in which their keys came; a mutex with the number of the thread that owns it; a thread
 pub data Thing : Type 0 where
   Object : (class : ℕ) (fields : List Field) → Thing
   Elements : (values : List Val) → Thing
   Pairs : (pairs : List (Val × Val)) → Thing
   Mutex : (owner : Option ℕ) → Thing
+  Thread : (state : ThreadState) → Thing
 
 -- how many elements a list has at most, and how many pairs a hash
 abbrev pub max_elements : ℕ
@@ -111,7 +120,7 @@ without_key k (p ∷ ps) = if same p.0 k then ps else p ∷ without_key k ps
 abbrev pub may_put : Val → List (Val × Val) → Bool
 may_put k ps = has_key k ps || has_room (length ps)
 
--- ---- the plain step
+-- ---- the plain step on data, whoever asks
 
 -- what a thing becomes
 abbrev pub becomes : Thing → Act → Thing
@@ -151,9 +160,49 @@ gives (Pairs ps) Len = reply.Value (Int (pos (length ps)))
 gives (Pairs ps) Copy = reply.Pairs ps
 gives thing act = reply.Failed NoMethod
 
+-- ---- the plain step on what a thread may own, by the thread that asks: a mutex alone looks at it
+
+-- who owns a mutex behind an act of thread t: nobody's becomes the caller's, and the caller gives up its own
+abbrev pub owner_behind : ℕ → Act → Option ℕ → Option ℕ
+owner_behind t Lock None = Some t
+owner_behind t Unlock (Some owner) = if owner == t then None else Some owner
+owner_behind t act owner = owner
+
+-- what a mutex gives thread t; where another thread owns it, a Lock waits, and gives nothing yet
+abbrev pub mutex_gives : ℕ → Act → Option ℕ → Reply
+mutex_gives t Lock None = Done
+mutex_gives t Lock (Some owner) = reply.Failed LockOwned
+mutex_gives t Unlock None = reply.Failed UnlockForeign
+mutex_gives t Unlock (Some owner) = if owner == t then Done else reply.Failed UnlockForeign
+mutex_gives t act owner = reply.Failed NoMethod
+
+-- what a thing becomes by an act of thread t
+abbrev pub becomes_by : ℕ → Thing → Act → Thing
+becomes_by t (Mutex owner) act = Mutex (owner_behind t act owner)
+becomes_by t (Object c fs) act = becomes (Object c fs) act
+becomes_by t (Elements vs) act = becomes (Elements vs) act
+becomes_by t (Pairs ps) act = becomes (Pairs ps) act
+becomes_by t (Thread s) act = Thread s
+
+-- what it gives thread t
+abbrev pub gives_to : ℕ → Thing → Act → Reply
+gives_to t (Mutex owner) act = mutex_gives t act owner
+gives_to t (Object c fs) act = gives (Object c fs) act
+gives_to t (Elements vs) act = gives (Elements vs) act
+gives_to t (Pairs ps) act = gives (Pairs ps) act
+gives_to t (Thread s) act = reply.Failed NoMethod
+
+-- ---- what things mention
+
+-- the value that a thread ended with, if it did
+abbrev pub ended_with : Option End → List Val
+ended_with None = []
+ended_with (Some end) = told end
+
 -- the values that a thing mentions, in their order
 abbrev pub mentioned : Thing → List Val
 mentioned (Object c fs) = map (λ (f : Field). f.value) fs
 mentioned (Elements vs) = vs
 mentioned (Pairs ps) = flat_map (λ (p : Val × Val). p.0 ∷ p.1 ∷ []) ps
 mentioned (Mutex owner) = []
+mentioned (Thread s) = ended_with s.end

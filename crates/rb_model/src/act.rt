@@ -1,7 +1,8 @@
 // What is asked of things, what they answer, and what a thread makes.
 
+use crate::call::End;
 use crate::fault::Fault;
-use crate::value::Value;
+use crate::value::{Ref, Value};
 use rb_tree::NameId;
 
 /// What is asked of a thing.
@@ -39,6 +40,12 @@ pub enum Act {
     Len,
     /// All elements, or all pairs.
     Copy,
+    /// Waits for the end of a thread.
+    Join,
+    /// Takes a mutex, once no other thread owns it.
+    Lock,
+    /// Gives a mutex back.
+    Unlock,
 }
 
 /// What a thing answers.
@@ -48,6 +55,10 @@ pub enum Reply {
     Elements(Vec<Value>),
     Pairs(Vec<(Value, Value)>),
     Done,
+    /// The number and the thing of a thread that was started.
+    Started(u64, Ref),
+    /// How a thread ended.
+    Ended(End),
     Failed(Fault),
 }
 

@@ -1,8 +1,9 @@
 // What a thread asks of the outside, and how it ends.
 
+use crate::act::Act;
 use crate::fault::Fault;
 use crate::shared_text::SharedText;
-use crate::value::Value;
+use crate::value::{Id, Ref, Value};
 use rb_tree::Span;
 
 /// How a thread ends.
@@ -25,6 +26,12 @@ pub enum End {
 /// A call that a thread makes on what is shared.
 #[derive(Drop)]
 pub enum Call {
+    /// Asks something of a shared thing.
+    On(Ref, Act),
+    /// Starts a thread whose thing has this id. It runs the body of this number, which is given these values.
+    Start(Id, u32, Vec<Value>),
+    /// Takes over the end of a thread that the caller started, at the caller's own end.
+    Gather(Ref),
     /// Writes these bytes to the sink.
     Print(SharedText),
     /// The last call of a thread.

@@ -7,6 +7,7 @@ mod call;
 mod fault;
 mod immediate;
 mod item;
+mod moved;
 mod shared_text;
 mod store;
 #[cfg(test)]
@@ -18,7 +19,8 @@ pub use act::{Act, Make, Reply};
 pub use call::{Answer, Call, End};
 pub use fault::Fault;
 pub use immediate::Immediate;
+pub use moved::{Moved, MovedItem};
 pub use shared_text::SharedText;
 pub use store::{OneStore, ThreadStore};
-pub use thing::{Field, Thing};
+pub use thing::{Field, Thing, ThreadState};
 pub use value::{Id, Ref, Sort, Value};

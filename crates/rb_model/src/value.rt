@@ -26,11 +26,13 @@ pub enum Sort {
     Thread,
 }
 
-/// A reference to a thing.
-#[derive(Clone, Copy, Debug, PartialEq, Eq)]
+/// A reference to a thing. Where a store keeps the thing is no part of what is referred to: values are compared without it.
+#[derive(Clone, Copy, Debug)]
 pub struct Ref {
     pub sort: Sort,
     pub id: Id,
+    /// The place of a shared thing in its store; 0 where the store needs none, and for a thing that is private.
+    pub at: u64,
 }
 
 /// A value. Strings are immutable, and are the same where their bytes are.
@@ -49,6 +51,7 @@ pub enum Value {
 impl Value {
     /// The same value. No bytes are copied. Where as many own a text as can be counted, that is want of memory.
     pub fn share(&self) -> Result<Value, AllocError>
+        ensures same { IfOk result (λ copy. copy ≡ self.now) }
         ensures value { IfOk result (λ copy. plain copy ≡ plain self.now) }
         ensures refused { OnErr result (is_text (plain self.now) ≡ true) }
     {

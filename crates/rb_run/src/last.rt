@@ -30,6 +30,6 @@ fn end_in(call: Call) -> End
 {
     match call {
         Call::End(end) => end,
-        Call::Print(_) => End::Memory,
+        _ => End::Memory,
     }
 }

@@ -5,7 +5,7 @@ use Rattle.std.proofs.lemmas.Bool.{ltb-true}
 use Rattle.std.proofs.lemmas.List.{append-nil, append_assoc}
 use Rattle.std.proofs.lemmas.Grind.{flat_map-append}
 use Rattle.std.specs.Option.{option_map}
-use Rattle.rb_model.specs.Log.{Log, Deed, Refusal, Call, On, Print, End, is_end, logged, printed, prints}
+use Rattle.rb_model.specs.Log.{Log, Entry, Refusal, Call, On, Print, End, is_end, logged, printed, prints}
 use Rattle.rb_edge.specs.Edge.{Adds}
 use Rattle.rb_store.specs.Written.{Written, Wrote, front_of, is_own, is_refusal, only_prints, taken_of}
 
@@ -18,13 +18,13 @@ of_both true b both = (refl, both)
 of_both false b both = absurd (let e : false ≡ true = both in cc)
 
 -- one more print or end
-pub only_prints-more : (es : List Deed) (e : Deed) → only_prints es ≡ true → is_own e.call ≡ true → only_prints (es ++ e ∷ []) ≡ true
+pub only_prints-more : (es : List Entry) (e : Entry) → only_prints es ≡ true → is_own e.call ≡ true → only_prints (es ++ e ∷ []) ≡ true
 only_prints-more [] e own last = both_true (is_own e.call) true last refl
 only_prints-more (x ∷ xs) e own last =
     let both = of_both (is_own x.call) (only_prints xs) own in both_true (is_own x.call) (only_prints (xs ++ e ∷ [])) both.0 (only_prints-more xs e both.1 last)
 
 -- the bytes of one more entry stand behind the others
-prints-more : (es : List Deed) (e : Deed) → prints (es ++ e ∷ []) ≡ prints es ++ printed e.call
+prints-more : (es : List Entry) (e : Entry) → prints (es ++ e ∷ []) ≡ prints es ++ printed e.call
 prints-more es e = flat_map-append _ es _ ∙ ap (λ bytes. prints es ++ bytes) (append-nil (printed e.call))
 
 -- where nothing was refused, what was taken are the prints
@@ -44,7 +44,7 @@ told_more (Some b) (Some o) (Some n) bytes more told adds =
     ap Some (adds ∙ (ap (λ xs. xs ++ more) was ∙ append_assoc b bytes more))
 
 -- a print that is written whole and is an entry
-pub told-done : (begun old now : Option (List ℕ)) (taken : Option ℕ) (l : Log) (e : Deed) (text : List ℕ) → taken ≡ None → e.call ≡ Print text
+pub told-done : (begun old now : Option (List ℕ)) (taken : Option ℕ) (l : Log) (e : Entry) (text : List ℕ) → taken ≡ None → e.call ≡ Print text
     → old ≡ option_map (λ first. first ++ taken_of taken l) begun → Adds old now text
     → now ≡ option_map (λ first. first ++ taken_of taken (logged l e)) begun
 told-done begun old now taken l e text none_yet asks told adds =
@@ -54,7 +54,7 @@ told-done begun old now taken l e text none_yet asks told adds =
     ∙ ap (λ bytes. option_map (λ first. first ++ bytes) begun) (grown ∙ ap (λ t. taken_of t (logged l e)) (sym none_yet))
 
 -- a call that prints nothing and is an entry
-pub told-silent : (begun now : Option (List ℕ)) (taken : Option ℕ) (l : Log) (e : Deed) → printed e.call ≡ []
+pub told-silent : (begun now : Option (List ℕ)) (taken : Option ℕ) (l : Log) (e : Entry) → printed e.call ≡ []
     → now ≡ option_map (λ first. first ++ taken_of taken l) begun
     → now ≡ option_map (λ first. first ++ taken_of taken (logged l e)) begun
 told-silent begun now taken l e silent told =

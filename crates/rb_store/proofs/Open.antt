@@ -2,14 +2,14 @@
 use Rattle.std.proofs.Common.{◌≡◌, ℕ, Bool, true, false, ◌||◌, List, [], ◌∷◌, ◌++◌, ap, ◌∙◌}
 use Rattle.rb_model.specs.declared.call.Answer.{Answer}
 use Rattle.rb_model.specs.declared.call.Answer.TheVariants as answer
-use Rattle.rb_model.specs.Log.{Log, Deed, Call, Answers, has_end, is_end, plain_entry}
+use Rattle.rb_model.specs.Log.{Log, Entry, Call, Answers, has_end, is_end, plain_entry}
 
 or_false : (a b : Bool) → a || b ≡ false → (a ≡ false) × (b ≡ false)
 or_false true b none = absurd (let both : true ≡ false = none in cc)
 or_false false b none = (cc, none)
 
 -- one more entry that is no end
-has_end-more : (es : List Deed) (e : Deed) → has_end es ≡ false → is_end e.call ≡ false → has_end (es ++ e ∷ []) ≡ false
+has_end-more : (es : List Entry) (e : Entry) → has_end es ≡ false → is_end e.call ≡ false → has_end (es ++ e ∷ []) ≡ false
 has_end-more [] e going no_end = ap (λ b. b || false) no_end
 has_end-more (x ∷ xs) e going no_end =
     let both = or_false (is_end x.call) (has_end xs) going in

@@ -1,6 +1,6 @@
 -- What a sink has taken, where a log is all that was asked.
 use Rattle.std.specs.Prelude.{ℕ, ◌<◌, Bool, true, false, ◌||◌, ◌&&◌, ◌==◌, nat_lt, ◌^◌, ◌-◌, List, [], ◌∷◌, ◌++◌, take, length, Option, Some, None}
-use Rattle.rb_model.specs.Log.{Log, Deed, Refusal, Call, is_end, is_print, printed, prints}
+use Rattle.rb_model.specs.Log.{Log, Entry, Refusal, Call, is_end, is_print, printed, prints}
 use Rattle.rb_edge.specs.Edge.{Adds, Rose}
 
 -- the front of a refused print that the sink took all the same: so many bytes
@@ -23,7 +23,7 @@ abbrev pub is_own : Call → Bool
 is_own c = is_print c || is_end c
 
 -- whether a thread only printed and ended
-abbrev pub only_prints : List Deed → Bool
+abbrev pub only_prints : List Entry → Bool
 only_prints [] = true
 only_prints (e ∷ es) = is_own e.call && only_prints es
 

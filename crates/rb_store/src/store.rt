@@ -4,7 +4,7 @@ ghost use Rattle.std.specs.Prelude.{◌≡◌, ◌≢◌, ◌≤◌, ◌||◌, �
 ghost use Rattle.std.specs.Option.{option_map};
 ghost use Rattle.rb_model.specs.Log as log;
 ghost use Rattle.rb_model.specs.Log.{Answers, asked, logged, plain_entry};
-ghost use Rattle.rb_store.specs.Written.{Caused, Written, has_risen, is_refusal, only_prints, taken_of};
+ghost use Rattle.rb_store.specs.Written.{Caused, Written, has_risen, is_own, is_refusal, only_prints, taken_of};
 
 use crate::history::{History, RunFront};
 use rb_edge::{Sink, write_all};
@@ -122,7 +122,7 @@ impl<K: Sink, B: Begun> OneStore for MainStore<K, B> {
         ensures rises { K.faults self.old.out ≤ K.faults self.new.out }
         // An end needs no room, and a print has room where none was refused.
         ensures done { log.is_end (asked call.now) ≡ true → result ≡ Answer.Done }
-        ensures memory { result ≡ Answer.Memory → self.old.history.refusals ≢ [] }
+        ensures memory { result ≡ Answer.Memory → is_own (asked call.now) ≡ true → self.old.history.refusals ≢ [] }
         ensures behind { self.old.history.refusals ≢ [] → self.new.out ≡ self.old.out }
     {
         match call {
@@ -131,6 +131,8 @@ impl<K: Sink, B: Begun> OneStore for MainStore<K, B> {
                 self.close(step, call);
                 Answer::Done
             }
+            // One thread shares nothing.
+            _ => Answer::Memory,
         }
     }
 }

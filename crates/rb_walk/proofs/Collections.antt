@@ -10,7 +10,7 @@ use Rattle.rb_model.specs.Values.{Value as Val, Nil, To, Reference, plain}
 use Rattle.rb_model.specs.declared.act.Reply.{Reply as Answered}
 use Rattle.rb_model.specs.declared.value.Value.{Value as Held}
 use Rattle.rb_model.specs.Acts.{Act, Copy}
-use Rattle.rb_model.specs.Things.{Elements, gives}
+use Rattle.rb_model.specs.Things.{Elements, gives_to}
 use Rattle.rb_model.specs.Doing.{made, said}
 use Rattle.rb_model.specs.Doing as doing
 use Rattle.rb_model.specs.Private.{Private, Gives, Becomes, held, entered, next_id}
@@ -63,7 +63,7 @@ module _ (S : Script) (N : ℕ) (start : State) where
       let x = there_is (held h r.id) there in
       let b = acts l h (On (Reading r purpose at) k sc d n) r Copy x.0 come refl x.1 in
       subst (λ y. At S N start l h' (used purpose r y at k sc d n)) (sym (gave x.0 x.1))
-      (subst (λ y. At S N start l y (used purpose r (gives x.0 Copy) at k sc d n)) (sym (become x.0 x.1)) b)
+      (subst (λ y. At S N start l y (used purpose r (gives_to h.thread x.0 Copy) at k sc d n)) (sym (become x.0 x.1)) b)
 
 -- ---- what is done behind a reply
 

@@ -178,6 +178,7 @@ reply_most t thing (reply.Elements vs) = array_most t.form t thing vs
 reply_most t thing (reply.Pairs ps) = joined_most _ t (lead_of t.coming ++ codes "{") (OfHash thing [] ps ∷ t.begun) (omega arith)
 reply_most t thing (reply.Value v) = tt
 reply_most t thing reply.Done = tt
+reply_most t thing (reply.Started number thread) = tt
 reply_most t thing (reply.Ended e) = tt
 reply_most t thing (reply.Failed f) = tt
 
@@ -216,6 +217,7 @@ module _ (at : Span) (k : List Cont) (sc : Scope) (d n : ℕ) where
   text_left t thing (reply.Pairs ps) = going_left (opened t thing (reply.Pairs ps))
   text_left t thing (reply.Value v) = refl
   text_left t thing reply.Done = refl
+  text_left t thing (reply.Started number thread) = refl
   text_left t thing (reply.Ended e) = ended_left t thing e
   text_left t thing (reply.Failed f) = refl
 

@@ -18,6 +18,7 @@ use Rattle.rb_machine.specs.Move.{left_in}
 use Rattle.rb_machine.specs.Follows.{At, Comes, ends, cut, refuses, step_of}
 use Rattle.rb_machine.specs.Laws.{Quiet, stays, moves}
 use Rattle.rb_machine.proofs.Down.{is_never_stuck}
+use Rattle.rb_machine.proofs.Rising.{steps_rise}
 use Rattle.rb_walk.specs.Outcome.{Outcome, Gave, Left, Over, Came}
 use Rattle.rb_walk.specs.Ending.{ending as ends_with}
 use Rattle.rb_code.specs.declared.scripted.CodeScript.{CodeScript}
@@ -37,7 +38,8 @@ module _ (S : Script) (N : ℕ) (start : State) (h : Private) where
   is_cut : (l : Log) (s : State) (n : ℕ) → At S N start l h s → left_in s ≡ n → Comes S N start l h ending.Memory (N - n)
   is_cut l s n a e =
       let w = is_never_stuck S s in
-      cut l h w.0 (N - n) (quietly l s w.0 w.1 a) w.2 (omega (arith, w.3, e))
+      let rise = steps_rise S N start a in
+      cut l h w.0 (N - n) (quietly l s w.0 w.1 a) w.2 (omega (arith, rise, e)) (omega (arith, w.3, e))
 
   -- how the machine's own work goes out
   pub comes_out : (l : Log) (o : Outcome) (sc : Scope) (d n : ℕ) → Came S N start l h o (Then (Instead Nil) ∷ []) sc d n → Comes S N start l h (ends_with o) (N - n)

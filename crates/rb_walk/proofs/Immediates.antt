@@ -8,7 +8,7 @@ use Rattle.rb_model.specs.declared.value.Value.{Value as Held}
 use Rattle.rb_model.specs.Values.{Value as Val, Reference, Nil, False, True, Int, Sym, Str, To}
 use Rattle.rb_model.specs.Acts.{Act, At, Reply}
 use Rattle.rb_model.specs.Acts as reply
-use Rattle.rb_model.specs.Things.{Thing, gives}
+use Rattle.rb_model.specs.Things.{Thing, Object, Elements, Pairs, Mutex, Thread, gives, gives_to}
 use Rattle.rb_model.specs.Private.{Private, Gives, Becomes, held}
 use Rattle.rb_model.specs.Immediates.{if_list, list_answered, list_replied, reference, told, told_reply, told_answer, value_told}
 use Rattle.rb_model.specs.declared.value.Id.{Id}
@@ -58,21 +58,30 @@ reply_is (reply.Value w) = value_is w
 reply_is (reply.Elements vs) = tt
 reply_is (reply.Pairs ps) = tt
 reply_is reply.Done = tt
+reply_is (reply.Started number thread) = tt
 reply_is (reply.Ended how) = tt
 reply_is (reply.Failed fault) = tt
 
--- what is told of the answer of a thing is that answer, and there is the thing
-answer_is : (o : Option Thing) (act : Act) → IfSome (value_told (told_answer o act)) (λ v. (is_some o ≡ true) × ((x : Thing) → o ≡ Some x → reply.Value v ≡ gives x act))
-answer_is None act = tt
-answer_is (Some x) act = by (value_told (told_reply (gives x act))) (reply_is (gives x act))
+-- what is told of the answer of a thing is that answer to any thread, and there is the thing
+known_answer : (n : ℕ) (x : Thing) (act : Act) → gives_to n x act ≡ gives x act
+    → IfSome (value_told (told_reply (gives x act))) (λ v. (is_some (Some x) ≡ true) × ((y : Thing) → Some x ≡ Some y → reply.Value v ≡ gives_to n y act))
+known_answer n x act as_told = by (value_told (told_reply (gives x act))) (reply_is (gives x act))
   where
-    by : (r : Option Val) → IfSome r (λ v. reply.Value v ≡ gives x act) → IfSome r (λ v. (is_some (Some x) ≡ true) × ((y : Thing) → Some x ≡ Some y → reply.Value v ≡ gives y act))
+    by : (r : Option Val) → IfSome r (λ v. reply.Value v ≡ gives x act) → IfSome r (λ v. (is_some (Some x) ≡ true) × ((y : Thing) → Some x ≡ Some y → reply.Value v ≡ gives_to n y act))
     by None e = tt
-    by (Some v) e = (refl, λ y same. let is : x ≡ y = cc in e ∙ ap (λ t. gives t act) is)
+    by (Some v) e = (refl, λ y same. let is : x ≡ y = cc in e ∙ (sym as_told ∙ ap (λ t. gives_to n t act) is))
+
+answer_is : (n : ℕ) (o : Option Thing) (act : Act) → IfSome (value_told (told_answer o act)) (λ v. (is_some o ≡ true) × ((x : Thing) → o ≡ Some x → reply.Value v ≡ gives_to n x act))
+answer_is n None act = tt
+answer_is n (Some (Object class fields)) act = known_answer n (Object class fields) act refl
+answer_is n (Some (Elements vs)) act = known_answer n (Elements vs) act refl
+answer_is n (Some (Pairs ps)) act = known_answer n (Pairs ps) act refl
+answer_is n (Some (Mutex owner)) act = tt
+answer_is n (Some (Thread s)) act = tt
 
 pub there_gives : (own : Private) (id : Id) (act : Act) (r : Immediate) (v : Val) → r ≡ told_answer (held own id) act → value_told r ≡ Some v
     → (is_some (held own id) ≡ true) × Gives own id act (reply.Value v)
-there_gives own id act r v is told_so = rw (sym (ap value_told is) ∙ told_so) at (answer_is (held own id) act)
+there_gives own id act r v is told_so = rw (sym (ap value_told is) ∙ told_so) at (answer_is own.thread (held own id) act)
 
 pub there_and_gives : (own : Private) (array : Ref) (index : ℤ) (r : Immediate) (v : Val) → r ≡ told_answer (held own array.id) (At index) → value_told r ≡ Some v
     → (is_some (held own array.id) ≡ true) × Gives own array.id (At index) (reply.Value v)
@@ -81,9 +90,9 @@ there_and_gives own array index r v is told_so = there_gives own array.id (At in
 -- what a thing answers, where that is told at once
 pub told_of : (own : Private) (thing : Ref) (method : Option Builtin) (arg : Val) (act : Act) (r : Immediate) → IsAsking thing method arg act → r ≡ told_answer (held own thing.id) act → Becomes own thing.id act own
     → IfSome (value_told r) (λ v. IsToldOf own thing method arg v)
-told_of own thing method arg act r asked is stays = rw is (by (value_told (told_answer (held own thing.id) act)) (answer_is (held own thing.id) act))
+told_of own thing method arg act r asked is stays = rw is (by (value_told (told_answer (held own thing.id) act)) (answer_is own.thread (held own thing.id) act))
   where
-    by : (o : Option Val) → IfSome o (λ v. (is_some (held own thing.id) ≡ true) × ((x : Thing) → held own thing.id ≡ Some x → reply.Value v ≡ gives x act)) → IfSome o (λ v. IsToldOf own thing method arg v)
+    by : (o : Option Val) → IfSome o (λ v. (is_some (held own thing.id) ≡ true) × ((x : Thing) → held own thing.id ≡ Some x → reply.Value v ≡ gives_to own.thread x act)) → IfSome o (λ v. IsToldOf own thing method arg v)
     by None e = tt
     by (Some v) e = record { act = act; asked = asked; there = e.0; gives = e.1; stays = stays }
 
@@ -141,14 +150,24 @@ list_of_reply (reply.Value (Str bytes)) r e = absurd (cc)
 list_of_reply (reply.Elements vs) r e = absurd (cc)
 list_of_reply (reply.Pairs ps) r e = absurd (cc)
 list_of_reply reply.Done r e = absurd (cc)
+list_of_reply (reply.Started number thread) r e = absurd (cc)
 list_of_reply (reply.Ended how) r e = absurd (cc)
 list_of_reply (reply.Failed fault) r e = absurd (cc)
 
-list_is : (o : Option Thing) (act : Act) (r : Reference) → list_answered o act ≡ Some r → ((is_some o ≡ true) × ((x : Thing) → o ≡ Some x → reply.Value (To r) ≡ gives x act)) × (r.sort ≡ Sort.List)
-list_is None act r e = absurd (cc)
-list_is (Some x) act r e =
+known_list : (n : ℕ) (x : Thing) (act : Act) (r : Reference) → gives_to n x act ≡ gives x act → list_replied (gives x act) ≡ Some r
+    → ((is_some (Some x) ≡ true) × ((y : Thing) → Some x ≡ Some y → reply.Value (To r) ≡ gives_to n y act)) × (r.sort ≡ Sort.List)
+known_list n x act r as_told e =
     let is = list_of_reply (gives x act) r e in
-    ((refl, λ y same. let it : x ≡ y = cc in sym is.0 ∙ ap (λ t. gives t act) it), is.1)
+    ((refl, λ y same. let it : x ≡ y = cc in sym is.0 ∙ (sym as_told ∙ ap (λ t. gives_to n t act) it)), is.1)
+
+list_is : (n : ℕ) (o : Option Thing) (act : Act) (r : Reference) → list_answered o act ≡ Some r
+    → ((is_some o ≡ true) × ((x : Thing) → o ≡ Some x → reply.Value (To r) ≡ gives_to n x act)) × (r.sort ≡ Sort.List)
+list_is n None act r e = absurd (cc)
+list_is n (Some (Object class fields)) act r e = known_list n (Object class fields) act r refl e
+list_is n (Some (Elements vs)) act r e = known_list n (Elements vs) act r refl e
+list_is n (Some (Pairs ps)) act r e = known_list n (Pairs ps) act r refl e
+list_is n (Some (Mutex owner)) act r e = absurd (let wrong : None ≡ Some r = e in cc)
+list_is n (Some (Thread s)) act r e = absurd (let wrong : None ≡ Some r = e in cc)
 
 -- a list has no method of a script
 unnamed_list : (r : Reference) → r.sort ≡ Sort.List → (S : Script) (name : Text) → texted S name (methods_of S (To r)) ≡ None
@@ -156,7 +175,7 @@ unnamed_list r e S name = ap (λ s. texted S name (methods_of_sort S s)) e
 
 pub row_unnamed : (own : Private) (id : Id) (index : ℤ) (r : Option Ref) → option_map reference r ≡ list_answered (held own id) (At index) → IfSome r (λ row. HasNoMethods (me_of (Some row)))
 row_unnamed own id index None e = tt
-row_unnamed own id index (Some row) e = λ S name. unnamed_list (reference row) (list_is (held own id) (At index) (reference row) (sym e)).1 S name
+row_unnamed own id index (Some row) e = λ S name. unnamed_list (reference row) (list_is own.thread (held own id) (At index) (reference row) (sym e)).1 S name
 
 -- the same node gives what it is taken for
 pub given_row : (c : Code) (room : List Held) (own : Private) (r : Option Ref) (is_row : Bool) → is_row ≡ true → IfSome r (λ a. IsGiven 3 c room own (me_of (Some a))) → IfSome r (λ a. IsGiven (steps_of is_row) c room own (me_of (Some a)))

@@ -279,6 +279,7 @@ module _ (at : Span) (k : List Cont) (sc : Scope) (d n : ℕ) where
   copied_left answer b r (reply.Elements vs) = refl
   copied_left answer b r (reply.Pairs ps) = refl
   copied_left answer b r reply.Done = refl
+  copied_left answer b r (reply.Started number thread) = refl
   copied_left answer b r (reply.Ended e) = ended_left e
   copied_left answer b r (reply.Failed f) = refl
 

@@ -40,6 +40,7 @@ impl<S: ShapeStore> LocalHeap<S> {
         Ok(Ref {
             sort: Sort::Object(class),
             id,
+            at: 0,
         })
     }
 
@@ -91,6 +92,6 @@ impl<S: ShapeStore> LocalHeap<S> {
             thread: self.cells.thread,
             serial,
         };
-        Ok(Ref { sort, id })
+        Ok(Ref { sort, id, at: 0 })
     }
 }

@@ -55,6 +55,9 @@ impl<'p, O: ThreadStore + Drop> Walker<'p, O> {
             Ok(Reply::Done) => Came::Nil,
             Ok(Reply::Elements(_)) => Came::Nil,
             Ok(Reply::Pairs(_)) => Came::Nil,
+            // A thing of one's own starts and ends no thread.
+            Ok(Reply::Started(_, _)) => unreachable!(),
+            Ok(Reply::Ended(_)) => unreachable!(),
             Ok(Reply::Failed(fault)) => self.raise(fault, at),
             Err(_) => self.over(Cut::Memory),
         }
@@ -79,6 +82,8 @@ impl<'p, O: ThreadStore + Drop> Walker<'p, O> {
             Ok(Reply::Done) => Ok(Value::Nil),
             Ok(Reply::Elements(_)) => Ok(Value::Nil),
             Ok(Reply::Pairs(_)) => Ok(Value::Nil),
+            Ok(Reply::Started(_, _)) => unreachable!(),
+            Ok(Reply::Ended(_)) => unreachable!(),
             Ok(Reply::Failed(fault)) => Err(self.raise(fault, at)),
             Err(_) => Err(self.over(Cut::Memory)),
         }

@@ -1,0 +1,5 @@
+pub mod Runs
+pub mod Joins
+pub mod Locks
+pub mod Slots
+pub mod Examples

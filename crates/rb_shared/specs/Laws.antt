@@ -1,0 +1,73 @@
+-- What holds of every order of the entries of all threads in which each step is the plain one.
+use Rattle.std.specs.Prelude.{◌≡◌, ◌⊎◌, ℕ, ◌==◌, ◌&&◌, ◌||◌, Bool, true, false, List, [], ◌∷◌, ◌++◌, Some}
+use Rattle.rb_model.specs.declared.value.Id.{Id}
+use Rattle.rb_model.specs.Values.{Reference, same_id}
+use Rattle.rb_model.specs.Acts.{Act, Join, Lock, Unlock, Reply, Done, Ended}
+use Rattle.rb_model.specs.Ends.{End as Ending}
+use Rattle.rb_model.specs.Things.{Thing, ThreadState, Mutex, Thread}
+use Rattle.rb_model.specs.Private.{Item}
+use Rattle.rb_model.specs.Log.{Call, On, Start, Gather, Print, End, Entry}
+use Rattle.rb_model.specs.Started.{to_thread}
+use Rattle.rb_shared.specs.Lists.{Has, Each}
+use Rattle.rb_shared.specs.Store.{Store, opening, found, ungathered_count}
+use Rattle.rb_shared.specs.Step.{Steps}
+use Rattle.rb_shared.specs.History.{Event, Leads, all_started}
+
+-- no entry moves a thread: threads are shared from their start
+abbrev pub IsNoThread : Thing → Type 0
+IsNoThread thing = (s : ThreadState) → thing ≡ Thread s → ⊥
+
+abbrev pub MovesNoThread : Event → Type 0
+MovesNoThread e = Each (λ (x : Item). IsNoThread x.thing) e.entry.moved
+
+-- ---- threads
+
+-- thread n ended so
+abbrev pub HasEndedSo : List Event → ℕ → Ending → Type 0
+HasEndedSo es n how = (e : Event) × Has es e × (e.thread ≡ n) × (e.entry.call ≡ End how)
+
+-- a call that takes over the end of a thread
+abbrev pub IsJoin : Call → Id → Type 0
+IsJoin (On r Join) id = r.id ≡ id
+IsJoin (Gather r) id = r.id ≡ id
+IsJoin call id = ⊥
+
+-- A thread whose end is told to another was started before that, and its end stands before that in the one order of all entries. So whoever
+-- joins a thread comes behind all that this thread did.
+abbrev pub JoinsComeBehindEnds : Type 0
+JoinsComeBehindEnds = (slots : ℕ) (front behind : List Event) (e : Event) (z : Store) (id : Id) (how : Ending)
+    → Leads slots opening (front ++ e ∷ behind) z → Each MovesNoThread (front ++ e ∷ behind) → IsJoin e.entry.call id → e.entry.reply ≡ Ended how
+    → (n : ℕ) × Has (all_started front) (n, to_thread id) × HasEndedSo front n how
+
+-- Where a thread that is not the maker joins another, no slot comes free: as many threads wait to be gathered as before.
+abbrev pub OthersFreeNoSlot : Type 0
+OthersFreeNoSlot = (slots : ℕ) (z z' : Store) (t : ℕ) (e : Entry) (id : Id) (s : ThreadState)
+    → Steps slots z t e z' → IsJoin e.call id → e.moved ≡ [] → found z id ≡ Some (Thread s) → (s.maker == t) ≡ false → ungathered_count z' ≡ ungathered_count z
+
+-- ---- mutexes
+
+-- a call that gives a mutex back
+abbrev pub is_unlock_of : Id → Call → Bool
+is_unlock_of id (On r Unlock) = same_id r.id id
+is_unlock_of id call = false
+
+abbrev pub is_last : Call → Bool
+is_last (End how) = true
+is_last call = false
+
+-- thread t gives the mutex back, or ends
+abbrev pub gives_back : ℕ → Id → Event → Bool
+gives_back t id e = e.thread == t && (is_unlock_of id e.entry.call || is_last e.entry.call)
+
+-- Only the owner of a mutex is answered that it is given back.
+abbrev pub OwnersAloneUnlock : Type 0
+OwnersAloneUnlock = (slots : ℕ) (z z' : Store) (t : ℕ) (e : Entry) (r : Reference)
+    → Steps slots z t e z' → e.call ≡ On r Unlock → e.reply ≡ Done → found (z ++ e.moved) r.id ≡ Some (Mutex (Some t))
+
+-- Where a thread took a mutex, and one takes it later, the first has given it back in between, or has ended.
+abbrev pub LocksExclude : Type 0
+LocksExclude = (slots : ℕ) (z1 z2 z3 z4 : Store) (first last : Event) (between : List Event) (r q : Reference)
+    → Steps slots z1 first.thread first.entry z2 → first.entry.call ≡ On r Lock → first.entry.reply ≡ Done
+    → Leads slots z2 between z3
+    → Steps slots z3 last.thread last.entry z4 → last.entry.call ≡ On q Lock → last.entry.reply ≡ Done → q.id ≡ r.id
+    → (e : Event) × Has between e × (gives_back first.thread r.id e ≡ true)

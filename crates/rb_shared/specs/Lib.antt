@@ -1,0 +1,12 @@
+pub mod Lists
+pub mod Store
+pub mod Step
+pub mod History
+pub mod Placing
+pub mod Threads
+pub mod Replies
+pub mod View
+pub mod Asking
+pub mod Answers
+pub mod Closing
+pub mod Laws
