@@ -24,3 +24,4 @@ pub mod Telling
 pub mod Printing
 pub mod Collections
 pub mod CollectionExamples
+pub mod Tellings

@@ -10,4 +10,5 @@ pub mod Give
 pub mod Move
 pub mod Follows
 pub mod Alone
+pub mod Collections
 pub mod Laws
