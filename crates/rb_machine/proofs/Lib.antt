@@ -24,4 +24,7 @@ pub mod Telling
 pub mod Printing
 pub mod Collections
 pub mod CollectionExamples
-pub mod Tellings
+pub mod CollectionTexts
+pub mod CollectionLines
+pub mod CollectionPrints
+pub mod CollectionRows

@@ -1,11 +1,11 @@
 -- No entry of a thread has a step beyond those that its machine has begun.
-use Rattle.std.proofs.Common.{◌≡◌, ◌≤◌, ◌-◌, ℕ, suc, Bool, true, false, refl, sym, ap, ◌∙◌, subst, arith, List, ◌++◌, ◌∷◌, []}
+use Rattle.std.proofs.Common.{◌≡◌, ◌≤◌, ◌-◌, ℕ, Bool, true, false, refl, arith, List, ◌++◌, ◌∷◌, []}
 use Rattle.rb_model.specs.Acts.{Reply}
 use Rattle.rb_model.specs.Log.{Log, Entry, last_step}
 use Rattle.rb_model.specs.Private.{Private}
 use Rattle.rb_machine.specs.Scopes.{Script}
 use Rattle.rb_machine.specs.Control.{State}
-use Rattle.rb_machine.specs.Move.{Go, move, replied, left_in}
+use Rattle.rb_machine.specs.Move.{replied, left_in}
 use Rattle.rb_machine.specs.Follows.{At, here, goes, makes, acts, asks, prints}
 use Rattle.rb_machine.specs.Laws.{one_more_if, begins_step}
 use Rattle.rb_machine.proofs.Counts.{counted_move, replies_are_free}

@@ -1,6 +1,7 @@
 // The laws of the machine, for every script.
 
 ghost use Rattle.rb_machine.specs.Laws as law;
+ghost use Rattle.rb_machine.specs.Collections as told;
 
 /// From every state the machine comes to something that it wants of the outside, or to the end: nothing is stuck, and nothing
 /// runs for good in silence.
@@ -127,6 +128,19 @@ pub fn walks()
 /// collections are begun at once.
 pub fn texts_of_collections()
     ensures { law.CollectionsAreReadOnce }
+{}
+
+/// While things stay as they are, the texts of collections are what is told of them by recursion over what they hold: `[a, b]`,
+/// `{k=>v}`, and dots for one that stands inside itself. One step goes for each element and each pair. So it is where a text is asked, and
+/// as `puts`, `print` and `p` show values, where no object that is written by itself has a `to_s` of the script; and a run of a script
+/// alone goes so.
+pub fn told_texts()
+    ensures inspected { told.InspectedAsTold }
+    ensures asked { told.TextsAsTold }
+    ensures puts { told.PutsAsTold }
+    ensures print { told.PrintAsTold }
+    ensures p { told.PAsTold }
+    ensures run { told.RunsAsTold }
 {}
 
 /// The right side of `||`, `||=`, `&&` and `&&=` is evaluated only where the left one does not decide.
