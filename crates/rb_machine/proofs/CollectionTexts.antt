@@ -32,10 +32,10 @@ both_second false b h = absurd (cc)
 pub front_short : (a b : Text) (m : ℕ) → length (a ++ b) ≤ m → length a ≤ m
 front_short a b m short = let parts = length-append a b in omega (arith, parts, short)
 
-regrouped : (a b c e : Text) → (a ++ b) ++ (c ++ e) ≡ a ++ ((b ++ c) ++ e)
+pub regrouped : (a b c e : Text) → (a ++ b) ++ (c ++ e) ≡ a ++ ((b ++ c) ++ e)
 regrouped a b c e = append_assoc a b (c ++ e) ∙ ap (λ x. a ++ x) (sym (append_assoc b c e))
 
-regrouped_right : (a b c e : Text) → (a ++ (b ++ c)) ++ e ≡ a ++ (b ++ (c ++ e))
+pub regrouped_right : (a b c e : Text) → (a ++ (b ++ c)) ++ e ≡ a ++ (b ++ (c ++ e))
 regrouped_right a b c e = append_assoc a (b ++ c) e ∙ ap (λ x. a ++ x) (append_assoc b c e)
 
 -- ---- the collections that are begun
@@ -86,12 +86,12 @@ module _ (S : Script) (holds : Id → Option Thing) (at : Span) (k : List Cont) 
 
   -- ---- the form of `inspect`
 
-  abbrev needs_of : Draft → Text → Part → Needs
+  abbrev pub needs_of : Draft → Text → Part → Needs
   needs_of t lead (Single v) = Goes (joined t (lead ++ inspected S.program v) Between t.begun)
   needs_of t lead (Again thing) = Goes (joined t (lead ++ dots thing.sort) Between t.begun)
   needs_of t lead (Whole thing) = Copies thing t
 
-  abbrev inspecting : Text → Value → Text → List Open → Draft
+  abbrev pub inspecting : Text → Value → Text → List Open → Draft
   inspecting lead v bytes begun = draft Inspected (OfValue lead v) bytes begun
 
   thing_needs : (t : Draft) (lead : Text) (thing : Reference) (b i : Bool) → t.form ≡ Inspected → is_open thing t.begun ≡ i
@@ -103,12 +103,12 @@ module _ (S : Script) (holds : Id → Option Thing) (at : Span) (k : List Cont) 
       ∙ ap (λ x. Goes (joined t (lead ++ x) Between t.begun)) (again_is thing.sort)
   thing_needs t lead thing true false form e = ap (λ b. cond b (Goes (joined t (lead ++ again t.form thing.sort) Between t.begun)) (Copies thing t)) e
 
-  value_needs : (t : Draft) (lead : Text) (v : Value) → t.form ≡ Inspected → inspects S.program t lead v ≡ needs_of t lead (inspected_part (things_of t.begun) v)
+  pub value_needs : (t : Draft) (lead : Text) (v : Value) → t.form ≡ Inspected → inspects S.program t lead v ≡ needs_of t lead (inspected_part (things_of t.begun) v)
   value_needs t lead (To thing) form = thing_needs t lead thing (is_collection_sort thing.sort) (is_among thing (things_of t.begun)) form (open_is_among thing t.begun)
   value_needs t lead other form = refl
 
   -- values are told inside these collections: each by its text, with so many steps
-  abbrev Tells : (Value → Text) → (Value → ℕ) → (Value → Bool) → List Open → Type 0
+  abbrev pub Tells : (Value → Text) → (Value → ℕ) → (Value → Bool) → List Open → Type 0
   Tells text steps fits begun = (v : Value) (lead bytes : Text) (left : ℕ) → fits v ≡ true → length (bytes ++ (lead ++ text v)) ≤ max_bytes
       → Looks S holds (drafting Inspected (OfValue lead v) bytes begun (steps v + left)) (drafting Inspected Between (bytes ++ (lead ++ text v)) begun left)
 
@@ -161,7 +161,7 @@ module _ (S : Script) (holds : Id → Option Thing) (at : Span) (k : List Cont) 
         (λ bytes lead v vs left fit short. goes _ _ _ refl (each (codes ", ") vs v lead bytes left fit short))
 
     -- a pair: its key, and then its value
-    pair : (os : List Open) → Tells text steps fits os → (lead bytes : Text) (p : Value × Value) (left : ℕ) → fits p.1 ≡ true → length (bytes ++ (lead ++ pair_text S holds text p)) ≤ max_bytes
+    pub pair : (os : List Open) → Tells text steps fits os → (lead bytes : Text) (p : Value × Value) (left : ℕ) → fits p.1 ≡ true → length (bytes ++ (lead ++ pair_text S holds text p)) ≤ max_bytes
         → Looks S holds (drafting Inspected (OfPair lead p.0 p.1) bytes os (steps p.1 + left)) (drafting Inspected Between (bytes ++ (lead ++ pair_text S holds text p)) os left)
     pair os each lead bytes p left fit short =
         let key = lead ++ inspected S.program p.0 ++ codes "=>" in

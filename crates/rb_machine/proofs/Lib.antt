@@ -28,3 +28,4 @@ pub mod CollectionTexts
 pub mod CollectionLines
 pub mod CollectionPrints
 pub mod CollectionRows
+pub mod CollectionFailures

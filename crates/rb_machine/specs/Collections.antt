@@ -1,19 +1,21 @@
 -- The texts of collections, told by what these hold: as `inspect` gives them, and as `puts` writes an array.
-use Rattle.std.specs.Prelude.{◌≡◌, ◌≤◌, ℕ, zero, suc, ◌+◌, Bool, true, false, ◌&&◌, ◌||◌, if◌then◌else◌, List, [], ◌∷◌, ◌++◌, length, Option, Some, is_none, codes}
+use Rattle.std.specs.Prelude.{◌≡◌, ◌<◌, ◌≤◌, ◌⊎◌, ℕ, zero, suc, ◌+◌, Bool, true, false, ◌&&◌, ◌||◌, if◌then◌else◌, List, [], ◌∷◌, ◌++◌, length, Option, Some, is_none, codes}
 use Rattle.std.specs.List.{list_all, flat_map, join_by}
 use Rattle.rb_tree.specs.declared.span.Span.{Span}
+use Rattle.rb_model.specs.declared.fault.Fault.TheVariants.{TextTooLong}
 use Rattle.rb_model.specs.declared.value.Id.{Id}
 use Rattle.rb_model.specs.declared.value.Sort.{Sort}
 use Rattle.rb_model.specs.declared.value.Sort.TheVariants as sort
 use Rattle.rb_model.specs.Values.{Value, Nil, Str, To, Reference, same_id}
 use Rattle.rb_model.specs.Acts.{Copy}
 use Rattle.rb_model.specs.Things.{Thing, Elements, Pairs, gives}
+use Rattle.rb_model.specs.Ends.{Steps}
 use Rattle.rb_model.specs.Private.{Private, held}
 use Rattle.rb_machine.specs.Scopes.{Script, Scope, Text}
 use Rattle.rb_machine.specs.Control.{State, On, Cont, Give, Drafting, Instead, Inspected, max_depth}
 use Rattle.rb_machine.specs.Texts.{max_bytes, inspected, shown, line_of}
 use Rattle.rb_machine.specs.Drafts.{is_collection_sort, is_collection, is_list_sort, draft_of}
-use Rattle.rb_machine.specs.Call.{own_text, give_text, show, value_of_p, print}
+use Rattle.rb_machine.specs.Call.{ended, raised, own_text, give_text, show, value_of_p, print}
 use Rattle.rb_machine.specs.Move.{Go, Ask, move, replied}
 use Rattle.rb_machine.specs.Alone.{Runs}
 
@@ -172,6 +174,11 @@ module _ (S : Script) (holds : Id → Option Thing) where
     goes : (s t u : State) → move S s ≡ Go t → Looks t u → Looks s u
     copies : (s u : State) (thing : Reference) (what : Thing) → move S s ≡ Ask thing Copy → holds thing.id ≡ Some what → Looks (replied s (gives what Copy)) u → Looks s u
 
+-- No text comes: there are fewer steps than it takes, and the thread ends for want of them; or the text would be too long, which is a fault.
+pub data Fails (S : Script) (holds : Id → Option Thing) (at : Span) (fewer longer : Type 0) (s : State) : Type 0 where
+  few_steps : fewer → Looks S holds s (ended Steps 0) → Fails S holds at fewer longer s
+  too_long : (left : ℕ) → longer → Looks S holds s (raised TextTooLong at left) → Fails S holds at fewer longer s
+
 -- the steps of values one after the other
 abbrev pub steps_of : (Value → ℕ) → List Value → ℕ
 steps_of steps [] = 0
@@ -186,6 +193,12 @@ abbrev pub InspectedAsTold : Type 0
 InspectedAsTold = (S : Script) (holds : Id → Option Thing) (deep : ℕ) (v : Value) (at : Span) (k : List Cont) (sc : Scope) (d left : ℕ) → deep + d ≤ max_depth
     → fits_inside S holds deep [] v ≡ true → length (text_inside S holds deep [] v) ≤ max_bytes
     → Looks S holds (On (Drafting (draft_of Inspected v) at) k sc d (steps_inside S holds deep [] v + left)) (On (Give (Str (text_inside S holds deep [] v))) k sc d left)
+
+-- With fewer steps, or where it would be longer than a text may be, it does not come.
+abbrev pub InspectedFails : Type 0
+InspectedFails = (S : Script) (holds : Id → Option Thing) (deep : ℕ) (v : Value) (at : Span) (k : List Cont) (sc : Scope) (d left : ℕ) → deep + d ≤ max_depth
+    → fits_inside S holds deep [] v ≡ true → ((left < steps_inside S holds deep [] v) ⊎ (max_bytes < length (text_inside S holds deep [] v)))
+    → Fails S holds at (left < steps_inside S holds deep [] v) (max_bytes < length (text_inside S holds deep [] v)) (On (Drafting (draft_of Inspected v) at) k sc d left)
 
 -- So is the text of a value, as a literal asks for it,
 abbrev pub TextsAsTold : Type 0
