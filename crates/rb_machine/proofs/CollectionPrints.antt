@@ -11,6 +11,7 @@ use Rattle.rb_model.specs.Values.{Value, Str, To}
 use Rattle.rb_model.specs.Acts.{Copy}
 use Rattle.rb_model.specs.Things.{Thing, Object, Elements, Pairs, Mutex, Thread, gives, gives_to, becomes_by}
 use Rattle.rb_model.specs.Private.{Private, held, or_none, acted}
+use Rattle.rb_model.specs.Log.{Log}
 use Rattle.rb_machine.specs.Scopes.{Script, Text, Scope}
 use Rattle.rb_machine.specs.Control.{State, On, Cont, Then, Give, Drafting, Style, Lines, Plain, Inspecting, WriteBehind, LinesBehind, Inspected, Lined, max_depth}
 use Rattle.rb_machine.specs.Texts.{max_bytes, inspected, line_of}
@@ -19,7 +20,9 @@ use Rattle.rb_machine.specs.Call.{give_text, raised, show, value_of, write}
 use Rattle.rb_machine.specs.Move.{replied}
 use Rattle.rb_machine.specs.Alone.{Runs}
 use Rattle.rb_machine.specs.Alone as run
-use Rattle.rb_machine.specs.Collections.{Single, thing_part, lined_part, steps_of, steps_inside, fits_inside, text_inside, value_text, value_fits, array_lines, part_lines, lines_inside, collection_steps, part_line_steps, line_steps_inside, array_fits, part_lines_fit, lines_fit_inside, Looks, arrives, goes, copies, PutsAsTold, PrintAsTold, PAsTold, RunsAsTold}
+use Rattle.rb_machine.specs.Follows.{At}
+use Rattle.rb_machine.specs.Follows as thread
+use Rattle.rb_machine.specs.Collections.{Single, thing_part, lined_part, steps_of, steps_inside, fits_inside, text_inside, value_text, value_fits, array_lines, part_lines, lines_inside, collection_steps, part_line_steps, line_steps_inside, array_fits, part_lines_fit, lines_fit_inside, Looks, arrives, goes, copies, PutsAsTold, PrintAsTold, PAsTold, RunsAsTold, ThreadsAsTold}
 use Rattle.rb_machine.proofs.Printing.{behind_fits}
 use Rattle.rb_machine.proofs.CollectionTexts.{both_first, both_second, front_short, looks_append, looks_from, looks_to, tells_all, plain_steps, plain_text}
 use Rattle.rb_machine.proofs.CollectionLines.{end_short, text_short, texts_as_told, writes_all}
@@ -175,3 +178,15 @@ runs_on S N b holds h same r (copies s t thing what e f p) =
 
 pub runs_as_told : RunsAsTold
 runs_as_told S N b h s t r p = runs_on S N b (held h) h (λ id. refl) r p
+
+thread_on : (S : Script) (N : ℕ) (start : State) (l : Log) (holds : Id → Option Thing) (h : Private) {s t : State} → ((id : Id) → held h id ≡ holds id) → At S N start l h s → Looks S holds s t
+    → (after : Private) × At S N start l after t × ((id : Id) → held after id ≡ holds id)
+thread_on S N start l holds h same a (arrives s) = (h, a, same)
+thread_on S N start l holds h same a (goes s u t e p) = thread_on S N start l holds h same (thread.goes l h s u a e) p
+thread_on S N start l holds h same a (copies s t thing what e f p) =
+    let here = same thing.id ∙ f in
+    thread_on S N start l holds (acted h thing.id Copy what) (λ id. copy_changes_nothing h thing.id id what here ∙ same id)
+    (subst (λ x. At S N start l (acted h thing.id Copy what) (replied s x)) (copy_gives h.thread what) (thread.acts l h s thing Copy what a e here)) p
+
+pub threads_as_told : ThreadsAsTold
+threads_as_told S N start l h s t a p = thread_on S N start l (held h) h (λ id. refl) a p

@@ -11,12 +11,14 @@ use Rattle.rb_model.specs.Acts.{Copy}
 use Rattle.rb_model.specs.Things.{Thing, Elements, Pairs, gives}
 use Rattle.rb_model.specs.Ends.{Steps}
 use Rattle.rb_model.specs.Private.{Private, held}
+use Rattle.rb_model.specs.Log.{Log}
 use Rattle.rb_machine.specs.Scopes.{Script, Scope, Text}
 use Rattle.rb_machine.specs.Control.{State, On, Cont, Give, Drafting, Instead, Inspected, max_depth}
 use Rattle.rb_machine.specs.Texts.{max_bytes, inspected, shown, line_of}
 use Rattle.rb_machine.specs.Drafts.{is_collection_sort, is_collection, is_list_sort, draft_of}
 use Rattle.rb_machine.specs.Call.{ended, raised, own_text, give_text, show, value_of_p, print}
 use Rattle.rb_machine.specs.Move.{Go, Ask, move, replied}
+use Rattle.rb_machine.specs.Follows.{At}
 use Rattle.rb_machine.specs.Alone.{Runs}
 
 -- ---- what stands inside what
@@ -230,3 +232,8 @@ PAsTold = (S : Script) (holds : Id → Option Thing) (deep : ℕ) (vs : List Val
 -- In a run of a script alone things hold what its store has for them. So the run goes as these laws say, and the things hold then what they held.
 abbrev pub RunsAsTold : Type 0
 RunsAsTold = (S : Script) (N : ℕ) (b : List ℕ) (h : Private) (s t : State) → Runs S N b h s → Looks S (held h) s t → (after : Private) × Runs S N b after t × ((id : Id) → held after id ≡ held h id)
+
+-- So does a thread with what it alone reaches, and its log gains nothing.
+abbrev pub ThreadsAsTold : Type 0
+ThreadsAsTold = (S : Script) (N : ℕ) (start : State) (l : Log) (h : Private) (s t : State) → At S N start l h s → Looks S (held h) s t
+    → (after : Private) × At S N start l after t × ((id : Id) → held after id ≡ held h id)

@@ -132,8 +132,9 @@ pub fn texts_of_collections()
 
 /// While things stay as they are, the texts of collections are what is told of them by recursion over what they hold: `[a, b]`,
 /// `{k=>v}`, and dots for one that stands inside itself. One step goes for each element and each pair. So it is where a text is asked, and
-/// as `puts`, `print` and `p` show values, where no object that is written by itself has a `to_s` of the script; and a run of a script
-/// alone goes so. With fewer steps, or longer than a text may be, the inspected form does not come: the thread ends for that.
+/// as `puts`, `print` and `p` show values, where no object that is written by itself has a `to_s` of the script; and so go a run of a
+/// script alone, and a thread with what it alone reaches. With fewer steps, or where it would be longer than a text may be, an inspected
+/// form does not come, and the thread ends for that.
 pub fn told_texts()
     ensures inspected { told.InspectedAsTold }
     ensures fails { told.InspectedFails }
@@ -142,6 +143,7 @@ pub fn told_texts()
     ensures print { told.PrintAsTold }
     ensures p { told.PAsTold }
     ensures run { told.RunsAsTold }
+    ensures thread { told.ThreadsAsTold }
 {}
 
 /// The right side of `||`, `||=`, `&&` and `&&=` is evaluated only where the left one does not decide.

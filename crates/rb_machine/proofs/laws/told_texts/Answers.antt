@@ -1,5 +1,5 @@
 use Rattle.rb_machine.proofs.CollectionLines.{inspected_as_told, texts_as_told}
-use Rattle.rb_machine.proofs.CollectionPrints.{puts_as_told, print_as_told, p_as_told, runs_as_told}
+use Rattle.rb_machine.proofs.CollectionPrints.{puts_as_told, print_as_told, p_as_told, runs_as_told, threads_as_told}
 use Rattle.rb_machine.proofs.CollectionFailures.{inspected_fails}
 use Rattle.rb_machine.proofs.laws.told_texts.Goals as goal
 
@@ -23,3 +23,6 @@ returns-clause-p c = p_as_told
 
 pub returns-clause-run : goal.returns-clause-run
 returns-clause-run c = runs_as_told
+
+pub returns-clause-thread : goal.returns-clause-thread
+returns-clause-thread c = threads_as_told
