@@ -139,21 +139,21 @@ some_of f (Some x) = refl
 
 raw_call : (names : List (List ℕ)) (ks : List Class) (receiver : Option Node) (name : NameId) (args : List Node) (block : Option Block) (at : Span)
     → unbuilt_in names ks (node.Call receiver name args block at)
-    ≡ earlier (here (is_unbuilt_call names (is_some (option_map (unbuilt_in names ks) receiver)) name (is_some (option_map (unbuilt_in_block names ks) block))) at)
+    ≡ earlier (here (is_unbuilt_call (is_some (option_map (unbuilt_in names ks) receiver)) (is_some (option_map (unbuilt_in_block names ks) block))) at)
     (earlier (in_any (option_map (unbuilt_in names ks) receiver)) (earlier (unbuilt_in_all names ks args) (in_any (option_map (unbuilt_in_block names ks) block))))
 unfolding unbuilt_in unbuilt_in_block
 raw_call names ks receiver name args block at = search (rules, the_lemmas)
 
 pub unbuilt-call : (names : List (List ℕ)) (ks : List Class) (receiver : Option Node) (name : NameId) (args : List Node) (block : Option Block) (at : Span)
     → unbuilt_in names ks (node.Call receiver name args block at)
-    ≡ earlier (here (is_unbuilt_call names (is_some receiver) name (is_some block)) at)
+    ≡ earlier (here (is_unbuilt_call (is_some receiver) (is_some block)) at)
     (earlier (in_any (option_map (unbuilt_in names ks) receiver)) (earlier (unbuilt_in_all names ks args) (in_any (option_map (unbuilt_in_block names ks) block))))
 unbuilt-call names ks receiver name args block at =
     let inside = earlier (in_any (option_map (unbuilt_in names ks) receiver)) (earlier (unbuilt_in_all names ks args) (in_any (option_map (unbuilt_in_block names ks) block))) in
     let block_found = is_some (option_map (unbuilt_in_block names ks) block) in
     raw_call names ks receiver name args block at
-    ∙ ap (λ r. earlier (here (is_unbuilt_call names r name block_found) at) inside) (some_of (unbuilt_in names ks) receiver)
-    ∙ ap (λ b. earlier (here (is_unbuilt_call names (is_some receiver) name b) at) inside) (some_of (unbuilt_in_block names ks) block)
+    ∙ ap (λ r. earlier (here (is_unbuilt_call r block_found) at) inside) (some_of (unbuilt_in names ks) receiver)
+    ∙ ap (λ b. earlier (here (is_unbuilt_call (is_some receiver) b) at) inside) (some_of (unbuilt_in_block names ks) block)
 
 pub piece-text : (names : List (List ℕ)) (ks : List Class) (text : List ℕ) → unbuilt_in_piece names ks (piece.Text text) ≡ None
 unfolding unbuilt_in_piece

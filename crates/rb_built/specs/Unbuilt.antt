@@ -1,5 +1,5 @@
 -- What of a program is not run yet, and what of that stands first in its text.
-use Rattle.std.specs.Prelude.{ℕ, Bool, true, false, not, ◌||◌, ◌==◌, nat_lt, is_some, List, [], ◌∷◌, map, Option, Some, None, if◌then◌else◌, slice_get, unwrap_or, codes}
+use Rattle.std.specs.Prelude.{ℕ, Bool, true, false, not, ◌&&◌, ◌||◌, ◌==◌, nat_lt, is_some, List, [], ◌∷◌, map, Option, Some, None, if◌then◌else◌, slice_get, unwrap_or, codes}
 use Rattle.std.specs.List.{list_any}
 use Rattle.std.specs.Str.{bytes_eq}
 use Rattle.rb_tree.specs.declared.span.NameId.{NameId}
@@ -43,10 +43,6 @@ here false at = None
 abbrev pub text_of : List (List ℕ) → NameId → List ℕ
 text_of names name = unwrap_or (slice_get names name.0) []
 
--- whether a method of this name takes a block that is not run yet: only that of a mutex
-abbrev pub locks : List ℕ → Bool
-locks text = bytes_eq text (codes "synchronize")
-
 -- whether a class of this name is built in and has `new`
 abbrev pub is_collection : List ℕ → Bool
 is_collection text = bytes_eq text (codes "Array") || bytes_eq text (codes "Hash")
@@ -70,17 +66,15 @@ piece_step (node.Code code) = code
 abbrev pub block_step : Block-F Found Found (Span → Found) Found → Found
 block_step block = first_of block.body
 
--- In a script with these texts of names: a call with a block that has no receiver, which no text spells, or that would lock.
-abbrev pub is_unbuilt_call : List (List ℕ) → (receiver : Bool) → NameId → (block : Bool) → Bool
-is_unbuilt_call names receiver name false = false
-is_unbuilt_call names false name true = true
-is_unbuilt_call names true name true = locks (text_of names name)
+-- a call with a block that has no receiver, which no text spells
+abbrev pub is_unbuilt_call : (receiver block : Bool) → Bool
+is_unbuilt_call receiver block = not receiver && block
 
 -- of a pair of a hash
 abbrev pub in_pair : Found × Found → Found
 in_pair pair = earlier pair.0 pair.1
 
--- In such a script, with these classes.
+-- In a script with these texts of names and these classes.
 module _ (names : List (List ℕ)) (classes : List Class) where
   -- a class that the script has, or one that is built in
   abbrev pub is_built_class : NameId → Bool
@@ -98,7 +92,7 @@ module _ (names : List (List ℕ)) (classes : List Class) where
   node_step (node.Store receiver name args at) = earlier receiver (first_of args)
   node_step (node.OpAssign target op value at) = earlier (target at) value
   node_step (node.Call receiver name args block at) =
-      earlier (here (is_unbuilt_call names (is_some receiver) name (is_some block)) at) (earlier (in_any receiver) (earlier (first_of args) (in_any block)))
+      earlier (here (is_unbuilt_call (is_some receiver) (is_some block)) at) (earlier (in_any receiver) (earlier (first_of args) (in_any block)))
   node_step (node.New class args at) = earlier (here (not (is_built_class class)) at) (first_of args)
   node_step (node.ThreadNew args body at) = Some at
   node_step (node.And first second at) = earlier first second

@@ -16,13 +16,6 @@ fn text_of(names: &Names, name: NameId) -> &[u8]
     }
 }
 
-/// Whether a method of this name takes a block that is not run yet.
-fn locks(text: &[u8]) -> bool
-    ensures { result ≡ spec.locks text.now }
-{
-    text == b"synchronize".as_slice()
-}
-
 /// Whether a class of this name is built in and has `new`.
 fn is_collection(text: &[u8]) -> bool
     ensures { result ≡ spec.is_collection text.now }
@@ -31,21 +24,10 @@ fn is_collection(text: &[u8]) -> bool
 }
 
 /// Whether a call is not run yet.
-pub(crate) fn is_unbuilt_call(
-    names: &Names,
-    receiver: &Option<Boxed<Node>>,
-    name: NameId,
-    block: &Option<Boxed<Block>>,
-) -> bool
-    ensures { result ≡ spec.is_unbuilt_call names.now (is_some receiver.now) name (is_some block.now) }
+pub(crate) fn is_unbuilt_call(receiver: &Option<Boxed<Node>>, block: &Option<Boxed<Block>>) -> bool
+    ensures { result ≡ spec.is_unbuilt_call (is_some receiver.now) (is_some block.now) }
 {
-    if block.is_none() {
-        return false;
-    }
-    if receiver.is_none() {
-        return true;
-    }
-    locks(text_of(names, name))
+    receiver.is_none() && block.is_some()
 }
 
 /// Whether one of the classes has this name.

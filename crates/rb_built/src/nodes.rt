@@ -47,12 +47,12 @@ fn in_node(names: &Names, classes: &[Class], node: &Node) -> Option<Span>
         ),
         Node::Call {
             receiver,
-            name,
             args,
             block,
             at,
+            ..
         } => {
-            let is_unbuilt = is_unbuilt_call(names, receiver, *name, block);
+            let is_unbuilt = is_unbuilt_call(receiver, block);
             let in_args = in_all(names, classes, args.as_slice());
             let behind = earlier(in_args, in_block(names, classes, block));
             let inside = earlier(in_optional(names, classes, receiver), behind);

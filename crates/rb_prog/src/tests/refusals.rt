@@ -6,7 +6,7 @@ use std::alloc::{AllocError, Global};
 use std::test::Fail;
 
 /// A source that is refused, and what its line says behind `rbso: refused `.
-const REFUSED: [(&[u8], &str); 53] = [
+const REFUSED: [(&[u8], &str); 52] = [
     (b"puts 1\xFF", "1 NotUtf8 at 1:7"),
     (b"\xFF", "1 NotUtf8 at 1:1"),
     (b"puts 1\nputs 2\xC3", "1 NotUtf8 at 2:7"),
@@ -62,7 +62,6 @@ const REFUSED: [(&[u8], &str); 53] = [
     (b"x = 1\nThread.new { 1 }", "17 NotYet at 2:8"),
     (b"puts \"#{[1]}\" + $a", "17 NotYet at 1:17"),
     (b"puts 1\nx = Array.new(2, Mutex.new)", "17 NotYet at 2:24"),
-    (b"[1].synchronize { |x| puts x }", "17 NotYet at 1:5"),
     (
         b"class A\n  def f\n    Mutex.new\n  end\nend",
         "17 NotYet at 3:11",
@@ -81,8 +80,8 @@ const REFUSED: [(&[u8], &str); 53] = [
         "17 NotYet at 1:6",
     ),
     (
-        b"def f\n  3.times { {}.synchronize { 4 } }\nend",
-        "17 NotYet at 2:16",
+        b"def f\n  3.times { {}.synchronize { $a } }\nend",
+        "17 NotYet at 2:30",
     ),
     (
         b"class A\n  attr_accessor :b\nend\nA.new.b = { 1 => $a }",

@@ -13,7 +13,7 @@ in_node-returns-in-Call t c =
     let ks = c.args.classes.now in
     c.earlier-in-Call.ensures
     ∙ ap (λ o. spec.earlier o c.earlier-inside.result) (c.here.ensures ∙ ap (λ b. spec.here b call.at) c.is_unbuilt_call-is_unbuilt.ensures)
-    ∙ ap (spec.earlier (spec.here (spec.is_unbuilt_call names (is_some call.receiver) call.name (is_some call.block)) call.at)) (c.earlier-inside.ensures
+    ∙ ap (spec.earlier (spec.here (spec.is_unbuilt_call (is_some call.receiver) (is_some call.block)) call.at)) (c.earlier-inside.ensures
     ∙ ap (λ o. spec.earlier o c.earlier-behind.result) c.in_optional.ensures
     ∙ ap (spec.earlier (spec.in_any (option_map (spec.unbuilt_in names ks) call.receiver))) (c.earlier-behind.ensures
     ∙ ap (λ o. spec.earlier o c.in_block.result) (c.in_all-in_args.ensures ∙ ap (spec.unbuilt_in_all names ks) c.as_slice-in-Call.ensures)

@@ -259,7 +259,7 @@ pub(super) const HASHES: [Row; 17] = [
 ];
 
 /// Faults of arrays and hashes.
-pub(super) const COLLECTION_FAULTS: [Row; 32] = [
+pub(super) const COLLECTION_FAULTS: [Row; 34] = [
     ("a = []\na[16777216] = 1", "", "fault ArrayTooLong at 2:13"),
     ("a = [1]\na[-2] = 0", "", "fault IndexTooSmall at 2:7"),
     ("h = {}\nh[[]] = 1", "", "fault BadKey at 2:7"),
@@ -297,6 +297,12 @@ pub(super) const COLLECTION_FAULTS: [Row; 32] = [
     ("{}.first", "", "fault NoMethod at 1:4"),
     ("{}.map { |a| a }", "", "fault NoMethod at 1:4"),
     ("5.each { |a| a }", "", "fault NoMethod at 1:3"),
+    ("1.synchronize { 2 }", "", "fault NoMethod at 1:3"),
+    (
+        "[1].synchronize { |x| puts x }",
+        "",
+        "fault NoMethod at 1:5",
+    ),
     ("nil[0]", "", "fault NoMethod at 1:4"),
     ("Array.new(-1)", "", "fault IndexTooSmall at 1:7"),
     ("Array.new(16777217)", "", "fault ArrayTooLong at 1:7"),
