@@ -3,8 +3,8 @@ use Rattle.std.proofs.Common.{ℕ, ◌≡◌, ◌∙◌, ap, ap₂, sym, subst, 
 use Rattle.std.specs.Prelude.{◌&&◌, if◌then◌else◌, option_and_then, nat_le}
 use Rattle.std.specs.Str.Parse.{digits_value}
 use Rattle.std.proofs.lemmas.Bool.{eqb-true}
-use Rattle.rb_command.specs.Words.{Text, Name, Kind, Given, steps, heap_words, ends, option, refused, other, kind_of, begins_with_hyphen, number_of, within, least_of, most_of, with_file, with_number, with_value, files, reads_on, reads, run_of, run_in, default_of}
-use Rattle.rb_command.specs.Line.{Parts, no_parts, parts_of, part_files, part_file, part_text, part_value, part_on, whole, line_of, run_of_line}
+use Rattle.rb_command.specs.Words.{Text, Name, Kind, Given, steps, heap_words, ends, option, refused, other, kind_of, begins_with_hyphen, number_of, within, least_of, most_of, with_file, with_number, with_value, files, reads_on, reads, run_of, run_in, plain_run_of, plain_run_in, default_of}
+use Rattle.rb_command.specs.Line.{Parts, no_parts, parts_of, part_files, part_file, part_text, part_value, part_on, whole, line_of, run_of_line, plain_run_of_line}
 
 -- ---- the numbers of the parts
 
@@ -240,3 +240,34 @@ run_of_whole (Some now) = run_of_parts now.file now.steps now.heap_words
 
 pub reads-line : (words : List Text) → run_in words ≡ option_and_then run_of_line (line_of words)
 reads-line words = ap (option_and_then run_of) (same_reads words None None None None None None refl refl) ∙ run_of_whole (parts_of None words no_parts)
+
+-- ---- the command that takes a FILE alone
+
+plain_run_of_parts : (file s p : Option Text) → option_and_then plain_run_of (counted (parts file s p)) ≡ option_and_then plain_run_of_line (whole (parts file s p))
+plain_run_of_parts None s p = go (counted_text steps s) (counted_text heap_words p)
+  where
+    go : (a b : Option (Option ℕ)) → option_and_then plain_run_of (counted_by None a b) ≡ None
+    go None b = refl
+    go (Some a) None = refl
+    go (Some None) (Some None) = refl
+    go (Some None) (Some (Some n)) = refl
+    go (Some (Some m)) (Some b) = refl
+plain_run_of_parts (Some file) None None = refl
+plain_run_of_parts (Some file) (Some s) p = go (number_of steps s) (counted_text heap_words p)
+  where
+    go : (o : Option ℕ) (b : Option (Option ℕ)) → option_and_then plain_run_of (counted_by (Some file) (option_map (λ n. Some n) o) b) ≡ None
+    go None b = refl
+    go (Some n) None = refl
+    go (Some n) (Some b) = refl
+plain_run_of_parts (Some file) None (Some p) = go (number_of heap_words p)
+  where
+    go : (o : Option ℕ) → option_and_then plain_run_of (counted_by (Some file) (Some None) (option_map (λ n. Some n) o)) ≡ None
+    go None = refl
+    go (Some n) = refl
+
+plain_run_of_whole : (o : Option Parts) → option_and_then plain_run_of (option_and_then counted o) ≡ option_and_then plain_run_of_line (option_and_then whole o)
+plain_run_of_whole None = refl
+plain_run_of_whole (Some now) = plain_run_of_parts now.file now.steps now.heap_words
+
+pub reads-file : (words : List Text) → plain_run_in words ≡ option_and_then plain_run_of_line (line_of words)
+reads-file words = ap (option_and_then plain_run_of) (same_reads words None None None None None None refl refl) ∙ plain_run_of_whole (parts_of None words no_parts)

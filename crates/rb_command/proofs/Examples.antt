@@ -41,8 +41,17 @@ too_small_a_heap = refl
 single_hyphen : of (codes "-" ∷ []) ≡ None
 single_hyphen = refl
 
-for_shapes : command_of (codes "shapes" ∷ codes "a.rb" ∷ codes "--steps=5" ∷ []) ≡ Some (shapes (record { file = codes "a.rb"; steps = 5; heap_words = 1048576 }))
+for_shapes : command_of (codes "shapes" ∷ codes "a.rb" ∷ []) ≡ Some (shapes (record { file = codes "a.rb"; steps = 100000000; heap_words = 1048576 }))
 for_shapes = refl
+
+shapes_behind_the_end : command_of (codes "shapes" ∷ codes "--" ∷ codes "-a.rb" ∷ []) ≡ Some (shapes (record { file = codes "-a.rb"; steps = 100000000; heap_words = 1048576 }))
+shapes_behind_the_end = refl
+
+shapes_with_steps : command_of (codes "shapes" ∷ codes "a.rb" ∷ codes "--steps=5" ∷ []) ≡ None
+shapes_with_steps = refl
+
+shapes_with_heap_words : command_of (codes "shapes" ∷ codes "--heap-words" ∷ codes "4096" ∷ codes "a.rb" ∷ []) ≡ None
+shapes_with_heap_words = refl
 
 no_command : command_of (codes "--help" ∷ []) ≡ None
 no_command = refl

@@ -1,5 +1,5 @@
 -- The words behind the command, with the values of options as texts: what is read before the numbers are.
-use Rattle.std.specs.Prelude.{ℕ, ◌==◌, ◌&&◌, ◌||◌, Bool, false, not, List, [], ◌∷◌, Option, Some, None, option_map, option_and_then, if◌then◌else◌, codes}
+use Rattle.std.specs.Prelude.{ℕ, ◌==◌, ◌&&◌, ◌||◌, is_some, Bool, false, not, List, [], ◌∷◌, Option, Some, None, option_map, option_and_then, if◌then◌else◌, codes}
 use Rattle.std.specs.Str.{bytes_eq}
 use Rattle.rb_command.specs.Words.{Text, Name, Kind, steps, heap_words, ends, option, refused, other, once, kind_of, begins_with_hyphen, number_in, least_of, most_of, default_of, Run}
 
@@ -82,3 +82,7 @@ number_for name text = chosen (least_of name) (most_of name) (default_of name) t
 abbrev pub run_of_line : Line → Option Run
 run_of_line line = option_and_then (λ number. option_map (λ words. record { file = line.file; steps = number; heap_words = words })
     (number_for heap_words line.heap_words)) (number_for steps line.steps)
+
+-- a line without an option
+abbrev pub plain_run_of_line : Line → Option Run
+plain_run_of_line line = if is_some line.steps || is_some line.heap_words then None else run_of_line line

@@ -1,5 +1,5 @@
 -- What the words of a command line ask for.
-use Rattle.std.specs.Prelude.{ℕ, ◌==◌, ◌&&◌, Bool, false, List, [], ◌∷◌, length, Option, Some, None, option_map, option_and_then, unwrap_or, if◌then◌else◌, nat_le, codes}
+use Rattle.std.specs.Prelude.{ℕ, ◌==◌, ◌&&◌, ◌||◌, is_some, Bool, false, List, [], ◌∷◌, length, Option, Some, None, option_map, option_and_then, unwrap_or, if◌then◌else◌, nat_le, codes}
 use Rattle.std.specs.List.{list_all, list_any, before_first, after_first}
 use Rattle.std.specs.Char.{is_ascii_digit}
 use Rattle.std.specs.Str.{bytes_eq}
@@ -142,9 +142,16 @@ run_of given = option_map (λ file. record {
 abbrev pub run_in : List Text → Option Run
 run_in words = option_and_then run_of (reads None words nothing_given)
 
+-- the run of a FILE that they tell alone, without an option
+abbrev pub plain_run_of : Given → Option Run
+plain_run_of given = if is_some given.steps || is_some given.heap_words then None else run_of given
+
+abbrev pub plain_run_in : List Text → Option Run
+plain_run_in words = option_and_then plain_run_of (reads None words nothing_given)
+
 -- what the words ask for, without the program's own name; none where they are no words of the program
 abbrev pub command_of : List Text → Option Wanted
 command_of [] = None
 command_of (word ∷ rest) =
     if bytes_eq word (codes "run") then option_map run (run_in rest)
-    else (if bytes_eq word (codes "shapes") then option_map shapes (run_in rest) else None)
+    else (if bytes_eq word (codes "shapes") then option_map shapes (plain_run_in rest) else None)

@@ -32,7 +32,7 @@ fn asked(alloc: Global, line: &str) -> Result<String, AllocError> {
 }
 
 /// A line, and what it asks for: the FILE, the steps and the heap words.
-const ACCEPTED: [(&str, &str); 28] = [
+const ACCEPTED: [(&str, &str); 27] = [
     ("run a.rb", "run: a.rb 100000000 1048576"),
     ("run a.rb --steps=5", "run: a.rb 5 1048576"),
     ("run a.rb --steps 5", "run: a.rb 5 1048576"),
@@ -65,10 +65,6 @@ const ACCEPTED: [(&str, &str); 28] = [
     ("run run", "run: run 100000000 1048576"),
     ("run ", "run:  100000000 1048576"),
     ("shapes a.rb", "shapes: a.rb 100000000 1048576"),
-    (
-        "shapes --steps 5 a.rb --heap-words=4096",
-        "shapes: a.rb 5 4096",
-    ),
     ("shapes -- -a.rb", "shapes: -a.rb 100000000 1048576"),
     ("shapes shapes", "shapes: shapes 100000000 1048576"),
     ("shapes run", "shapes: run 100000000 1048576"),
@@ -76,7 +72,7 @@ const ACCEPTED: [(&str, &str); 28] = [
 ];
 
 /// Lines that are no words of the program.
-const REFUSED: [&str; 62] = [
+const REFUSED: [&str; 64] = [
     "",
     "--help",
     "-h",
@@ -134,7 +130,9 @@ const REFUSED: [&str; 62] = [
     "Shapes a.rb",
     "shape a.rb",
     "shapes a.rb b.rb",
-    "shapes --steps 0 a.rb",
+    "shapes --steps 5 a.rb",
+    "shapes a.rb --heap-words=4096",
+    "shapes --steps 5 a.rb --heap-words=4096",
     "shapes -a.rb",
     "--steps 5 shapes a.rb",
     "run shapes a.rb",

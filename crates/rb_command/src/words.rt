@@ -37,7 +37,7 @@ pub fn command_of<'w>(alloc: Global, words: &'w [String]) -> Result<Option<Comma
         return Ok(asked_to_run(words_told(alloc, rest)?));
     }
     if command.as_str() == "shapes" {
-        return Ok(asked_for_shapes(words_told(alloc, rest)?));
+        return Ok(asked_for_shapes(file_told(alloc, rest)?));
     }
     Ok(None)
 }
@@ -64,6 +64,26 @@ fn words_told<'w>(alloc: Global, words: &'w [String]) -> Result<Option<RunWords<
         Some(line) => Ok(run_words(line)),
         None => Ok(None),
     }
+}
+
+/// The run of a FILE that the words behind a command tell alone, without an option; none where they are other words.
+fn file_told<'w>(alloc: Global, words: &'w [String]) -> Result<Option<RunWords<'w>>, AllocError>
+    ensures { IfOk result (λ found. option_map run_seen found ≡ spec.plain_run_in (map string_bytes words.now)) }
+{
+    match line_of(alloc, words)? {
+        Some(line) => Ok(plain_words(line)),
+        None => Ok(None),
+    }
+}
+
+/// The run that a line asks for, where it has no option.
+fn plain_words<'w>(line: Line<'w>) -> Option<RunWords<'w>>
+    ensures { option_map run_seen result ≡ said.plain_run_of_line (line_seen line.entry) }
+{
+    if line.steps.is_some() || line.heap_words.is_some() {
+        return None;
+    }
+    run_words(line)
 }
 
 /// The run that a line asks for, where its numbers are in their ranges.

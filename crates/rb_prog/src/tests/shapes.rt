@@ -131,19 +131,20 @@ const OTHERWISE: [(&[&str], &str, u8, &str, &str); 9] = [
         "1\n",
         "rbso: fault ZeroDivision at 5:3\n",
     ),
+    // No option stands beside the FILE.
     (
         &["shapes", "--steps", "4", "a.rb"],
-        "class Foo\nend\nFoo.new\nputs 1\nputs 2",
-        6,
-        "1\n",
-        "rbso: steps 4\n",
+        "puts 1",
+        2,
+        "",
+        "rbso: usage\n",
     ),
     (
-        &["shapes", "a.rb", "--steps=5"],
-        "class Foo\nend\nFoo.new\nputs 1\nputs 2",
-        0,
-        "1\n2\nFoo\n",
+        &["shapes", "a.rb", "--heap-words=4096"],
+        "puts 1",
+        2,
         "",
+        "rbso: usage\n",
     ),
     (
         &["shapes", "a.rb"],
