@@ -22,24 +22,24 @@ use Rattle.rb_machine.proofs.CollectionTexts.{both_first, both_second, regrouped
 -- ---- plain facts
 
 -- a text that is too long is so with more behind it
-longer : (a b : Text) (m : ℕ) → m < length a → m < length (a ++ b)
+pub longer : (a b : Text) (m : ℕ) → m < length a → m < length (a ++ b)
 longer a b m long = let parts = length-append a b in omega (arith, parts, long)
 
-no_fewer : (left : ℕ) → left < 0 → ⊥
+pub no_fewer : (left : ℕ) → left < 0 → ⊥
 no_fewer left few = omega (arith, few)
 
 module _ (S : Script) (holds : Id → Option Thing) (at : Span) where
-  fails_map : {A B C D : Type 0} (s : State) → (A → C) → (B → D) → Fails S holds at A B s → Fails S holds at C D s
+  pub fails_map : {A B C D : Type 0} (s : State) → (A → C) → (B → D) → Fails S holds at A B s → Fails S holds at C D s
   fails_map s f g (few_steps few way) = few_steps (f few) way
   fails_map s f g (too_long left long way) = too_long left (g long) way
 
-  fails_after : {A B : Type 0} (s t : State) → Looks S holds s t → Fails S holds at A B t → Fails S holds at A B s
+  pub fails_after : {A B : Type 0} (s t : State) → Looks S holds s t → Fails S holds at A B t → Fails S holds at A B s
   fails_after s t way (few_steps few more) = few_steps few (looks_append S holds way more)
   fails_after s t way (too_long left long more) = too_long left long (looks_append S holds way more)
 
 module _ (S : Script) (holds : Id → Option Thing) (at : Span) (k : List Cont) (sc : Scope) (d : ℕ) where
   -- bytes do not join a text
-  overflows : (form : Form) (coming now : Coming) (bytes more : Text) (begun os : List Open) (left : ℕ) → max_bytes < length (bytes ++ more)
+  pub overflows : (form : Form) (coming now : Coming) (bytes more : Text) (begun os : List Open) (left : ℕ) → max_bytes < length (bytes ++ more)
       → going (joined (draft S holds at k sc d form coming bytes begun) more now os) at k sc d left ≡ raised TextTooLong at left
   overflows form coming now bytes more begun os left long =
       let fits : nat_le (length (bytes ++ more)) max_bytes ≡ false = grind (arith, nat_tests, long) in

@@ -24,7 +24,7 @@ inspected_as_told S holds deep v at k sc d left room fit short = tells_all S hol
 
 -- ---- texts of values
 
-no_method : (o : Option Method) → is_none o ≡ true → o ≡ None
+pub no_method : (o : Option Method) → is_none o ≡ true → o ≡ None
 no_method None h = refl
 no_method (Some m) h = absurd (cc)
 
@@ -47,9 +47,9 @@ texts_as_told S holds deep v at k sc d left room fit short =
 
 -- ---- lines of arrays
 
-longer : (text : Text) (b : Bool) → length text ≤ length (cond b text (text ++ 10 ∷ []))
-longer text true = omega arith
-longer text false = let parts = length-append text (10 ∷ []) in omega (arith, parts)
+pub longer_line : (text : Text) (b : Bool) → length text ≤ length (cond b text (text ++ 10 ∷ []))
+longer_line text true = omega arith
+longer_line text false = let parts = length-append text (10 ∷ []) in omega (arith, parts)
 
 pub end_short : (a b : Text) (m : ℕ) → length (a ++ b) ≤ m → length b ≤ m
 end_short a b m short = let parts = length-append a b in omega (arith, parts, short)
@@ -57,25 +57,25 @@ end_short a b m short = let parts = length-append a b in omega (arith, parts, sh
 pub text_short : (bytes text : Text) → length (bytes ++ line_of text) ≤ max_bytes → length text ≤ max_bytes
 text_short bytes text short =
     let line = end_short bytes (line_of text) max_bytes short in
-    let below : length text ≤ length (line_of text) = longer text (ends_line text) in
+    let below : length text ≤ length (line_of text) = longer_line text (ends_line text) in
     omega (arith, line, below)
 
-empty_is : (begun : List Open) → empty_lines begun ≡ empty_text (things_of begun)
+pub empty_is : (begun : List Open) → empty_lines begun ≡ empty_text (things_of begun)
 empty_is [] = refl
 empty_is (OfArray array lead vs ∷ begun) = refl
 empty_is (OfHash hash lead ps ∷ begun) = refl
 
 module _ (S : Script) (holds : Id → Option Thing) (at : Span) (k : List Cont) (sc : Scope) (d : ℕ) where
-  abbrev lining : Value → Text → List Open → Draft
+  abbrev pub lining : Value → Text → List Open → Draft
   lining v bytes begun = draft S holds at k sc d Lined (OfValue [] v) bytes begun
 
-  abbrev at_value : Value → Text → List Open → ℕ → State
+  abbrev pub at_value : Value → Text → List Open → ℕ → State
   at_value v bytes begun left = On (Drafting (lining v bytes begun) at) k sc d left
 
-  abbrev behind : Text → List Open → ℕ → State
+  abbrev pub behind : Text → List Open → ℕ → State
   behind bytes begun left = drafting S holds at k sc d Lined Between bytes begun left
 
-  abbrev needs_of : Draft → Part → Needs
+  abbrev pub needs_of : Draft → Part → Needs
   needs_of t (Single v) = Asks v t
   needs_of t (Again thing) = Goes (joined t (codes "[...]\n") Between t.begun)
   needs_of t (Whole thing) = Copies thing t
@@ -86,7 +86,7 @@ module _ (S : Script) (holds : Id → Option Thing) (at : Span) (k : List Cont) 
   thing_needs v bytes begun thing true true e = ap (λ b. cond b (Goes (joined (lining v bytes begun) (codes "[...]\n") Between begun)) (Copies thing (lining v bytes begun))) e
   thing_needs v bytes begun thing true false e = ap (λ b. cond b (Goes (joined (lining v bytes begun) (codes "[...]\n") Between begun)) (Copies thing (lining v bytes begun))) e
 
-  value_needs : (v : Value) (bytes : Text) (begun : List Open) → lines S.program (lining v bytes begun) [] v ≡ needs_of (lining v bytes begun) (lined_part (things_of begun) v)
+  pub value_needs : (v : Value) (bytes : Text) (begun : List Open) → lines S.program (lining v bytes begun) [] v ≡ needs_of (lining v bytes begun) (lined_part (things_of begun) v)
   value_needs (To thing) bytes begun = thing_needs (To thing) bytes begun thing (is_list_sort thing.sort) (is_among thing (things_of begun)) (open_is_among thing begun)
   value_needs other bytes begun = refl
 
@@ -101,7 +101,7 @@ module _ (S : Script) (holds : Id → Option Thing) (at : Span) (k : List Cont) 
       (looks_from S holds _ _ _ (joins S holds at k sc d Lined (OfValue [] v) Between bytes (line_of (value_text S holds deep w)) begun begun left short) (arrives _))))
 
   -- values are written inside these arrays: each by its lines, with so many steps
-  abbrev Writes : (Value → Text) → (Value → ℕ) → (Value → Bool) → List Open → Type 0
+  abbrev pub Writes : (Value → Text) → (Value → ℕ) → (Value → Bool) → List Open → Type 0
   Writes text steps fits begun = (v : Value) (bytes : Text) (left : ℕ) → fits v ≡ true → length (bytes ++ text v) ≤ max_bytes
       → Looks S holds (at_value v bytes begun (steps v + left)) (behind (bytes ++ text v) begun left)
 

@@ -35,17 +35,17 @@ lined_single (To thing) plain = ap (λ b. thing_part b false thing) plain
 lined_single v plain = refl
 
 module _ (S : Script) (holds : Id → Option Thing) where
-  single_lines : (deep : ℕ) (v : Value) → is_array v ≡ false → lines_inside S holds deep [] v ≡ line_of (value_text S holds deep v)
+  pub single_lines : (deep : ℕ) (v : Value) → is_array v ≡ false → lines_inside S holds deep [] v ≡ line_of (value_text S holds deep v)
   single_lines zero v plain = ap (part_lines S holds zero (λ thing. [])) (lined_single v plain)
   single_lines (suc deep) v plain =
       ap (part_lines S holds (suc deep) (λ thing. array_lines [] (lines_inside S holds deep (thing ∷ [])) (holds thing.id))) (lined_single v plain)
 
-  single_steps : (deep : ℕ) (v : Value) → is_array v ≡ false → line_steps_inside S holds deep [] v ≡ steps_inside S holds deep [] v
+  pub single_steps : (deep : ℕ) (v : Value) → is_array v ≡ false → line_steps_inside S holds deep [] v ≡ steps_inside S holds deep [] v
   single_steps zero v plain = ap (part_line_steps S holds zero (λ thing. 0)) (lined_single v plain)
   single_steps (suc deep) v plain =
       ap (part_line_steps S holds (suc deep) (λ thing. collection_steps (line_steps_inside S holds deep (thing ∷ [])) (holds thing.id))) (lined_single v plain)
 
-  single_fits : (deep : ℕ) (v : Value) → is_array v ≡ false → lines_fit_inside S holds deep [] v ≡ value_fits S holds deep v
+  pub single_fits : (deep : ℕ) (v : Value) → is_array v ≡ false → lines_fit_inside S holds deep [] v ≡ value_fits S holds deep v
   single_fits zero v plain = ap (part_lines_fit S holds zero (λ thing. false)) (lined_single v plain)
   single_fits (suc deep) v plain =
       ap (part_lines_fit S holds (suc deep) (λ thing. array_fits (lines_fit_inside S holds deep (thing ∷ [])) (holds thing.id))) (lined_single v plain)
@@ -71,7 +71,7 @@ module _ (S : Script) (holds : Id → Option Thing) (at : Span) (k : List Cont) 
         (looks_to S holds _ _ _ (ap (λ b. show S b (value_of S style) at k sc d left) same) (prints vs (bytes ++ text v) left (both_second (fits v) (list_all fits vs) fit) later)))
 
   -- one argument of `print`
-  prints_text : (deep : ℕ) → deep + d ≤ max_depth → (bytes : Text) (v : Value) (vs : List Value) (left : ℕ) → value_fits S holds deep v ≡ true → length (bytes ++ value_text S holds deep v) ≤ max_bytes
+  pub prints_text : (deep : ℕ) → deep + d ≤ max_depth → (bytes : Text) (v : Value) (vs : List Value) (left : ℕ) → value_fits S holds deep v ≡ true → length (bytes ++ value_text S holds deep v) ≤ max_bytes
       → Looks S holds (write S Plain bytes (v ∷ vs) at k sc d (steps_inside S holds deep [] v + left)) (write S Plain (bytes ++ value_text S holds deep v) vs at k sc d left)
   prints_text deep room bytes v vs left fit short =
       looks_append S holds (texts_as_told S holds deep v at (Then (WriteBehind Plain bytes vs at) ∷ k) sc d left room fit (end_short bytes (value_text S holds deep v) max_bytes short))
@@ -89,7 +89,7 @@ module _ (S : Script) (holds : Id → Option Thing) (at : Span) (k : List Cont) 
       looks_from S holds _ _ _ (ap (On (Give (Str (inspected S.program v))) k sc d) same)
       (looks_to S holds _ _ _ (ap (λ t. On (Give (Str t)) k sc d left) (sym (plain_text S holds deep v kind))) (arrives _))
 
-  prints_form : (deep : ℕ) (args : List Value) → deep + d ≤ max_depth → (bytes : Text) (v : Value) (vs : List Value) (left : ℕ) → fits_inside S holds deep [] v ≡ true
+  pub prints_form : (deep : ℕ) (args : List Value) → deep + d ≤ max_depth → (bytes : Text) (v : Value) (vs : List Value) (left : ℕ) → fits_inside S holds deep [] v ≡ true
       → length (bytes ++ (text_inside S holds deep [] v ++ codes "\n")) ≤ max_bytes
       → Looks S holds (write S (Inspecting args) bytes (v ∷ vs) at k sc d (steps_inside S holds deep [] v + left))
       (write S (Inspecting args) (bytes ++ (text_inside S holds deep [] v ++ codes "\n")) vs at k sc d left)
@@ -101,7 +101,7 @@ module _ (S : Script) (holds : Id → Option Thing) (at : Span) (k : List Cont) 
       (goes _ _ _ refl (looks_from S holds _ _ _ (behind_fits S (Inspecting args) bytes text vs at k sc d left short) (arrives _)))
 
   -- one argument of `puts`
-  gives_lines : (deep : ℕ) (bytes : Text) (v : Value) (vs : List Value) (left : ℕ) (b : Bool) → is_array v ≡ b → deep + d ≤ max_depth → lines_fit_inside S holds deep [] v ≡ true
+  pub gives_lines : (deep : ℕ) (bytes : Text) (v : Value) (vs : List Value) (left : ℕ) (b : Bool) → is_array v ≡ b → deep + d ≤ max_depth → lines_fit_inside S holds deep [] v ≡ true
       → length (bytes ++ lines_inside S holds deep [] v) ≤ max_bytes
       → Looks S holds (cond b (On (Drafting (draft_of Lined v) at) (Then (LinesBehind bytes vs at) ∷ k) sc d (line_steps_inside S holds deep [] v + left))
       (give_text S v at (Then (WriteBehind Lines bytes vs at) ∷ k) sc d (line_steps_inside S holds deep [] v + left))) (write S Lines (bytes ++ lines_inside S holds deep [] v) vs at k sc d left)

@@ -29,3 +29,4 @@ pub mod CollectionLines
 pub mod CollectionPrints
 pub mod CollectionRows
 pub mod CollectionFailures
+pub mod CollectionPrintFailures

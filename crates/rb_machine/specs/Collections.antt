@@ -186,9 +186,9 @@ abbrev pub steps_of : (Value → ℕ) → List Value → ℕ
 steps_of steps [] = 0
 steps_of steps (v ∷ vs) = steps v + steps_of steps vs
 
--- These laws are of things that stay as they are while the text is made. A text has at most 16,777,216 bytes, there are as many steps as it
--- takes, and with the nodes under evaluation no more than 1,000 collections are begun at once. No object that is written by itself, or among
--- the lines of an array, has a `to_s` of the script; in the inspected form of a collection any may have one.
+-- These laws are of things that stay as they are while the text is made, where no more than 1,000 nodes and collections are begun at once. No
+-- object that is written by itself, or among the lines of an array, has a `to_s` of the script; in the inspected form of a collection any may
+-- have one. A text has at most 16,777,216 bytes.
 
 -- The inspected form of a value is what is told by what the things hold, in one step for each element and each pair.
 abbrev pub InspectedAsTold : Type 0
@@ -228,6 +228,25 @@ PAsTold = (S : Script) (holds : Id → Option Thing) (deep : ℕ) (vs : List Val
     → list_all (fits_inside S holds deep []) vs ≡ true → length (flat_map (λ v. text_inside S holds deep [] v ++ codes "\n") vs) ≤ max_bytes
     → Looks S holds (print S (codes "p") vs at k sc d (steps_of (steps_inside S holds deep []) vs + left))
     (show S (flat_map (λ v. text_inside S holds deep [] v ++ codes "\n") vs) (value_of_p S vs) at k sc d left)
+
+-- With fewer steps, or where all that is printed would be longer than a text may be, nothing is shown.
+abbrev pub PutsFails : Type 0
+PutsFails = (S : Script) (holds : Id → Option Thing) (deep : ℕ) (v : Value) (vs : List Value) (at : Span) (k : List Cont) (sc : Scope) (d left : ℕ) → deep + d ≤ max_depth
+    → list_all (lines_fit_inside S holds deep []) (v ∷ vs) ≡ true
+    → ((left < steps_of (line_steps_inside S holds deep []) (v ∷ vs)) ⊎ (max_bytes < length (flat_map (lines_inside S holds deep []) (v ∷ vs))))
+    → Fails S holds at (left < steps_of (line_steps_inside S holds deep []) (v ∷ vs)) (max_bytes < length (flat_map (lines_inside S holds deep []) (v ∷ vs)))
+    (print S (codes "puts") (v ∷ vs) at k sc d left)
+
+abbrev pub PrintFails : Type 0
+PrintFails = (S : Script) (holds : Id → Option Thing) (deep : ℕ) (vs : List Value) (at : Span) (k : List Cont) (sc : Scope) (d left : ℕ) → deep + d ≤ max_depth
+    → list_all (value_fits S holds deep) vs ≡ true → ((left < steps_of (steps_inside S holds deep []) vs) ⊎ (max_bytes < length (flat_map (value_text S holds deep) vs)))
+    → Fails S holds at (left < steps_of (steps_inside S holds deep []) vs) (max_bytes < length (flat_map (value_text S holds deep) vs)) (print S (codes "print") vs at k sc d left)
+
+abbrev pub PFails : Type 0
+PFails = (S : Script) (holds : Id → Option Thing) (deep : ℕ) (vs : List Value) (at : Span) (k : List Cont) (sc : Scope) (d left : ℕ) → deep + d ≤ max_depth
+    → list_all (fits_inside S holds deep []) vs ≡ true
+    → ((left < steps_of (steps_inside S holds deep []) vs) ⊎ (max_bytes < length (flat_map (λ v. text_inside S holds deep [] v ++ codes "\n") vs)))
+    → Fails S holds at (left < steps_of (steps_inside S holds deep []) vs) (max_bytes < length (flat_map (λ v. text_inside S holds deep [] v ++ codes "\n") vs)) (print S (codes "p") vs at k sc d left)
 
 -- In a run of a script alone things hold what its store has for them. So the run goes as these laws say, and the things hold then what they held.
 abbrev pub RunsAsTold : Type 0

@@ -133,17 +133,24 @@ pub fn texts_of_collections()
 /// While things stay as they are, the texts of collections are what is told of them by recursion over what they hold: `[a, b]`,
 /// `{k=>v}`, and dots for one that stands inside itself. One step goes for each element and each pair. So it is where a text is asked, and
 /// as `puts`, `print` and `p` show values, where no object that is written by itself has a `to_s` of the script; and so go a run of a
-/// script alone, and a thread with what it alone reaches. With fewer steps, or where it would be longer than a text may be, an inspected
-/// form does not come, and the thread ends for that.
+/// script alone, and a thread with what it alone reaches.
 pub fn told_texts()
     ensures inspected { told.InspectedAsTold }
-    ensures fails { told.InspectedFails }
     ensures asked { told.TextsAsTold }
     ensures puts { told.PutsAsTold }
     ensures print { told.PrintAsTold }
     ensures p { told.PAsTold }
     ensures run { told.RunsAsTold }
     ensures thread { told.ThreadsAsTold }
+{}
+
+/// With fewer steps, or where it would be longer than a text may be, such a text does not come, and the thread ends for that: for want of
+/// steps only where they are too few, and with a fault only where the text is too long.
+pub fn texts_that_do_not_come()
+    ensures inspected { told.InspectedFails }
+    ensures puts { told.PutsFails }
+    ensures print { told.PrintFails }
+    ensures p { told.PFails }
 {}
 
 /// The right side of `||`, `||=`, `&&` and `&&=` is evaluated only where the left one does not decide.

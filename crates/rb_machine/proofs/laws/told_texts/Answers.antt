@@ -1,13 +1,9 @@
 use Rattle.rb_machine.proofs.CollectionLines.{inspected_as_told, texts_as_told}
 use Rattle.rb_machine.proofs.CollectionPrints.{puts_as_told, print_as_told, p_as_told, runs_as_told, threads_as_told}
-use Rattle.rb_machine.proofs.CollectionFailures.{inspected_fails}
 use Rattle.rb_machine.proofs.laws.told_texts.Goals as goal
 
 pub returns-clause-inspected : goal.returns-clause-inspected
 returns-clause-inspected c = inspected_as_told
-
-pub returns-clause-fails : goal.returns-clause-fails
-returns-clause-fails c = inspected_fails
 
 pub returns-clause-asked : goal.returns-clause-asked
 returns-clause-asked c = texts_as_told
