@@ -7,7 +7,7 @@ use Rattle.rb_tree.specs.declared.span.NameId.{NameId}
 use Rattle.rb_model.specs.declared.value.Id.{Id}
 use Rattle.rb_model.specs.Values.{Value as Val}
 use Rattle.rb_model.specs.Acts.{Act, GetField, SetField}
-use Rattle.rb_model.specs.Things.{Thing, Field, becomes}
+use Rattle.rb_model.specs.Things.{Thing, Field, becomes_by}
 use Rattle.rb_model.specs.Things as thing
 use Rattle.rb_model.specs.Paths.{shape_behind}
 use Rattle.rb_model.specs.Private.{Private, held, shape_held, changed, acted as acted_by, entered}
@@ -155,12 +155,12 @@ module _ (thread : ℕ) (shapes : List Shape) (cells : List Cell) (h : Private) 
       shape_then : option_map (shape_behind act) (shape_held h id) ≡ Some (shape_in shapes' o')
       shape_then = ap (option_map (shape_behind act)) shape_is ∙ ap Some (sym acted.shape)
 
-      acted_things : (x : Thing) → held h id ≡ Some x → map (still shapes' home) cells_then ≡ set (map (still shapes home) cells) id.serial (Some (becomes x act))
+      acted_things : (x : Thing) → held h id ≡ Some x → map (still shapes' home) cells_then ≡ set (map (still shapes home) cells) id.serial (Some (becomes_by h.thread x act))
       acted_things x e =
           let put : List (Option Thing) → Thing → List (Option Thing) = λ ts t. set ts id.serial (Some t) in
           map-set (still shapes' home) cells id.serial (cell.Object o')
           ∙ ap (λ ts. put ts (thing_in shapes' home o')) (things_keep shapes shapes' home home grown (holds_itself home) cells known sound)
-          ∙ ap (put (map (still shapes home) cells)) (acted.thing ∙ ap (λ (t : Thing). becomes t act) (thing_is x e))
+          ∙ ap (put (map (still shapes home) cells)) (acted.thing ∙ ap (λ (t : Thing). becomes_by h.thread t act) (thing_is x e))
 
       acted_shaped : map (shaped_in shapes') cells_then ≡ set (map (shaped_in shapes) cells) id.serial (Some (shape_in shapes' o'))
       acted_shaped =
@@ -183,14 +183,14 @@ module _ (thread : ℕ) (shapes : List Shape) (cells : List Cell) (h : Private) 
 
       pub acted_private : (x : Thing) → held h id ≡ Some x → private_by thread shapes' home_then cells_then ≡ acted_by h id act x
       acted_private x e =
-          let changed_by : Private → Private = λ g. changed g id (becomes x act) (Some (shape_in shapes' o')) in
+          let changed_by : Private → Private = λ g. changed g id (becomes_by h.thread x act) (Some (shape_in shapes' o')) in
           let old : Private = private_by thread shapes home cells in
           ap (λ (g : Home). private_by thread shapes' g cells_then) acted_home
           ∙ ap (λ ts. parts thread ts (map (shaped_in shapes') cells_then) shapes') (acted_things x e)
           ∙ ap (λ ss. parts thread (changed_by old).things ss shapes') acted_shaped
           ∙ ap (parts thread (changed_by old).things (changed_by old).shaped) (gains_is_with shapes shapes' (shape_in shapes' o') acted.gains)
           ∙ ap changed_by is
-          ∙ ap (changed h id (becomes x act)) (sym shape_then)
+          ∙ ap (changed h id (becomes_by h.thread x act)) (sym shape_then)
 
     -- ---- a write that failed
 

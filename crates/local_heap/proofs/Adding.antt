@@ -10,7 +10,7 @@ use Rattle.rb_model.specs.declared.value.Id.{Id}
 use Rattle.rb_model.specs.Values.{Value as Val, Int, plain}
 use Rattle.rb_model.specs.Acts.{GetField, SetField, Done}
 use Rattle.rb_model.specs.Acts as reply
-use Rattle.rb_model.specs.Things.{Thing, field, gives}
+use Rattle.rb_model.specs.Things.{Thing, field, gives_to}
 use Rattle.rb_model.specs.Private.{Becomes, Gives, Private, held}
 use Rattle.shape_core.specs.declared.edge.Kind.TheVariants.{IntLoc, AnyLoc}
 use Rattle.shape_core.specs.declared.facts.Place.{Place}
@@ -123,8 +123,8 @@ module _ (thread : ℕ) (shapes : List Shape) (cells : List Cell) (h : Private) 
             there = object_held;
             gave = λ x e.
                 ap reply.Value (sym (summed home (path_at shapes o.shape) (slot_at o) name n s is_object.valid found))
-                ∙ ap (λ (t : Thing). gives t (GetField name)) (is_it x e);
-            gives = λ x e. ap (λ (t : Thing). gives t (SetField name (Int s))) (is_it x e);
+                ∙ ap (λ (t : Thing). gives_to h.thread t (GetField name)) (is_it x e);
+            gives = λ x e. ap (λ (t : Thing). gives_to h.thread t (SetField name (Int s))) (is_it x e);
             private = acted_private thread shapes cells h is id object_held c o read at whole.0 whole.1 shapes o' (SetField name (Int s)) here;
             none = λ e. absurd (cc);
           }

@@ -14,10 +14,10 @@ use Rattle.rb_model.specs.declared.value.Id.{Id}
 use Rattle.rb_model.specs.declared.value.Value.{Value as Held}
 use Rattle.rb_model.specs.Values.{Value as Val, Int, plain}
 use Rattle.rb_model.specs.declared.fault.Fault.TheVariants.{NoMethod}
-use Rattle.rb_model.specs.Acts.{Act, At, Done, GetField, KGet, Len, Put, SetField}
+use Rattle.rb_model.specs.Acts.{Act, Reply, At, Done, GetField, KGet, Len, Put, SetField}
 use Rattle.rb_model.specs.Acts as reply
 use Rattle.rb_model.specs.Doing.{said}
-use Rattle.rb_model.specs.Things.{Thing, Field, becomes, field, gives}
+use Rattle.rb_model.specs.Things.{Thing, Field, becomes, becomes_by, field, gives, gives_to}
 use Rattle.rb_model.specs.Things as thing
 use Rattle.rb_model.specs.Paths.{shape_behind, shape_made}
 use Rattle.rb_model.specs.Immediates.{list_answered, told, told_answer}
@@ -73,6 +73,26 @@ shape_stays act other (Some shape) = by act other
     by : (a : Act) → is_of_field a ≡ false → Some (shape_behind a shape) ≡ Some shape
     by (SetField name v) e = absurd (cc)
     by a e = refl
+
+-- ---- whoever asks: lists and hashes do the same for each thread
+
+becomes_alike : (c : Cell) (t : Thing) → contents c ≡ Some t → (n : ℕ) (act : Act) → becomes_by n t act ≡ becomes t act
+becomes_alike cell.Empty t at n act = absurd (let wrong : None ≡ Some t = at in cc)
+becomes_alike (cell.Object o) t at n act = absurd (let wrong : None ≡ Some t = at in cc)
+becomes_alike (cell.List list) t at n act = subst (λ u. becomes_by n u act ≡ becomes u act) (same_thing (listed list) t at) refl
+becomes_alike (cell.Pairs pairs) t at n act = subst (λ u. becomes_by n u act ≡ becomes u act) (same_thing (thing.Pairs pairs) t at) refl
+
+gives_alike : (c : Cell) (t : Thing) → contents c ≡ Some t → (n : ℕ) (act : Act) → gives_to n t act ≡ gives t act
+gives_alike cell.Empty t at n act = absurd (let wrong : None ≡ Some t = at in cc)
+gives_alike (cell.Object o) t at n act = absurd (let wrong : None ≡ Some t = at in cc)
+gives_alike (cell.List list) t at n act = subst (λ u. gives_to n u act ≡ gives u act) (same_thing (listed list) t at) refl
+gives_alike (cell.Pairs pairs) t at n act = subst (λ u. gives_to n u act ≡ gives u act) (same_thing (thing.Pairs pairs) t at) refl
+
+given_alike : (c : Cell) (n : ℕ) (act : Act) (r : Reply) → IsSomeAnd (contents c) (λ t. r ≡ gives t act) → IsSomeAnd (contents c) (λ t. r ≡ gives_to n t act)
+given_alike cell.Empty n act r e = e
+given_alike (cell.Object o) n act r e = e
+given_alike (cell.List list) n act r e = e
+given_alike (cell.Pairs pairs) n act r e = e
 
 -- ---- what a cell has that is no object
 
@@ -167,11 +187,11 @@ module _ (thread : ℕ) (shapes : List Shape) (cells : List Cell) (h : Private) 
         ∙ ap (λ ss. parts thread old.things ss (with_shape_of shapes (shape_held old id))) (set_back old.shaped id.serial)
         ∙ ap (parts thread old.things old.shaped) (shapes_stay x e)
 
-    pub idle : (act : Act) (x : Thing) → held h id ≡ Some x → becomes x act ≡ x → option_map (shape_behind act) (shape_held h id) ≡ shape_held h id → h ≡ private.acted h id act x
+    pub idle : (act : Act) (x : Thing) → held h id ≡ Some x → becomes_by h.thread x act ≡ x → option_map (shape_behind act) (shape_held h id) ≡ shape_held h id → h ≡ private.acted h id act x
     idle act x e same shape =
         sym (subst (λ (g : Private). changed g id x (shape_held g id) ≡ g) is (put_back x (ap (λ (g : Private). held g id) is ∙ e)))
         ∙ ap (λ (t : Thing). changed h id t (shape_held h id)) (sym same)
-        ∙ ap (changed h id (becomes x act)) (sym shape)
+        ∙ ap (changed h id (becomes_by h.thread x act)) (sym shape)
 
   -- ---- an act on a thing that stands by itself
 
@@ -229,7 +249,7 @@ module _ (thread : ℕ) (shapes : List Shape) (cells : List Cell) (h : Private) 
     pub unchanged : (t : Thing) → contents c ≡ Some t → (act : Act) → becomes t act ≡ t → Becomes h id act h
     unchanged t at act same x e =
         let here = is_thing t at x e in
-        idle id act x e (ap (λ (u : Thing). becomes u act) (sym here) ∙ same ∙ here)
+        idle id act x e (ap (λ (u : Thing). becomes_by h.thread u act) (sym here) ∙ (becomes_alike c t at h.thread act ∙ same) ∙ here)
         (ap (option_map (shape_behind act)) (no_shape t at) ∙ sym (no_shape t at))
 
     -- the cells with another content
@@ -275,8 +295,8 @@ module _ (thread : ℕ) (shapes : List Shape) (cells : List Cell) (h : Private) 
       pub contents_acted : (act : Act) → t' ≡ becomes t act → Becomes h id act (private_now thread shapes cells_then)
       contents_acted act becomes_is x e =
           changed_then
-          ∙ ap (λ (u : Thing). changed h id u None) (becomes_is ∙ ap (λ (u : Thing). becomes u act) (is_thing t was x e))
-          ∙ ap (changed h id (becomes x act)) (ap (option_map (shape_behind act)) (sym (no_shape t was)))
+          ∙ ap (λ (u : Thing). changed h id u None) (becomes_is ∙ (sym (becomes_alike c t was h.thread act) ∙ ap (λ (u : Thing). becomes_by h.thread u act) (is_thing t was x e)))
+          ∙ ap (changed h id (becomes_by h.thread x act)) (ap (option_map (shape_behind act)) (sym (no_shape t was)))
 
       pub contents_left : t' ≡ t → private_now thread shapes cells_then ≡ h
       contents_left same =
@@ -302,7 +322,7 @@ module _ (thread : ℕ) (shapes : List Shape) (cells : List Cell) (h : Private) 
         done_reply = by result does
           where
             by : (r : Result Answered E) → Does t act r t' → IfOk r (λ reply. Gives h id act (said reply))
-            by (Ok reply) d = λ x e. d.0 ∙ ap (λ (u : Thing). gives u act) (is_thing t was x e)
+            by (Ok reply) d = λ x e. d.0 ∙ (sym (gives_alike c t was h.thread act) ∙ ap (λ (u : Thing). gives_to h.thread u act) (is_thing t was x e))
             by (Err e) d = tt
 
         pub done_private : OnOk result (Becomes h id act (private_now thread shapes cells_then))
@@ -343,14 +363,14 @@ module _ (thread : ℕ) (shapes : List Shape) (cells : List Cell) (h : Private) 
     stays e = ap (private_now thread shapes) (cells_stay e) ∙ is
 
     -- an object has no other method
-    object_gives : (o : Object) → c ≡ cell.Object o → (x : Thing) → held h id ≡ Some x → gives x act ≡ reply.Failed NoMethod
+    object_gives : (o : Object) → c ≡ cell.Object o → (x : Thing) → held h id ≡ Some x → gives_to h.thread x act ≡ reply.Failed NoMethod
     object_gives o at x e =
-        subst (λ (t : Thing). gives t act ≡ reply.Failed NoMethod) (same_thing (thing_in shapes home o) x (ap (still shapes home) (sym at) ∙ still_here id held_here c read x e))
+        subst (λ (t : Thing). gives_to h.thread t act ≡ reply.Failed NoMethod) (same_thing (thing_in shapes home o) x (ap (still shapes home) (sym at) ∙ still_here id held_here c read x e))
         (no_method (shape_in shapes o).class (fields_in shapes home o) act other)
 
-    object_becomes : (o : Object) → c ≡ cell.Object o → (x : Thing) → held h id ≡ Some x → becomes x act ≡ x
+    object_becomes : (o : Object) → c ≡ cell.Object o → (x : Thing) → held h id ≡ Some x → becomes_by h.thread x act ≡ x
     object_becomes o at x e =
-        subst (λ (t : Thing). becomes t act ≡ t) (same_thing (thing_in shapes home o) x (ap (still shapes home) (sym at) ∙ still_here id held_here c read x e))
+        subst (λ (t : Thing). becomes_by h.thread t act ≡ t) (same_thing (thing_in shapes home o) x (ap (still shapes home) (sym at) ∙ still_here id held_here c read x e))
         (no_change (shape_in shapes o).class (fields_in shapes home o) act other)
 
     pub cell_whole : AreWhole thread shapes cells_now
@@ -556,13 +576,13 @@ module _ (thread : ℕ) (shapes : List Shape) (cells : List Cell) (h : Private) 
 
     pub gives_there : {E : Type 0} (act : Act) (c : Cell) → found ≡ Some c → (r : Result (Option Held) E)
         → IfOk r (λ o. IfSome o (λ v. IsSomeAnd (contents c) (λ t. reply.Value (plain v) ≡ gives t act))) → IfOk r (λ o. IfSome o (λ v. Gives h id act (reply.Value (plain v))))
-    gives_there act c at (Ok (Some v)) e = λ x held_x. so_there (λ t. reply.Value (plain v) ≡ gives t act) c at e x held_x
+    gives_there act c at (Ok (Some v)) e = λ x held_x. so_there (λ t. reply.Value (plain v) ≡ gives_to h.thread t act) c at (given_alike c h.thread act (reply.Value (plain v)) e) x held_x
     gives_there act c at (Ok None) e = tt
     gives_there act c at (Err refused) e = tt
 
     pub counts_there : (c : Cell) → found ≡ Some c → (r : Option ℕ)
         → IfSome r (λ n. IsSomeAnd (contents c) (λ t. reply.Value (Int (pos n)) ≡ gives t Len)) → IfSome r (λ n. Gives h id Len (reply.Value (Int (pos n))))
-    counts_there c at (Some n) e = λ x held_x. so_there (λ t. reply.Value (Int (pos n)) ≡ gives t Len) c at e x held_x
+    counts_there c at (Some n) e = λ x held_x. so_there (λ t. reply.Value (Int (pos n)) ≡ gives_to h.thread t Len) c at (given_alike c h.thread Len (reply.Value (Int (pos n))) e) x held_x
     counts_there c at None e = tt
 
     pub wants_there : (act : Act) (c : Cell) → found ≡ Some c → IsSomeAnd (contents c) (λ t. may_want t act ≡ true) → MayWant h id act
@@ -665,11 +685,12 @@ module _ (thread : ℕ) (shapes : List Shape) (cells : List Cell) (h : Private) 
   pub fields_only : (id : Id) (name : NameId) → Becomes h id (GetField name) h
   fields_only id name x e = idle id (GetField name) x e (by x) (shaped (shape_held h id))
     where
-      by : (t : Thing) → becomes t (GetField name) ≡ t
+      by : (t : Thing) → becomes_by h.thread t (GetField name) ≡ t
       by (thing.Object c fs) = refl
       by (thing.Elements vs) = refl
       by (thing.Pairs ps) = refl
       by (thing.Mutex o) = refl
+      by (thing.Thread s) = refl
 
       shaped : (s : Option Shape) → option_map (shape_behind (GetField name)) s ≡ s
       shaped None = refl
@@ -678,26 +699,29 @@ module _ (thread : ℕ) (shapes : List Shape) (cells : List Cell) (h : Private) 
   pub reads_only : (id : Id) (i : ℤ) → Becomes h id (At i) h
   reads_only id i x e = idle id (At i) x e (by x) (shape_stays (At i) refl (shape_held h id))
     where
-      by : (t : Thing) → becomes t (At i) ≡ t
+      by : (t : Thing) → becomes_by h.thread t (At i) ≡ t
       by (thing.Object c fs) = refl
       by (thing.Elements vs) = refl
       by (thing.Pairs ps) = refl
       by (thing.Mutex o) = refl
+      by (thing.Thread s) = refl
 
   pub looks_only : (id : Id) (key : Val) → Becomes h id (KGet key) h
   looks_only id key x e = idle id (KGet key) x e (by x) (shape_stays (KGet key) refl (shape_held h id))
     where
-      by : (t : Thing) → becomes t (KGet key) ≡ t
+      by : (t : Thing) → becomes_by h.thread t (KGet key) ≡ t
       by (thing.Object c fs) = refl
       by (thing.Elements vs) = refl
       by (thing.Pairs ps) = refl
       by (thing.Mutex o) = refl
+      by (thing.Thread s) = refl
 
   pub counts_only : (id : Id) → Becomes h id Len h
   counts_only id x e = idle id Len x e (by x) (shape_stays Len refl (shape_held h id))
     where
-      by : (t : Thing) → becomes t Len ≡ t
+      by : (t : Thing) → becomes_by h.thread t Len ≡ t
       by (thing.Object c fs) = refl
       by (thing.Elements vs) = refl
       by (thing.Pairs ps) = refl
       by (thing.Mutex o) = refl
+      by (thing.Thread s) = refl

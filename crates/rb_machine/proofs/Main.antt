@@ -90,6 +90,25 @@ leaves_thread (no_thing h h' v vs ms f g) = leaves_thread g
 leaves_thread (elsewhere h h' r vs ms f g) = leaves_thread g
 leaves_thread (moves h h' r thing vs ms f g) = leaves_thread g
 
+-- ---- threads that wait
+
+-- a call that keeps to itself starts no thread, so none waits to be gathered
+none_after : (e : Entry) → not (asks_thing e.call) ≡ true → after_call [] e.call e.reply ≡ []
+none_after e k = none_behind e.call e.reply k
+  where
+    none_behind : (c : Call) (r : Reply) → not (asks_thing c) ≡ true → after_call [] c r ≡ []
+    none_behind (On thing act) r k = absurd (let wrong : false ≡ true = k in cc)
+    none_behind (Start thing body values) r k = absurd (let wrong : false ≡ true = k in cc)
+    none_behind (Gather thread) r k = absurd (let wrong : false ≡ true = k in cc)
+    none_behind (Print bytes) r k = refl
+    none_behind (log.End how) r k = refl
+
+pub none_waits : (es : List Entry) → keeps_to_itself es ≡ true → after_entries [] es ≡ []
+none_waits [] k = refl
+none_waits (e ∷ es) k =
+    let p = and_parts (not (asks_thing e.call)) (keeps_to_itself es) k in
+    ap (λ rs. after_entries rs es) (none_after e p.0) ∙ none_waits es p.1
+
 module _ (S : Script) (N : ℕ) where
   makes_beside : (b : List ℕ) (h : Private) (s : State) (thing : Thing) → Beside S N b h s → move S s ≡ Make thing
       → Beside S N b (entered h thing) (replied s (reply.Value (To (next_thing h thing))))
@@ -166,23 +185,6 @@ module _ (S : Script) (N : ℕ) where
   shown_closed es last silent k shown = subst Shown (sym (prints_same es last silent)) (shown (keeps_more es last k).0)
 
   -- ---- its tail
-
-  -- a call that keeps to itself starts no thread, so none waits to be gathered
-  none_after : (e : Entry) → not (asks_thing e.call) ≡ true → after_call [] e.call e.reply ≡ []
-  none_after e k = none_behind e.call e.reply k
-    where
-      none_behind : (c : Call) (r : Reply) → not (asks_thing c) ≡ true → after_call [] c r ≡ []
-      none_behind (On thing act) r k = absurd (let wrong : false ≡ true = k in cc)
-      none_behind (Start thing body values) r k = absurd (let wrong : false ≡ true = k in cc)
-      none_behind (Gather thread) r k = absurd (let wrong : false ≡ true = k in cc)
-      none_behind (Print bytes) r k = refl
-      none_behind (log.End how) r k = refl
-
-  none_waits : (es : List Entry) → keeps_to_itself es ≡ true → after_entries [] es ≡ []
-  none_waits [] k = refl
-  none_waits (e ∷ es) k =
-      let p = and_parts (not (asks_thing e.call)) (keeps_to_itself es) k in
-      ap (λ rs. after_entries rs es) (none_after e p.0) ∙ none_waits es p.1
 
   -- where no thread waits, nothing is done behind the own work
   abbrev Ends : Log → End → Log → End → Bool → Type 0

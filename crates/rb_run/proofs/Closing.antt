@@ -2,20 +2,35 @@
 use Rattle.std.proofs.Common.{◌≡◌, ℕ, true, false, List, [], ◌∷◌, ◌++◌, sym, ap, ◌∙◌, subst, refl}
 use Rattle.rb_model.specs.Ends.{End, told}
 use Rattle.rb_model.specs.Ends as ending
-use Rattle.rb_model.specs.Log.{Log, Refusal, refused, logged, plain_entry, Answers, is_sure, is_print}
+use Rattle.std.proofs.lemmas.Bool.{and_parts, and_from}
+use Rattle.rb_model.specs.Log.{Log, Entry, Refusal, refused, logged, plain_entry, Answers, is_sure, is_print}
 use Rattle.rb_model.specs.Log as log
 use Rattle.rb_model.specs.declared.call.Answer.{Answer}
 use Rattle.rb_model.specs.declared.call.Answer.TheVariants as answer
 use Rattle.rb_model.specs.Private.{Private, Leaves}
 use Rattle.rb_machine.specs.Scopes.{Script}
 use Rattle.rb_machine.specs.Control.{State}
-use Rattle.rb_machine.specs.Follows.{Comes, Follows, closes, late}
+use Rattle.rb_model.specs.Started.{ungathered}
+use Rattle.rb_machine.specs.Follows.{Comes, Tail, all_gathered, Follows, closes, late}
+use Rattle.rb_machine.proofs.Main.{none_waits}
+use Rattle.rb_store.specs.Written.{is_own, only_prints}
+use Rattle.rb_run.proofs.Running.{keeps}
 use Rattle.rb_run.specs.Last.{Closes, tells, lacks}
 
+own_front : (es : List Entry) (e : Entry) → only_prints (es ++ e ∷ []) ≡ true → only_prints es ≡ true
+own_front [] e own = refl
+own_front (f ∷ es) e own =
+    let o = and_parts (is_own f.call) (only_prints (es ++ e ∷ [])) own in
+    and_from (is_own f.call) (only_prints es) o.0 (own_front es e o.1)
+
+-- a thread that only prints has none to gather behind its work
+no_tail : (l : Log) (e : Entry) (own : End) (n : ℕ) → only_prints (l.entries ++ e ∷ []) ≡ true → Tail n l own (ungathered l) l own false
+no_tail l e own n prints = subst (λ rs. Tail n l own rs l own false) (sym (none_waits l.entries (keeps l.entries (own_front l.entries e prints)))) (all_gathered l own)
+
 -- what the thread did, behind its last call
-pub closed_by : (S : Script) (N : ℕ) (start : State) (h : Private) (l new : Log) (e how : End) (n : ℕ) → Leaves h (told e) [] h → Closes n l e new how → Comes S N start l h e n → Follows S N start new how h
-closed_by S N start h l new e how n g (tells x) c = closes l h h x n [] c g
-closed_by S N start h l new e how n g (lacks v) c = late l h v n c
+pub closed_by : (S : Script) (N : ℕ) (start : State) (h : Private) (l new : Log) (e how : End) (n : ℕ) → only_prints new.entries ≡ true → Leaves h (told e) [] h → Closes n l e new how → Comes S N start l h e n → Follows S N start new how h
+closed_by S N start h l new e how n own g (tells x) c = closes l l h h x x n false [] c (no_tail l (plain_entry n (log.End x)) x n own) g
+closed_by S N start h l new e how n own g (lacks v) c = late l l h (ending.Value v) v n c (no_tail l (plain_entry n (log.End ending.Memory)) (ending.Value v) n own)
 
 -- the last call refuses nothing, and tells the sink's failure and a full heap only as they are
 pub told_refusals : (step : ℕ) (l new : Log) (e how : End) → Closes step l e new how → how ≡ ending.Sink → (e ≡ ending.Sink) × (new.refusals ≡ l.refusals)

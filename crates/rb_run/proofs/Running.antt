@@ -5,7 +5,7 @@ use Rattle.rb_tree.specs.declared.node.Program.{Program}
 use Rattle.rb_model.specs.Ends.{End}
 use Rattle.shape_core.specs.Shape.{Shape}
 use Rattle.rb_model.specs.Private.{Private}
-use Rattle.rb_model.specs.Log.{Log, Entry, Refusal, Call, On, Print, End as Ending}
+use Rattle.rb_model.specs.Log.{Log, Entry, Refusal, Call, On, Start, Gather, Print, End as Ending}
 use Rattle.rb_machine.specs.Follows.{Follows}
 use Rattle.rb_machine.specs.Alone.{opening}
 use Rattle.rb_machine.specs.Laws.{asks_thing, keeps_to_itself}
@@ -25,11 +25,13 @@ both_true false b h q = absurd (cc)
 
 own_call : (c : Call) → is_own c ≡ true → not (asks_thing c) ≡ true
 own_call (On thing act) own = absurd (let e : false ≡ true = own in cc)
+own_call (Start thing body values) own = absurd (let e : false ≡ true = own in cc)
+own_call (Gather thread) own = absurd (let e : false ≡ true = own in cc)
 own_call (Print bytes) own = refl
 own_call (Ending how) own = refl
 
 -- a thread that only prints and ends asks nothing of what is shared
-keeps : (es : List Entry) → only_prints es ≡ true → keeps_to_itself es ≡ true
+pub keeps : (es : List Entry) → only_prints es ≡ true → keeps_to_itself es ≡ true
 keeps [] own = refl
 keeps (e ∷ es) own = let o = of_both (is_own e.call) (only_prints es) own in both_true (not (asks_thing e.call)) (keeps_to_itself es) (own_call e.call o.0) (keeps es o.1)
 

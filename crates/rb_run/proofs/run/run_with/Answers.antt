@@ -1,11 +1,14 @@
-use Rattle.std.proofs.Common.{◌∙◌, sym}
+use Rattle.std.proofs.Common.{◌≡◌, ◌∙◌, true, sym, subst}
+use Rattle.rb_model.specs.Log.{Log}
+use Rattle.rb_store.specs.Written.{only_prints}
 use Rattle.rb_run.proofs.Closing.{closed_by, told_refusals, told_full}
 use Rattle.rb_run.proofs.run.run_with.Goals as goal
 
 pub returns-clause-follows : goal.returns-clause-follows
 returns-clause-follows g c = λ S st e.
     let goes = c.run_main-store.ensures.goes S st e in
-    let done = closed_by _ _ _ _ _ _ _ _ _ goes.tells c.close-end.ensures.closes goes.comes in
+    let own = subst (λ (l : Log). only_prints l.entries ≡ true) c.into_parts-out.ensures.front c.into_parts-out.ensures.own in
+    let done = closed_by _ _ _ _ _ _ _ _ _ own goes.tells c.close-end.ensures.closes goes.comes in
     (c.run_main-store.result.0.things, sym c.into_shapes-shapes.ensures, c.run_main-store.ensures.live.1, rw c.into_parts-out.ensures.front done)
 
 pub returns-clause-refused : goal.returns-clause-refused

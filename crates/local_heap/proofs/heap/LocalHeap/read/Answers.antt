@@ -1,7 +1,7 @@
 use Rattle.std.proofs.Common.{◌∙◌, refl, ap, sym}
 use Rattle.std.proofs.lemmas.Result.{IfOk-weaker, on_err_weaker}
 use Rattle.rb_model.specs.Acts.{GetField}
-use Rattle.rb_model.specs.Things.{Thing, gives}
+use Rattle.rb_model.specs.Things.{Thing, gives_to}
 use Rattle.local_heap.specs.Memory.{may_want}
 use Rattle.local_heap.specs.Cells.{contents}
 use Rattle.local_heap.proofs.Standing.{is_thing, unchanged}
@@ -22,7 +22,7 @@ give-requires-clause-sound g c =
 pub returns-in-Object-clause-reply : goal.returns-in-Object-clause-reply
 returns-in-Object-clause-reply g c =
     IfOk-weaker c.give.result _ _
-    (λ reply is thing here. is ∙ ap (λ (t : Thing). gives t (GetField c.args.name))
+    (λ reply is thing here. is ∙ ap (λ (t : Thing). gives_to c.args.self.now.thread t (GetField c.args.name))
     (thing_is c.self.inside.cells.thread (g.S.ShapeStore.shapes c.self.inside.shapes) c.self.inside.cells.items.items c.args.self.now c.self.view_is
     c.args.id c.requires c.index.result.now c.in-Object.object c.index.ensures c.in-Object.is c.self.invariant.0 c.self.invariant.1 thing here)) c.give.ensures.value
 
@@ -41,7 +41,7 @@ returns-in-Object-clause-refused g c =
 
 pub returns-in-List-clause-reply : goal.returns-in-List-clause-reply
 returns-in-List-clause-reply g c =
-    λ thing here. ap (λ (t : Thing). gives t (GetField c.args.name))
+    λ thing here. ap (λ (t : Thing). gives_to c.args.self.now.thread t (GetField c.args.name))
     (is_thing c.self.inside.cells.thread (g.S.ShapeStore.shapes c.self.inside.shapes) c.self.inside.cells.items.items c.args.self.now c.self.view_is c.self.invariant c.args.id c.requires c.index.result.now c.index.ensures _ (ap contents c.in-List.is) thing here)
 
 pub returns-in-List-clause-private : goal.returns-in-List-clause-private
@@ -50,7 +50,7 @@ returns-in-List-clause-private g c =
 
 pub returns-in-Pairs-clause-reply : goal.returns-in-Pairs-clause-reply
 returns-in-Pairs-clause-reply g c =
-    λ thing here. ap (λ (t : Thing). gives t (GetField c.args.name))
+    λ thing here. ap (λ (t : Thing). gives_to c.args.self.now.thread t (GetField c.args.name))
     (is_thing c.self.inside.cells.thread (g.S.ShapeStore.shapes c.self.inside.shapes) c.self.inside.cells.items.items c.args.self.now c.self.view_is c.self.invariant c.args.id c.requires c.index.result.now c.index.ensures _ (ap contents c.in-Pairs.is) thing here)
 
 pub returns-in-Pairs-clause-private : goal.returns-in-Pairs-clause-private

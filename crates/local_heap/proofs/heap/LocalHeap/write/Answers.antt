@@ -2,7 +2,7 @@ use Rattle.std.proofs.Common.{◌∙◌, refl, ap, sym, inl, inr}
 use Rattle.std.proofs.lemmas.Result.{IfOk-weaker, on_ok_weaker, on_err_weaker}
 use Rattle.rb_model.specs.Values.{plain}
 use Rattle.rb_model.specs.Acts.{SetField}
-use Rattle.rb_model.specs.Things.{Thing, gives}
+use Rattle.rb_model.specs.Things.{Thing, gives_to}
 use Rattle.shape_core.specs.Shape.{path_at}
 use Rattle.local_heap.specs.Memory.{may_want, write_wants}
 use Rattle.local_heap.specs.Slots.{slot_at}
@@ -38,7 +38,7 @@ invariant_of-self-in-Object g c =
 pub returns-in-Object-clause-reply : goal.returns-in-Object-clause-reply
 returns-in-Object-clause-reply g c =
     IfOk-weaker c.set.result _ _
-    (λ reply is thing here. is ∙ ap (λ (t : Thing). gives t (SetField c.args.name (plain c.args.value)))
+    (λ reply is thing here. is ∙ ap (λ (t : Thing). gives_to c.args.self.now.thread t (SetField c.args.name (plain c.args.value)))
     (thing_is c.self.inside.cells.thread (g.S.ShapeStore.shapes c.self.inside.shapes) c.self.inside.cells.items.items c.args.self.now c.self.view_is
     c.args.id c.requires c.index_mut.result.now c.in-Object.object c.index_mut.ensures.value c.in-Object.is c.self.invariant.0 c.self.invariant.1 thing here)) c.set.ensures.done
 
@@ -76,7 +76,7 @@ invariant_of-self-in-List g c = kept_whole c.self.inside.cells.thread (g.S.Shape
 
 pub returns-in-List-clause-reply : goal.returns-in-List-clause-reply
 returns-in-List-clause-reply g c =
-    λ thing here. c.no_method.ensures ∙ ap (λ (t : Thing). gives t (SetField c.args.name (plain c.args.value)))
+    λ thing here. c.no_method.ensures ∙ ap (λ (t : Thing). gives_to c.args.self.now.thread t (SetField c.args.name (plain c.args.value)))
     (is_thing c.self.inside.cells.thread (g.S.ShapeStore.shapes c.self.inside.shapes) c.self.inside.cells.items.items c.args.self.now c.self.view_is c.self.invariant c.args.id c.requires c.index_mut.result.now c.index_mut.ensures.value _ (ap contents c.in-List.is) thing here)
 
 pub returns-in-List-clause-private : goal.returns-in-List-clause-private
@@ -90,7 +90,7 @@ invariant_of-self-in-Pairs g c = kept_whole c.self.inside.cells.thread (g.S.Shap
 
 pub returns-in-Pairs-clause-reply : goal.returns-in-Pairs-clause-reply
 returns-in-Pairs-clause-reply g c =
-    λ thing here. c.no_method-in-Pairs.ensures ∙ ap (λ (t : Thing). gives t (SetField c.args.name (plain c.args.value)))
+    λ thing here. c.no_method-in-Pairs.ensures ∙ ap (λ (t : Thing). gives_to c.args.self.now.thread t (SetField c.args.name (plain c.args.value)))
     (is_thing c.self.inside.cells.thread (g.S.ShapeStore.shapes c.self.inside.shapes) c.self.inside.cells.items.items c.args.self.now c.self.view_is c.self.invariant c.args.id c.requires c.index_mut.result.now c.index_mut.ensures.value _ (ap contents c.in-Pairs.is) thing here)
 
 pub returns-in-Pairs-clause-private : goal.returns-in-Pairs-clause-private
