@@ -5,7 +5,7 @@ use Rattle.std.proofs.lemmas.Bool.{ltb-true}
 use Rattle.std.proofs.lemmas.List.{append-nil, append_assoc}
 use Rattle.std.proofs.lemmas.Grind.{flat_map-append}
 use Rattle.std.specs.Option.{option_map}
-use Rattle.rb_model.specs.Log.{Log, Entry, Refusal, Call, On, Print, End, is_end, logged, printed, prints}
+use Rattle.rb_model.specs.Log.{Log, Entry, Refusal, Call, On, Start, Gather, Print, End, is_end, logged, printed, prints}
 use Rattle.rb_edge.specs.Edge.{Adds}
 use Rattle.rb_store.specs.Written.{Written, Wrote, front_of, is_own, is_refusal, only_prints, taken_of}
 
@@ -84,10 +84,14 @@ written begun now taken l refusal told = wrote begun now (prints l.entries) take
 -- an end prints nothing
 pub ends_silent : (c : Call) → is_end c ≡ true → printed c ≡ []
 ends_silent (On thing act) ends = refl
+ends_silent (Start thing body values) ends = refl
+ends_silent (Gather thread) ends = refl
 ends_silent (Print bytes) ends = absurd (let e : false ≡ true = ends in cc)
 ends_silent (End how) ends = refl
 
 pub ends_own : (c : Call) → is_end c ≡ true → is_own c ≡ true
 ends_own (On thing act) ends = absurd (let e : false ≡ true = ends in cc)
+ends_own (Start thing body values) ends = absurd (let e : false ≡ true = ends in cc)
+ends_own (Gather thread) ends = absurd (let e : false ≡ true = ends in cc)
 ends_own (Print bytes) ends = refl
 ends_own (End how) ends = refl
