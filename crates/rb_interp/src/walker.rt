@@ -1,18 +1,16 @@
 // The walk.
 
-ghost use Rattle.std.specs.Prelude.{◌≡◌, ◌≤◌, ◌<◌, ◌+◌, true, List, [], length, Some, None};
+ghost use Rattle.std.specs.Prelude.{◌≡◌, ◌≤◌, ◌<◌, ◌+◌, true, [], length, Some, None};
 ghost use Rattle.rb_model.specs.Values.{Nil, Int};
 ghost use Rattle.rb_model.specs.Ends.{over};
 ghost use Rattle.rb_model.specs.Log as log;
 ghost use Rattle.rb_model.specs.Private.{bare};
-ghost use Rattle.rb_machine.specs.Scopes.{Script, fresh};
-ghost use Rattle.rb_machine.specs.Follows.{At};
+ghost use Rattle.rb_machine.specs.Scopes.{Script};
 ghost use Rattle.rb_code.specs.Stands.{StandsFor};
 ghost use Rattle.rb_interp.specs.Going.{GoesOut};
-ghost use Rattle.rb_machine.specs.Control.{State, Cont, On, Following};
 ghost use Rattle.rb_machine.specs.Begin.{begin};
-ghost use Rattle.rb_walk.specs.Outcome.{outcome, Came as Comes};
-ghost use Rattle.rb_walk.specs.Carries.{scope_of, goes_on};
+ghost use Rattle.rb_walk.specs.Outcome.{outcome};
+ghost use Rattle.rb_walk.specs.Carries.{goes_on};
 
 mod assign;
 mod begin;
@@ -80,6 +78,7 @@ struct Walker<'p, O: ThreadStore + Drop> {
 }
 
 impl<'p, O: ThreadStore + Drop> Walker<'p, O> {
+    ghost use Rattle.rb_interp.specs.Top.{RunsTop};
     ghost use Rattle.rb_interp.specs.Walks.{Walks, at_node, begun, node_fits};
 
     /// Evaluates a node.
@@ -341,9 +340,7 @@ impl<'p, O: ThreadStore + Drop> Walker<'p, O> {
         requires me { self.old.context.me ≡ None }
         ensures context { self.new.context ≡ self.old.context }
         ensures less { self.new.left ≤ self.old.left }
-        ensures came { (S : Script) (start : State) (k : List Cont) → StandsFor self.old.context.script.now S → S.program ≡ self.old.context.program.now
-            → At S self.old.context.steps start (O.log self.old.store) (O.private self.old.store) (On (Following Nil S.program.main) k (record { me = Nil; locals = fresh S.main_names [] }) 0 self.old.left)
-            → Comes S self.old.context.steps start (O.log self.new.store) (O.private self.new.store) (outcome result self.new.value self.new.leave) k (scope_of Nil S.main_names room.new) 0 self.new.left }
+        ensures came { RunsTop self.old self.new room.new result }
     {
         let script = self.context.script.script();
         let size = script.main_size as usize;

@@ -1,5 +1,5 @@
 -- From how the top level comes out to how the main thread's work goes out.
-use Rattle.std.proofs.Common.{◌≡◌, ℕ, ◌-◌, ◌≤◌, ◌<◌, true, false, List, [], ◌∷◌, ◌++◌, length, map, Some, refl, sym, ap, ◌∙◌, subst, arith}
+use Rattle.std.proofs.Common.{◌≡◌, ℕ, ◌-◌, ◌≤◌, ◌<◌, true, false, List, [], ◌∷◌, ◌++◌, length, map, Some, None, refl, sym, ap, ◌∙◌, subst, arith}
 use Rattle.std.specs.Prelude.{◌&&◌, nat_le, slice_get}
 use Rattle.std.specs.List.{list_all}
 use Rattle.rb_model.specs.Values.{Nil}
@@ -78,7 +78,7 @@ refused_last (Over (ending.Raised f at)) l S N start h k sc d n a e = absurd (cc
 refused_last (Over ending.Steps) l S N start h k sc d n a e = absurd (cc)
 refused_last (Over (ending.Full p q)) l S N start h k sc d n a e = absurd a
 refused_last (Over ending.Memory) l S N start h k sc d n a e = absurd (cc)
-refused_last (Over ending.Sink) l S N start h k sc d n a e = (a.0.refusals, record { call = Print a.2; moved = []; before = length a.0.entries }, ap (λ (x : Log). x.refusals) a.6)
+refused_last (Over ending.Sink) l S N start h k sc d n a e = (a.0.refusals, record { call = Print a.2; moved = []; before = length a.0.entries; words = None }, ap (λ (x : Log). x.refusals) a.6)
 
 -- no part of the walk comes out with a full heap, and so the thread does not end with one
 pub never_full : (o : Outcome) (l : Log) (S : Script) (N : ℕ) (start : State) (h : Private) (k : List Cont) (sc : Scope) (d n used asked : ℕ) → Came S N start l h o k sc d n → ends_with o ≡ ending.Full used asked → ⊥

@@ -223,7 +223,7 @@ row_given c method name first second at room own rows index (Some row) e asked l
     let within : d < 1000 = omega (arith, deep) in
     let below : d + 1 < 1000 = omega (arith, deep) in
     let thrice : left - 3 ≡ left - 1 - 1 - 1 = omega arith in
-    let there = list_is (held own rows.id) (At index) (reference row) (sym is) in
+    let there = list_is own.thread (held own rows.id) (At index) (reference row) (sym is) in
     let s = sym (ap (λ d. fits S d names size) e ∙ fits-operate S names size method name first second at) ∙ f in
     let fl : fits S first names size ≡ true = fst _ _ (snd _ _ s) in
     let fr : fits S second names size ≡ true = snd _ _ (snd _ _ s) in

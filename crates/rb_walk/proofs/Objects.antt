@@ -19,7 +19,6 @@ use Rattle.rb_machine.specs.Scopes.{Script, Scope}
 use Rattle.rb_machine.specs.Control.{State, On, Cont, Then, Give, Step, Instead, Creating}
 use Rattle.rb_machine.specs.Call.{ask, ask_of, initialize, initialized, enter, methods_of, methods_of_sort, texted, raised, perform, create, class_from}
 use Rattle.rb_machine.specs.Move.{answered, left_in}
-use Rattle.rb_machine.proofs.Scoping.{IsNoEnd, gives_to_no_end}
 use Rattle.rb_machine.specs.Follows.{At, acts, makes}
 use Rattle.rb_code.specs.declared.scripted.CodeMethod.{CodeMethod}
 use Rattle.rb_code.specs.declared.scripted.CodeScript.{CodeScript}
@@ -49,10 +48,6 @@ module _ (S : Script) (N : ℕ) (start : State) where
       let b = acts l h (ask r act at k sc d n) r act x.0 come refl x.1 in
       subst (λ z. At S N start l h' (answered z at k sc d n)) (sym (gave x.0 x.1))
       (subst (λ z. At S N start l z (answered (gives_to h.thread x.0 act) at k sc d n)) (sym (become x.0 x.1)) b)
-
-  -- it neither starts nor ends a thread
-  pub own_reply : (h : Private) (r : Reference) (act : Act) (y : Reply) → is_some (held h r.id) ≡ true → Gives h r.id act y → IsNoEnd y
-  own_reply h r act y there gave = let x = there_is (held h r.id) there in subst IsNoEnd (sym (gave x.0 x.1)) (gives_to_no_end h.thread x.0 act)
 
   pub asked : (l : Log) (h h' : Private) (r : Reference) (act : Act) (a : Answered) (at : Span) (k : List Cont) (sc : Scope) (d n : ℕ) → is_some (held h r.id) ≡ true → Gives h r.id act (said a) → Becomes h r.id act h'
       → At S N start l h (ask r act at k sc d n) → At S N start l h' (answered (said a) at k sc d n)

@@ -1,5 +1,6 @@
-use Rattle.std.proofs.Common.{refl, sym}
+use Rattle.std.proofs.Common.{refl, sym, subst}
 use Rattle.rb_model.specs.Doing.{doing}
+use Rattle.rb_machine.proofs.Scoping.{IsNoEnd, gives_to_no_end}
 use Rattle.rb_walk.proofs.Objects.{asked, there_is}
 use Rattle.rb_interp.proofs.walker.Walker.fetch.Goals as goal
 
@@ -39,3 +40,15 @@ returns-in-Ok-Failed-clause-came g c = λ S start k sc d a.
     let reply = c.in-Ok-Failed.ensures in
     let come = asked S _ start _ _ _ (record { sort = c.args.thing.sort; id = c.args.thing.id }) (doing c.args.act) c.in-Ok-Failed.field-0 c.args.at k sc d _ (sym c.if-not-holds.ensures) reply.reply reply.private a in
     rw (c.raise.ensures.gives, c.raise.ensures.store) (rw c.in-Ok-Failed.field-0-is at come)
+
+pub unreachable-requires : goal.unreachable-requires
+unreachable-requires g c =
+    let reply = c.in-Ok-Started.ensures in
+    let x = there_is _ (sym c.if-not-holds.ensures) in
+    rw c.in-Ok-Started.field-0-is at (subst IsNoEnd (sym (reply.reply x.0 x.1)) (gives_to_no_end _ x.0 (doing c.args.act)))
+
+pub unreachable-in-Ok-Ended-requires : goal.unreachable-in-Ok-Ended-requires
+unreachable-in-Ok-Ended-requires g c =
+    let reply = c.in-Ok-Ended.ensures in
+    let x = there_is _ (sym c.if-not-holds.ensures) in
+    rw c.in-Ok-Ended.field-0-is at (subst IsNoEnd (sym (reply.reply x.0 x.1)) (gives_to_no_end _ x.0 (doing c.args.act)))
