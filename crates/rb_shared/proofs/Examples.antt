@@ -1,5 +1,5 @@
 -- The definitions on small cases, by computation.
-use Rattle.std.proofs.Common.{◌≡◌, ℕ, true, false, List, [], ◌∷◌, Option, Some, None, refl}
+use Rattle.std.proofs.Common.{◌≡◌, ℕ, true, false, [], ◌∷◌, Option, Some, None, refl}
 use Rattle.std.specs.Prelude.{pos}
 use Rattle.rb_tree.specs.declared.span.NameId.{NameId}
 use Rattle.rb_model.specs.declared.fault.Fault.TheVariants.{JoinSelf, LockOwned, UnlockForeign, ThreadLimit}
@@ -10,8 +10,7 @@ use Rattle.rb_model.specs.Acts.{GetField, SetField, Join, Lock, Unlock, Done, Va
 use Rattle.rb_model.specs.Ends.{End as Ending, Sink, Steps, Memory, closing, later}
 use Rattle.rb_model.specs.Ends as ending
 use Rattle.rb_model.specs.Things.{ThreadState, Mutex, Thread}
-use Rattle.rb_model.specs.Private.{Item}
-use Rattle.rb_model.specs.Log.{Call, On, Start, Gather, Print, End, Entry}
+use Rattle.rb_model.specs.Log.{Call, On, Start, Gather, Print, End}
 use Rattle.rb_model.specs.Started.{to_thread}
 use Rattle.rb_shared.specs.Store.{Store, globals, generation_of, ungathered_count}
 use Rattle.rb_shared.specs.Step.{reply_to, store_behind, waits}

@@ -1,5 +1,5 @@
 -- Who takes over the end of a thread comes behind it.
-use Rattle.std.proofs.Common.{◌≡◌, ◌⊎◌, inl, inr, ℕ, suc, ◌==◌, ◌||◌, Bool, true, false, cond, List, [], ◌∷◌, ◌++◌, length, map, Option, Some, None, refl, sym, ap, ◌∙◌, subst}
+use Rattle.std.proofs.Common.{◌≡◌, inl, ℕ, suc, ◌==◌, Bool, true, false, cond, List, [], ◌∷◌, ◌++◌, length, map, Option, Some, None, refl, sym, ap, ◌∙◌, subst}
 use Rattle.std.specs.List.{flat_map}
 use Rattle.std.proofs.lemmas.Bool.{eqb-true}
 use Rattle.std.proofs.lemmas.List.{map-append}
@@ -12,11 +12,11 @@ use Rattle.rb_model.specs.Ends.{End as Ending}
 use Rattle.rb_model.specs.Things.{Thing, ThreadState, Object, Elements, Pairs, Mutex, Thread}
 use Rattle.rb_model.specs.Private.{Item}
 use Rattle.rb_model.specs.Log.{Call, On, Start, Gather, Print, End, Entry}
-use Rattle.rb_model.specs.Started.{to_thread, started, started_by}
+use Rattle.rb_model.specs.Started.{to_thread, started_by}
 use Rattle.rb_shared.specs.Lists.{Has, Each}
 use Rattle.rb_shared.specs.Store.{Store, opening, found, with_thing, threads, is_full}
 use Rattle.rb_shared.specs.Step.{Steps, behind_act, join_reply, joined_by, gathered_by, reply_of, reply_to, store_behind, with_act, ended_item, ended_thing, new_thread}
-use Rattle.rb_shared.specs.History.{Event, Leads, all_started}
+use Rattle.rb_shared.specs.History.{Event, all_started}
 use Rattle.rb_shared.specs.Laws.{MovesNoThread, IsNoThread, HasEndedSo, IsJoin, JoinsComeBehindEnds}
 use Rattle.rb_shared.proofs.Runs.{has_front, has_behind, each_has, each_append, each_front, each_more, found_has, leads_split, run_keeps}
 

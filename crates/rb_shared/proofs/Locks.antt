@@ -5,17 +5,17 @@ use Rattle.std.proofs.lemmas.Bool.{eqb-true, eq-eqb}
 use Rattle.rb_model.specs.declared.fault.Fault.TheVariants.{UnlockForeign}
 use Rattle.rb_model.specs.declared.value.Id.{Id}
 use Rattle.rb_model.specs.Values.{Reference, same_id}
-use Rattle.rb_model.specs.Acts.{Act, Join, Lock, Unlock, Reply, Done, Failed}
+use Rattle.rb_model.specs.Acts.{Act, Join, Lock, Unlock, Done, Failed}
 use Rattle.rb_model.specs.Ends.{End as Ending}
 use Rattle.rb_model.specs.Things.{Thing, Object, Elements, Pairs, Mutex, Thread, owner_behind}
 use Rattle.rb_model.specs.Private.{Item}
-use Rattle.rb_model.specs.Log.{Call, On, Start, Gather, Print, End, Entry}
+use Rattle.rb_model.specs.Log.{Call, On, Start, Gather, Print, End}
 use Rattle.rb_shared.specs.Lists.{Has}
 use Rattle.rb_shared.specs.Store.{Store, found, with_thing, is_full}
 use Rattle.rb_shared.specs.Step.{Steps, behind_act, reply_of, reply_to, store_behind, with_act, ended_item, ended_thing, new_thread}
 use Rattle.rb_shared.specs.History.{Event, Leads}
 use Rattle.rb_shared.specs.Laws.{is_unlock_of, is_last, gives_back, OwnersAloneUnlock, LocksExclude}
-use Rattle.rb_shared.proofs.Runs.{same_is, same_self, found_more}
+use Rattle.rb_shared.proofs.Runs.{same_is, found_more}
 
 -- ---- what is found behind a change
 

@@ -1,17 +1,17 @@
 -- A join by another than the maker leaves the count of threads that wait to be gathered.
-use Rattle.std.proofs.Common.{◌≡◌, ℕ, ◌+◌, ◌==◌, ◌||◌, Bool, true, false, not, cond, List, [], ◌∷◌, ◌++◌, Option, Some, None, refl, sym, ap, ◌∙◌, subst}
+use Rattle.std.proofs.Common.{◌≡◌, ℕ, ◌+◌, ◌==◌, ◌||◌, Bool, true, false, not, cond, [], ◌∷◌, ◌++◌, Option, Some, None, refl, sym, ap, ◌∙◌}
 use Rattle.std.specs.Prelude.{sum_by}
 use Rattle.std.proofs.lemmas.List.{append-nil}
 use Rattle.std.proofs.lemmas.List.Sums.{sum_by-append}
 use Rattle.rb_model.specs.declared.value.Id.{Id}
 use Rattle.rb_model.specs.Values.{same_id}
-use Rattle.rb_model.specs.Acts.{Act, Join}
+use Rattle.rb_model.specs.Acts.{Join}
 use Rattle.rb_model.specs.Ends.{End as Ending}
 use Rattle.rb_model.specs.Things.{Thing, ThreadState, Thread}
 use Rattle.rb_model.specs.Private.{Item}
-use Rattle.rb_model.specs.Log.{Call, On, Start, Gather, Print, End, Entry}
+use Rattle.rb_model.specs.Log.{Call, On, Start, Gather, Print, End}
 use Rattle.rb_shared.specs.Store.{Store, found, with_thing, thread_in, threads}
-use Rattle.rb_shared.specs.Step.{Steps, joined_by, gathered_by, store_behind, with_act}
+use Rattle.rb_shared.specs.Step.{joined_by, gathered_by, store_behind, with_act}
 use Rattle.rb_shared.specs.Laws.{IsJoin, OthersFreeNoSlot}
 
 -- how many of one thing are counted

@@ -1,8 +1,7 @@
 -- What the answers of a store say, and the view behind them.
-use Rattle.std.specs.Prelude.{◌≡◌, ℕ, Bool, true, false, List, [], ◌∷◌, ◌++◌, map, Option, Some, None}
+use Rattle.std.specs.Prelude.{◌≡◌, ℕ, Bool, true, false, List, [], ◌∷◌, ◌++◌, map, Some, None}
 use Rattle.rb_model.specs.declared.call.Call.{Call as Held}
 use Rattle.rb_model.specs.declared.moved.MovedItem.{MovedItem}
-use Rattle.rb_model.specs.declared.value.Ref.{Ref}
 use Rattle.rb_model.specs.Acts.{Reply}
 use Rattle.rb_model.specs.Doing.{said}
 use Rattle.rb_model.specs.Ends.{Value}

@@ -1,17 +1,17 @@
 -- What a call needs of the thread that makes it.
-use Rattle.std.specs.Prelude.{◌≡◌, ◌≢◌, ◌≤◌, ◌<◌, ℕ, ◌+◌, ◌^◌, Bool, true, false, ◌||◌, not, ◌⊎◌, List, [], ◌∷◌, ◌++◌, length, map, Option, Some, None}
+use Rattle.std.specs.Prelude.{◌≡◌, ◌≤◌, ◌<◌, ℕ, ◌^◌, true, false, ◌⊎◌, List, [], ◌∷◌, ◌++◌, length, map, Some, None}
 use Rattle.std.specs.List.{flat_map}
 use Rattle.std.specs.Option.{ForSome}
 use Rattle.rb_model.specs.declared.call.Call.{Call as Held}
 use Rattle.rb_model.specs.declared.moved.MovedItem.{MovedItem}
 use Rattle.rb_model.specs.declared.value.Id.{Id}
 use Rattle.rb_model.specs.declared.value.Ref.{Ref}
-use Rattle.rb_model.specs.Acts.{Act, Join}
+use Rattle.rb_model.specs.Acts.{Join}
 use Rattle.rb_model.specs.Values.{Value, same_id, same}
 use Rattle.rb_model.specs.Things.{Thing, Field, Object, Elements, Pairs, Mutex, Thread, is_integer, max_elements, has_key}
 use Rattle.rb_model.specs.Private.{Item}
-use Rattle.rb_model.specs.Log.{Call, On, Start, Gather, Print, End, Entry, asked}
-use Rattle.rb_model.specs.Moving.{item_of, items_of, ref_of, receiver, refs_in_call, refs_in_moved}
+use Rattle.rb_model.specs.Log.{Call, On, Start, Gather, Entry, asked}
+use Rattle.rb_model.specs.Moving.{items_of, ref_of, receiver, refs_in_call, refs_in_moved}
 use Rattle.rb_model.specs.Started.{started, next_thread}
 use Rattle.rb_shared.specs.Lists.{Has, Each}
 use Rattle.rb_shared.specs.Replies.{Serves}

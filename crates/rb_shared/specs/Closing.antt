@@ -1,9 +1,9 @@
 -- What a store shows when it is closed.
-use Rattle.std.specs.Prelude.{◌≡◌, ◌<◌, ◌⊎◌, ℕ, true, List, [], ◌∷◌, ◌++◌, length, take, slice_get, Option, Some, None}
+use Rattle.std.specs.Prelude.{◌≡◌, ◌<◌, ◌⊎◌, ℕ, true, List, [], ◌++◌, length, take, slice_get, Option, Some, None}
 use Rattle.std.specs.List.{flat_map}
 use Rattle.rb_edge.specs.Edge.{Adds, Rose}
-use Rattle.rb_model.specs.Log.{Log, Refusal, printed}
-use Rattle.rb_shared.specs.Lists.{Has, Each}
+use Rattle.rb_model.specs.Log.{Refusal, printed}
+use Rattle.rb_shared.specs.Lists.{Has}
 use Rattle.rb_shared.specs.History.{History, Placed, prints}
 use Rattle.rb_shared.specs.Threads.{ThreadLog}
 

@@ -3,7 +3,7 @@ use Rattle.std.specs.Prelude.{◌≡◌, ℕ, suc, ◌==◌, Bool, true, false, 
 use Rattle.std.specs.List.{flat_map}
 use Rattle.rb_model.specs.Values.{Value, Reference}
 use Rattle.rb_model.specs.declared.value.Id.{Id}
-use Rattle.rb_model.specs.Acts.{Act, GetField, At, Len, Copy, KGet, KHas, Reply, Started}
+use Rattle.rb_model.specs.Acts.{Act, GetField, At, Len, Copy, KGet, KHas, Started}
 use Rattle.rb_model.specs.Ends.{End as Ending}
 use Rattle.rb_model.specs.Private.{Item}
 use Rattle.rb_model.specs.Log.{Call, On, Start, End, Entry, Log, has_end, printed}

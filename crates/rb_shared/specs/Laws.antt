@@ -1,12 +1,12 @@
 -- What holds of every order of the entries of all threads in which each step is the plain one.
-use Rattle.std.specs.Prelude.{◌≡◌, ◌⊎◌, ℕ, ◌==◌, ◌&&◌, ◌||◌, Bool, true, false, List, [], ◌∷◌, ◌++◌, Some}
+use Rattle.std.specs.Prelude.{◌≡◌, ℕ, ◌==◌, ◌&&◌, ◌||◌, Bool, true, false, List, [], ◌∷◌, ◌++◌, Some}
 use Rattle.rb_model.specs.declared.value.Id.{Id}
 use Rattle.rb_model.specs.Values.{Reference, same_id}
-use Rattle.rb_model.specs.Acts.{Act, Join, Lock, Unlock, Reply, Done, Ended}
+use Rattle.rb_model.specs.Acts.{Join, Lock, Unlock, Done, Ended}
 use Rattle.rb_model.specs.Ends.{End as Ending}
 use Rattle.rb_model.specs.Things.{Thing, ThreadState, Mutex, Thread}
 use Rattle.rb_model.specs.Private.{Item}
-use Rattle.rb_model.specs.Log.{Call, On, Start, Gather, Print, End, Entry}
+use Rattle.rb_model.specs.Log.{Call, On, Gather, End, Entry}
 use Rattle.rb_model.specs.Started.{to_thread}
 use Rattle.rb_shared.specs.Lists.{Has, Each}
 use Rattle.rb_shared.specs.Store.{Store, opening, found, ungathered_count}

@@ -1,7 +1,7 @@
 -- The history of one order of all entries: where each read is given its point.
-use Rattle.std.specs.Prelude.{ℕ, zero, suc, ◌==◌, Bool, true, false, if◌then◌else◌, List, [], ◌∷◌, ◌++◌, filter, length, Option, Some, None}
-use Rattle.rb_model.specs.Log.{Log, Refusal, Entry}
-use Rattle.rb_shared.specs.History.{Event, Placed, History, is_event, by, all_started}
+use Rattle.std.specs.Prelude.{ℕ, suc, ◌==◌, if◌then◌else◌, List, [], ◌∷◌, filter, Option, Some, None}
+use Rattle.rb_model.specs.Log.{Refusal}
+use Rattle.rb_shared.specs.History.{Event, Placed, History, is_event, by}
 
 -- the events among all entries, in their order
 abbrev pub events_in : List Event → List Event

@@ -3,7 +3,7 @@ use Rattle.std.specs.Prelude.{◌≡◌, ℕ, suc, ◌==◌, Bool, true, false, 
 use Rattle.std.specs.List.{flat_map}
 use Rattle.rb_model.specs.declared.fault.Fault.TheVariants.{NoMethod, JoinSelf, ThreadLimit}
 use Rattle.rb_model.specs.declared.value.Id.{Id}
-use Rattle.rb_model.specs.Values.{Value, To, Reference}
+use Rattle.rb_model.specs.Values.{Value, To}
 use Rattle.rb_model.specs.Acts.{Act, Join, Lock, Reply, Done, handed}
 use Rattle.rb_model.specs.Acts as reply
 use Rattle.rb_model.specs.Ends.{End as Ending, told}

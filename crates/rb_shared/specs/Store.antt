@@ -1,5 +1,5 @@
 -- The things that threads share.
-use Rattle.std.specs.Prelude.{◌≡◌, ℕ, suc, ◌==◌, ◌-◌, Bool, true, false, not, ◌||◌, nat_le, if◌then◌else◌, List, [], ◌∷◌, ◌++◌, length, map, count_by, slice_get, unwrap_or, Option, Some, None, is_some}
+use Rattle.std.specs.Prelude.{ℕ, suc, ◌-◌, Bool, not, ◌||◌, nat_le, if◌then◌else◌, List, [], ◌∷◌, ◌++◌, count_by, slice_get, unwrap_or, Option, Some, None, is_some}
 use Rattle.std.specs.List.{flat_map}
 use Rattle.rb_model.specs.declared.value.Id.{Id}
 use Rattle.rb_model.specs.Values.{same_id}

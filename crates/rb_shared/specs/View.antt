@@ -1,6 +1,5 @@
 -- What a thread knows of a store that it shares with others: the view of its pass.
-use Rattle.std.specs.Prelude.{◌≡◌, ℕ, ◌+◌, ◌-◌, Bool, true, false, not, List, [], ◌∷◌, ◌++◌, map, Option, Some, None}
-use Rattle.rb_model.specs.declared.value.Id.{Id}
+use Rattle.std.specs.Prelude.{ℕ, ◌+◌, ◌-◌, Bool, true, false, not, List, [], ◌∷◌, ◌++◌, Option, Some, None}
 use Rattle.rb_model.specs.declared.value.Ref.{Ref}
 use Rattle.rb_model.specs.declared.value.Sort.TheVariants as sort
 use Rattle.rb_model.specs.Acts.{Reply, Started}
