@@ -91,6 +91,7 @@ fn told(heap: &Heap, id: Id) -> Result<Option<usize>, AllocError> {
         Thing::Object(_, fields) => fields.len(),
         Thing::Elements(elements) => elements.len(),
         Thing::Pairs(pairs) => pairs.len(),
+        Thing::Mutex(_) | Thing::Thread(_) => 0,
     }))
 }
 
