@@ -63,15 +63,19 @@ fn has_pair(heap: &mut Heap, id: Id, value: &Value) -> Result<bool, AllocError> 
     Ok(put && read && copied)
 }
 
-/// Values that come into one field, one list and one hash in turn: the field is widened, and then holds texts and integers of 64 bits.
-const COMING: [Immediate; 5] = [Int(1), Other, Int(i64::MIN), Nil, Other];
+/// Values that come into one field, one list and one hash in turn, each with a name of its own: the field is widened, and then holds texts and integers of 64 bits.
+const COMING: [(u32, Immediate); 5] = [
+    (1, Int(1)),
+    (2, Other),
+    (3, Int(i64::MIN)),
+    (4, Nil),
+    (5, Other),
+];
 
 /// Whether an object, a list and a hash take them all in.
 fn take_all(heap: &mut Heap, alloc: Global, things: [Id; 3]) -> Result<bool, AllocError> {
     let [object, list, hash] = things;
-    let mut name = 0;
-    for told in COMING {
-        name += 1;
+    for (name, told) in COMING {
         let value = value_of(alloc, told)?;
         let fields = has_field(heap, object, 0, &value)? && has_field(heap, object, name, &value)?;
         let elements = has_element(heap, list, 5 * i64::from(name), &value)?;
