@@ -91,12 +91,14 @@ fn told(heap: &Heap, id: Id) -> Result<Option<usize>, AllocError> {
     if !heap.holds(id) {
         return Ok(None);
     }
-    Ok(Some(match heap.thing(id)? {
+    let thing = heap.thing(id)?;
+    let size = match &thing {
         Thing::Object(_, fields) => fields.len(),
         Thing::Elements(elements) => elements.len(),
         Thing::Pairs(pairs) => pairs.len(),
         Thing::Mutex(_) | Thing::Thread(_) => 0,
-    }))
+    };
+    Ok(Some(size))
 }
 
 /// Whether things of each kind are made, take values in, and are told.
