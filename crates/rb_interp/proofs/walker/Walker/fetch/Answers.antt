@@ -47,8 +47,8 @@ unreachable-requires g c =
     let x = there_is _ (sym c.if-not-holds.ensures) in
     rw c.in-Ok-Started.field-0-is at (subst IsNoEnd (sym (reply.reply x.0 x.1)) (gives_to_no_end _ x.0 (doing c.args.act)))
 
-pub unreachable-in-Ok-Ended-requires : goal.unreachable-in-Ok-Ended-requires
-unreachable-in-Ok-Ended-requires g c =
+pub unreachable-requires-in-Ok-Ended : goal.unreachable-requires-in-Ok-Ended
+unreachable-requires-in-Ok-Ended g c =
     let reply = c.in-Ok-Ended.ensures in
     let x = there_is _ (sym c.if-not-holds.ensures) in
     rw c.in-Ok-Ended.field-0-is at (subst IsNoEnd (sym (reply.reply x.0 x.1)) (gives_to_no_end _ x.0 (doing c.args.act)))
