@@ -97,12 +97,19 @@ const LONG: [((&str, &str, &str), u32, &str); 24] = [
     (("", "\"#{", ""), 349_525, "UnclosedText 0"),
 ];
 
+/// What is found in a source that begins so, has a part so often behind it, and ends so.
+fn found_between(alloc: Global, row: (&str, &str, &str), times: u32) -> Result<String, Fail> {
+    let (begin, part, end) = row;
+    let mut source = repeated(alloc, begin, part, times)?;
+    source.push_str(end)?;
+    found(alloc, source.as_str())
+}
+
 /// The number of the first row in which something else is found.
 fn first_wrong_length(alloc: Global) -> Result<Option<usize>, Fail> {
     for (number, ((begin, part, end), times, told)) in LONG.iter().enumerate() {
-        let mut source = repeated(alloc, begin, part, *times)?;
-        source.push_str(end)?;
-        if found(alloc, source.as_str())?.as_str() != *told {
+        let row = (*begin, *part, *end);
+        if found_between(alloc, row, *times)?.as_str() != *told {
             return Ok(Some(number));
         }
     }
