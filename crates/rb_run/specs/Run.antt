@@ -3,11 +3,11 @@ use Rattle.std.specs.Prelude.{◌≡◌, ℕ, false, List, ◌++◌, Option}
 use Rattle.rb_tree.specs.declared.node.Program.{Program}
 use Rattle.shape_core.specs.Shape.{Shape}
 use Rattle.rb_model.specs.Ends.{End}
-use Rattle.rb_model.specs.Log.{Log, prints}
+use Rattle.rb_model.specs.Log.{Log, prints, last_step}
 use Rattle.rb_model.specs.Private.{Private}
 use Rattle.rb_machine.specs.Follows.{Follows}
 use Rattle.rb_machine.specs.Alone.{opening, Alone}
-use Rattle.rb_machine.specs.Laws.{is_cut, last_step}
+use Rattle.rb_machine.specs.Laws.{is_cut}
 use Rattle.rb_resolver.specs.Names.{script_of}
 use Rattle.rb_store.specs.Written.{Written}
 
