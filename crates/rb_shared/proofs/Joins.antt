@@ -49,7 +49,7 @@ known_more done more x k s e =
 -- ---- what a call makes of the threads
 
 -- one thing in the place of another: a thread stays the thread that it was, with the end that it had
-abbrev StaysThread : Thing → Thing → Type 0
+abbrev pub StaysThread : Thing → Thing → Type 0
 StaysThread old new = (s : ThreadState) → new ≡ Thread s → (o : ThreadState) × (old ≡ Thread o) × (s.number ≡ o.number) × (s.end ≡ o.end)
 
 joined_same : (t : ℕ) (s : ThreadState) (end : Option Ending) → ((joined_by t s end).number ≡ s.number) × ((joined_by t s end).end ≡ s.end)
@@ -60,10 +60,10 @@ joined_same t s (Some how) = by (s.number == t)
     by true = (refl, refl)
     by false = (refl, refl)
 
-thread_is : (a b : ThreadState) → Thread a ≡ Thread b → a ≡ b
+pub thread_is : (a b : ThreadState) → Thread a ≡ Thread b → a ≡ b
 thread_is a b e = cc
 
-act_keeps : (t : ℕ) (old : Thing) (act : Act) → StaysThread old (behind_act t old act)
+pub act_keeps : (t : ℕ) (old : Thing) (act : Act) → StaysThread old (behind_act t old act)
 act_keeps t (Thread o) Join s e =
     let same = joined_same t o o.end in
     let is = thread_is (joined_by t o o.end) s e in

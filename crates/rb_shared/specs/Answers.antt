@@ -11,6 +11,7 @@ use Rattle.rb_shared.specs.declared.answer.Answer.{Answer}
 use Rattle.rb_shared.specs.declared.answer.Answer.TheVariants as answer
 use Rattle.rb_shared.specs.declared.answer.Quick.{Quick}
 use Rattle.rb_shared.specs.declared.answer.Quick.TheVariants as quick
+use Rattle.rb_shared.specs.Asking.{may_fill}
 use Rattle.rb_shared.specs.Replies.{MayGive}
 use Rattle.rb_shared.specs.View.{View, ask_of, asking, unasked, with_entry, with_refused}
 
@@ -24,13 +25,6 @@ AreLaid [] [] = Unit {0}
 AreLaid [] (n ∷ ns) = ⊥
 AreLaid (m ∷ ms) [] = ⊥
 AreLaid (m ∷ ms) (n ∷ ns) = ((at : ℕ) × (n ≡ record m { at = at })) × AreLaid ms ns
-
--- whether the shared heap may be too full for a call: one on a thing, the start of a thread, and an end with a value
-abbrev pub may_fill : Call → Bool
-may_fill (On thing act) = true
-may_fill (Start thing body values) = true
-may_fill (End (Value v)) = true
-may_fill call = false
 
 -- The answer of `call`, with the things that moved before it and behind it. Done: one entry, and the pass knows what the reply tells and what
 -- moved. Full: one refusal with the words in use and those asked for, which together are more than there are. SinkFailed: one refusal, of a

@@ -1,5 +1,5 @@
 -- What a call needs of the thread that makes it.
-use Rattle.std.specs.Prelude.{◌≡◌, ◌≤◌, ◌<◌, ℕ, ◌^◌, true, false, ◌⊎◌, List, [], ◌∷◌, ◌++◌, length, map, Some, None}
+use Rattle.std.specs.Prelude.{◌≡◌, ◌≤◌, ◌<◌, ℕ, ◌^◌, Bool, true, false, ◌⊎◌, List, [], ◌∷◌, ◌++◌, length, map, Some, None}
 use Rattle.std.specs.List.{flat_map}
 use Rattle.std.specs.Option.{ForSome}
 use Rattle.rb_model.specs.declared.call.Call.{Call as Held}
@@ -7,10 +7,11 @@ use Rattle.rb_model.specs.declared.moved.MovedItem.{MovedItem}
 use Rattle.rb_model.specs.declared.value.Id.{Id}
 use Rattle.rb_model.specs.declared.value.Ref.{Ref}
 use Rattle.rb_model.specs.Acts.{Join}
-use Rattle.rb_model.specs.Values.{Value, same_id, same}
+use Rattle.rb_model.specs.Ends as ending
+use Rattle.rb_model.specs.Values.{Value, Reference, same_id, same}
 use Rattle.rb_model.specs.Things.{Thing, Field, Object, Elements, Pairs, Mutex, Thread, is_integer, max_elements, has_key}
 use Rattle.rb_model.specs.Private.{Item}
-use Rattle.rb_model.specs.Log.{Call, On, Start, Gather, Entry, asked}
+use Rattle.rb_model.specs.Log.{Call, On, Start, Gather, End, Entry, asked}
 use Rattle.rb_model.specs.Moving.{items_of, ref_of, receiver, refs_in_call, refs_in_moved}
 use Rattle.rb_model.specs.Started.{started, next_thread}
 use Rattle.rb_shared.specs.Lists.{Has, Each}
@@ -80,9 +81,21 @@ abbrev pub HasNextId : View → Call → Type 0
 HasNextId v (Start id body values) = id ≡ next_thread v.thread v.log
 HasNextId v call = Unit {0}
 
+-- whether a call may need room among the shared things: one on a thing, the start of a thread, and an end with a value
+abbrev pub may_fill : Call → Bool
+may_fill (On thing act) = true
+may_fill (Start thing body values) = true
+may_fill (End (ending.Value v)) = true
+may_fill call = false
+
+-- a thread gathers those alone that it started
+abbrev pub GathersOwn : View → Call → Type 0
+GathersOwn v (Gather thread) = (n : ℕ) × (r : Reference) × Has (started v.log.entries) (n, r) × (r.id ≡ thread.id)
+GathersOwn v call = Unit {0}
+
 -- the whole log of a thread that this one started was told before it takes over that thread's end
 abbrev pub WasTold : View → Id → Type 0
-WasTold v id = (n : ℕ) → (r : Rattle.rb_model.specs.Values.Reference) → Has (started v.log.entries) (n, r) → r.id ≡ id → HasEnded v.told n
+WasTold v id = (n : ℕ) → (r : Reference) → Has (started v.log.entries) (n, r) → r.id ≡ id → HasEnded v.told n
 
 abbrev pub HasJoined : View → Call → Type 0
 HasJoined v (On thing Join) = WasTold v thing.id
@@ -100,8 +113,11 @@ pub record MayAsk (v : View) (call : Held) (moved : List MovedItem) : Type 0 whe
   pub once : AllDiffer (map (λ (m : MovedItem). m.id) moved)
   pub first : Each (λ (m : MovedItem). IsNoneOf (ids_moved v.log.entries) m.id) moved
   pub things : Each (λ (x : Item). MayMove v.thread x.thing) (items_of moved)
+  -- and nothing moves with a call that needs no room
+  pub bare : may_fill (asked call) ≡ false → moved ≡ []
   -- a thread that starts, and one whose end is taken over
   pub next : HasNextId v (asked call)
+  pub gathers : GathersOwn v (asked call)
   pub joined : HasJoined v (asked call)
 
 -- nobody goes round `quick`: where nothing moves, it said of this very call that it can not be done at once

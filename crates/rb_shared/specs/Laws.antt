@@ -1,17 +1,18 @@
 -- What holds of every order of the entries of all threads in which each step is the plain one.
-use Rattle.std.specs.Prelude.{◌≡◌, ℕ, ◌==◌, ◌&&◌, ◌||◌, Bool, true, false, List, [], ◌∷◌, ◌++◌, Some}
+use Rattle.std.specs.Prelude.{◌≡◌, ◌<◌, ℕ, suc, ◌==◌, ◌&&◌, ◌||◌, Bool, true, false, List, [], ◌∷◌, ◌++◌, length, Some}
 use Rattle.rb_model.specs.declared.value.Id.{Id}
 use Rattle.rb_model.specs.Values.{Reference, same_id}
 use Rattle.rb_model.specs.Acts.{Join, Lock, Unlock, Done, Ended}
 use Rattle.rb_model.specs.Ends.{End as Ending}
 use Rattle.rb_model.specs.Things.{Thing, ThreadState, Mutex, Thread}
 use Rattle.rb_model.specs.Private.{Item}
-use Rattle.rb_model.specs.Log.{Call, On, Gather, End, Entry}
+use Rattle.rb_model.specs.Log.{Call, On, Gather, End, Entry, Refusal}
 use Rattle.rb_model.specs.Started.{to_thread}
 use Rattle.rb_shared.specs.Lists.{Has, Each}
 use Rattle.rb_shared.specs.Store.{Store, opening, found, ungathered_count}
 use Rattle.rb_shared.specs.Step.{Steps}
-use Rattle.rb_shared.specs.History.{Event, Leads, all_started}
+use Rattle.rb_shared.specs.Placing.{history_of}
+use Rattle.rb_shared.specs.History.{Event, Leads, by, all_started, IsBegun, EndsOnce, IsLegal}
 
 -- no entry moves a thread: threads are shared from their start
 abbrev pub IsNoThread : Thing → Type 0
@@ -71,3 +72,31 @@ LocksExclude = (slots : ℕ) (z1 z2 z3 z4 : Store) (first last : Event) (between
     → Leads slots z2 between z3
     → Steps slots z3 last.thread last.entry z4 → last.entry.call ≡ On q Lock → last.entry.reply ≡ Done → q.id ≡ r.id
     → (e : Event) × Has between e × (gives_back first.thread r.id e ≡ true)
+
+-- a mutex that moves is nobody's, or is owned by the thread that moves it
+abbrev pub IsOwnMutex : ℕ → Thing → Type 0
+IsOwnMutex t thing = (owner : ℕ) → thing ≡ Mutex (Some owner) → owner ≡ t
+
+abbrev pub MovesOwnMutexes : Event → Type 0
+MovesOwnMutexes e = Each (λ (x : Item). IsOwnMutex e.thread x.thing) e.entry.moved
+
+-- A thread that has ended owns no mutex, whatever the others do behind its end.
+abbrev pub EndedOwnNothing : Type 0
+EndedOwnNothing = (slots : ℕ) (y y' z : Store) (last : Event) (behind : List Event) (how : Ending) (id : Id) (owner : ℕ)
+    → Steps slots y last.thread last.entry y' → last.entry.call ≡ End how → Leads slots y' behind z
+    → Each (λ (e : Event). (e.thread == last.thread) ≡ false) behind → Each MovesOwnMutexes behind
+    → found z id ≡ Some (Mutex (Some owner)) → (owner == last.thread) ≡ false
+
+-- ---- one order
+
+-- The history of one order is legal: where the steps of the order are the plain ones, each thread began behind its start and ended with its one
+-- End, and there are refusals, if none, of each thread. The reads at one point may be those of many threads, and then stand by the numbers of
+-- these in the merge.
+abbrev pub OneOrderIsLegal : Type 0
+OneOrderIsLegal = (slots : ℕ) (es : List Event) (refusals : List (List Refusal)) (z : Store)
+    → Leads slots opening es z
+    → length refusals ≡ suc (length (all_started es))
+    → Each (λ (e : Event). e.thread < length refusals) es
+    → ((front behind : List Event) (e : Event) → es ≡ front ++ e ∷ behind → IsBegun front e)
+    → ((t : ℕ) → t < length refusals → EndsOnce (by t es))
+    → IsLegal slots (history_of es refusals)

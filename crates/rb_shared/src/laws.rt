@@ -3,7 +3,7 @@
 
 ghost use Rattle.rb_shared.specs.Laws as law;
 
-/// A thread whose end is told to another was started before that, and its end stands before that in the one order of all entries.
+/// A thread whose end is told to another was started before that, and this very end stands before that in the one order of all entries.
 pub fn joins()
     ensures { law.JoinsComeBehindEnds }
 {}
@@ -21,4 +21,14 @@ pub fn owners()
 /// Between two takings of one mutex, the thread that took it first has given it back, or has ended.
 pub fn mutexes()
     ensures { law.LocksExclude }
+{}
+
+/// A thread that has ended owns no mutex.
+pub fn ended()
+    ensures { law.EndedOwnNothing }
+{}
+
+/// The history of one order of all entries is legal, with each read at its point.
+pub fn one_order()
+    ensures { law.OneOrderIsLegal }
 {}
