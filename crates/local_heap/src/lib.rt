@@ -12,3 +12,6 @@ mod slot;
 mod told;
 
 pub use heap::LocalHeap;
+// Things that threads share are kept as lists and hashes of the same kind.
+pub use list::{List, apply as apply_to_list, made as list_of};
+pub use pairs::{apply as apply_to_pairs, made as pairs_of};

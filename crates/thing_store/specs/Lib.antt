@@ -1,0 +1,4 @@
+pub mod Kept
+pub mod Fields
+pub mod Counted
+pub mod Trial

@@ -1,0 +1,16 @@
+mod Values
+mod Sizes
+mod Gives
+mod Behind
+mod Makers
+mod Events
+mod Knowing
+mod Enters
+mod Sinking
+mod Keeps
+mod Passing
+mod Closes
+mod Fitting
+mod Asks
+mod Tells
+mod Trials

@@ -1,0 +1,106 @@
+-- What the sink has taken, behind a call that was made and one that was refused.
+use Rattle.std.proofs.Common.{◌≡◌, ◌≤◌, ◌<◌, ℕ, Bool, true, false, ltb, List, [], ◌∷◌, ◌++◌, length, take, Option, Some, None, refl, sym, ap, ◌∙◌, subst, inl, inr, ⊎_elim, arith, append-nil, append_assoc, ltb-true, ltb-false, true≢false}
+use Rattle.rb_edge.specs.Edge.{Adds, Rose}
+use Rattle.rb_model.specs.Log.{Call, Entry, Refusal, printed}
+use Rattle.rb_model.specs.Started.{started_by}
+use Rattle.rb_shared.specs.Closing.{IsFront}
+use Rattle.rb_shared.specs.History.{Event, prints}
+use Rattle.rb_shared.specs.Lists.{Has}
+use Rattle.turn_store.specs.Run.{Sunk, Stands, event_of, opened, refused_more, all_refused}
+use Rattle.turn_store.specs.Turns.{SinkDid, SinkRefused}
+use Rattle.turn_store.proofs.Events.{prints_more, refused_either, refused_stays, refused_new, all_refused_opened}
+
+adds_both : (a b c : Option (List ℕ)) (xs ys : List ℕ) → Adds a b xs → Adds b c ys → Adds a c (xs ++ ys)
+adds_both None None None xs ys p q = tt
+adds_both None None (Some c) xs ys p q = absurd q
+adds_both None (Some b) c xs ys p q = absurd p
+adds_both (Some a) None c xs ys p q = absurd p
+adds_both (Some a) (Some b) None xs ys p q = absurd q
+adds_both (Some a) (Some b) (Some c) xs ys p q = q ∙ (ap (λ l. l ++ ys) p ∙ append_assoc a xs ys)
+
+rose_on : (a b c : ℕ) → Rose a b → a ≤ b → b ≤ c → Rose a c
+rose_on a b c (inl lt) le more = inl (omega (arith, lt, more))
+rose_on a b c (inr top) le more = by (ltb b c) refl
+  where
+    by : (d : Bool) → ltb b c ≡ d → Rose a c
+    by true is = let lt = ltb-true b c is in inl (omega (arith, lt, le))
+    by false is = let ge = ltb-false b c is in inr (omega (arith, ge, more, top))
+
+rose_from : (a b c : ℕ) → Rose b c → a ≤ b → Rose a c
+rose_from a b c (inl lt) le = inl (omega (arith, lt, le))
+rose_from a b c (inr top) le = inr top
+
+-- what was added to the prints, where the sink had not failed
+behind_all : (begun : Sunk) (events : List Event) (refusals : List (List Refusal)) (old new : Sunk) (more : List ℕ) → Stands begun events refusals old → old.failed ≡ false
+    → Adds old.told new.told more → Adds begun.told new.told (prints events ++ more)
+behind_all begun events refusals old new more s fine adds =
+    let told : Adds begun.told old.told (prints events) = subst (Adds begun.told old.told) (ap (λ l. prints events ++ l) (s.whole fine) ∙ append-nil (prints events)) s.told in
+    adds_both begun.told old.told new.told (prints events) more told adds
+
+pub stands_did : (begun : Sunk) (events : List Event) (refusals : List (List Refusal)) (t : ℕ) (e : Entry) (old new : Sunk) → Stands begun events refusals old → SinkDid e.call old new
+    → Stands begun (events ++ event_of t e ∷ []) (opened refusals (started_by e.call e.reply)) new
+stands_did begun events refusals t e old new s did = record {
+  rest = s.rest;
+  told = ⊎_elim silent printing did.2;
+  rises = let a = s.rises in let b = did.0 in omega (arith, a, b);
+  cause = λ h. rose_on begun.faults old.faults new.faults (s.cause (sym did.1 ∙ h)) s.rises did.0;
+  whole = λ h. s.whole (sym did.1 ∙ h);
+  front = ⊎_elim (λ x. inl x) (λ (f : IsFront (all_refused refusals) s.rest). inr (subst (λ l. IsFront l s.rest) (sym same) f)) s.front;
+  refused = λ q h. let p = s.refused q (subst (λ l. Has l q) same h) in (did.1 ∙ p.0, p.1);
+}
+  where
+    same : all_refused (opened refusals (started_by e.call e.reply)) ≡ all_refused refusals
+    same = all_refused_opened refusals (started_by e.call e.reply)
+
+    silent : (printed e.call ≡ []) × (new.told ≡ old.told) → Adds begun.told new.told (prints (events ++ event_of t e ∷ []) ++ s.rest)
+    silent p =
+        let more : prints (events ++ event_of t e ∷ []) ≡ prints events = prints_more t e events ∙ (ap (λ l. prints events ++ l) p.0 ∙ append-nil (prints events)) in
+        subst (λ (x : List ℕ × Option (List ℕ)). Adds begun.told x.1 (x.0 ++ s.rest)) (λ i. (sym more i, sym p.1 i)) s.told
+
+    printing : (old.failed ≡ false) × Adds old.told new.told (printed e.call) → Adds begun.told new.told (prints (events ++ event_of t e ∷ []) ++ s.rest)
+    printing p =
+        let whole : prints events ++ printed e.call ≡ prints (events ++ event_of t e ∷ []) ++ s.rest =
+        sym (prints_more t e events) ∙ sym (ap (λ l. prints (events ++ event_of t e ∷ []) ++ l) (s.whole p.0) ∙ append-nil (prints (events ++ event_of t e ∷ []))) in
+        subst (Adds begun.told new.told) whole (behind_all begun events refusals old new (printed e.call) s p.0 p.1)
+
+-- a refusal of a call, since the sink failed
+abbrev pub IsRefusalOf : Call → Refusal → Type 0
+IsRefusalOf call r = (r.call ≡ call) × (r.words ≡ None)
+
+abbrev pub Before : Call → Sunk → Sunk → Type 0
+Before call old new = (old.failed ≡ true) × (new.told ≡ old.told)
+
+abbrev pub Now : Call → Sunk → Sunk → Type 0
+Now call old new = (old.failed ≡ false) × Rose old.faults new.faults × ((n : ℕ) × (n < length (printed call)) × Adds old.told new.told (take n (printed call)))
+
+pub stands_refused : (begun : Sunk) (events : List Event) (refusals : List (List Refusal)) (t : ℕ) (r : Refusal) (call : Call) (old new : Sunk) → Stands begun events refusals old → SinkRefused call old new
+    → IsRefusalOf call r → t < length refusals → Stands begun events (refused_more refusals t r) new
+stands_refused begun events refusals t r call old new s did is lt = ⊎_elim before now did.2
+  where
+    more : List (List Refusal)
+    more = refused_more refusals t r
+
+    refused_now : (q : Refusal) → Has (all_refused (refused_more refusals t r)) q → (new.failed ≡ true) × (q.words ≡ None)
+    refused_now q h = ⊎_elim (λ (same : q ≡ r). (did.1, ap (λ (x : Refusal). x.words) same ∙ is.1)) (λ (old : Has (all_refused refusals) q). (did.1, (s.refused q old).1)) (refused_either refusals t r q h)
+
+    before : Before call old new → Stands begun events (refused_more refusals t r) new
+    before b = record {
+      rest = s.rest;
+      told = subst (λ x. Adds begun.told x (prints events ++ s.rest)) (sym b.1) s.told;
+      rises = let x = s.rises in let y = did.0 in omega (arith, x, y);
+      cause = λ h. rose_on begun.faults old.faults new.faults (s.cause b.0) s.rises did.0;
+      whole = λ h. absurd (true≢false (sym did.1 ∙ h));
+      front = ⊎_elim (λ x. inl x) (λ (f : IsFront (all_refused refusals) s.rest). inr (f.0, f.1, refused_stays refusals t r f.0 f.2, f.3, f.4, f.5)) s.front;
+      refused = refused_now;
+    }
+
+    now : Now call old new → Stands begun events (refused_more refusals t r) new
+    now n = record {
+      rest = take n.2.0 (printed call);
+      told = behind_all begun events refusals old new (take n.2.0 (printed call)) s n.0 n.2.2;
+      rises = let x = s.rises in let y = did.0 in omega (arith, x, y);
+      cause = λ h. rose_from begun.faults old.faults new.faults n.1 s.rises;
+      whole = λ h. absurd (true≢false (sym did.1 ∙ h));
+      front = inr (r, n.2.0, refused_new refusals t r lt, is.1, subst (λ c. n.2.0 < length (printed c)) (sym is.0) n.2.1, ap (λ c. take n.2.0 (printed c)) (sym is.0));
+      refused = refused_now;
+    }

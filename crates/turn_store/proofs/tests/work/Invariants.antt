@@ -1,0 +1,8 @@
+use Rattle.std.proofs.Common.{◌≡◌}
+use Rattle.turn_store.specs.Trial.{IsAsBefore, IsReady}
+use Rattle.turn_store.proofs.tests.work.Given as goal
+
+abbrev pub invariant-turns : goal.invariant-turns
+invariant-turns g l =
+    (g.S.SharedStore.of l.pass ≡ g.S.SharedStore.id l.initial.store) × IsReady (g.S.SharedStore.view l.pass)
+    × IsAsBefore (g.S.SharedStore.view l.initial.pass) (g.S.SharedStore.view l.pass)

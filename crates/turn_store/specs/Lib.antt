@@ -1,0 +1,9 @@
+pub mod Standing
+pub mod Run
+pub mod Holding
+pub mod Turns
+pub mod Slot
+pub mod Passes
+pub mod Calls
+pub mod Fronts
+pub mod Trial
