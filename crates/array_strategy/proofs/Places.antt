@@ -1,6 +1,6 @@
 -- Items at places of a list.
 use Rattle.std.proofs.Common.{◌≡◌, ℕ, zero, suc, ◌+◌, ◌-◌, ◌<◌, ◌≤◌, List, [], ◌∷◌, ◌++◌, map, length, take, drop, replicate, slice_get, slice_set, refl, ap, sym, subst, ◌∙◌, inl, inr, arith, append_assoc, append-nil, add-one}
-use Rattle.std.specs.Prelude.{ℤ, Option, None, Some, IsSomeAnd, All, slice_index_or, Result, Ok, Err, OnErr}
+use Rattle.std.specs.Prelude.{ℤ, Bool, false, Option, None, Some, IsSomeAnd, All, slice_index_or, Result, Ok, Err, IfOk, OnErr}
 use Rattle.std.specs.List.{remove}
 use Rattle.std.proofs.lemmas.Grind.{common_steps}
 use Rattle.std.proofs.lemmas.List.{take-map, drop-map, length-map, map-set, map-append, length-replicate, take-append-le}
@@ -10,7 +10,7 @@ use Rattle.std.proofs.lemmas.Option.{slice_get_past}
 use Rattle.typed_location.specs.declared.flag.Flag.{Flag}
 use Rattle.array_strategy.specs.declared.storage.Store.{Store}
 use Rattle.array_strategy.specs.declared.storage.Store.TheVariants as stores
-use Rattle.array_strategy.specs.Elements.{IsFlagBy, IsIntegerBy, IsSetAt, Widens, place_of, with_item}
+use Rattle.array_strategy.specs.Elements.{IsFlagBy, IsFlags, IsIntegerBy, IsRaw, IsSetAt, Widens, place_of, with_item}
 use Rattle.array_strategy.specs.Storage.{stored}
 
 pub map-remove : {X Y : Type 0} (f : X → Y) (xs : List X) (i : ℕ) → map f (remove xs i) ≡ remove (map f xs) i
@@ -71,13 +71,26 @@ with_item-end xs j v fill h =
     let le : length xs ≤ j = omega arith in
     grind (arith, common_steps, with_item-beyond xs j v fill le, none)
 
--- what a storage of items of one kind alone is widened by
+-- a storage of items of one kind alone
+module _ {V : Type 0} (int : ℤ → V) (flag : Flag → V) (store : Store V) where
+  pub ints_raw : (ints : _) → store ≡ stores.Ints ints → IsRaw int (stored int flag store)
+  ints_raw ints is = rw is (record { strategy = refl; items = All-integers int ints.items })
+
+  pub flags_alone : (flags : _) → store ≡ stores.Flags flags → IsFlags flag (stored int flag store)
+  flags_alone flags is = rw is (record { strategy = refl; items = All-flags flag flags.items })
+
+-- what it is widened by
 module _ {V : Type 0} (int : ℤ → V) (integer : V → Option ℤ) (flag : Flag → V) (flag_of : V → Option Flag) (store : Store V) (v : V) where
   pub ints_widen : (ints : _) (found : Option ℤ) → store ≡ stores.Ints ints → found ≡ integer v → found ≡ None → Widens int integer flag flag_of (stored int flag store) v
-  ints_widen ints found is tells none = rw is (inl (record { strategy = refl; items = All-integers int ints.items }, sym tells ∙ none))
+  ints_widen ints found is tells none = inl (ints_raw int flag store ints is, sym tells ∙ none)
 
   pub flags_widen : (flags : _) (found : Option Flag) → store ≡ stores.Flags flags → found ≡ flag_of v → found ≡ None → Widens int integer flag flag_of (stored int flag store) v
-  flags_widen flags found is tells none = rw is (inr (record { strategy = refl; items = All-flags flag flags.items }, sym tells ∙ none))
+  flags_widen flags found is tells none = inr (flags_alone int flag store flags is, sym tells ∙ none)
+
+-- what is so where something was not done, is so where there was room besides
+pub with_room : {E : Type 0} (P Q : Type 0) (r : Result Bool E) → IfOk r (λ d. d ≡ false → P) → IfOk r (λ d. d ≡ false → Q → P)
+with_room P Q (Ok d) so = λ is room. so is
+with_room P Q (Err e) so = tt
 
 -- what holds anyway holds where there is an error
 pub always_err : {T E P : Type 0} (r : Result T E) → P → OnErr r P

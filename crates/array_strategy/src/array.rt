@@ -1,7 +1,7 @@
 //! The array.
 
 ghost use Rattle.std.specs.Prelude.{◌≡◌, ◌≢◌, ◌<◌, ◌≤◌, ◌+◌, ◌-◌, ◌++◌, ◌∷◌, [], length, take, drop, replicate, slice_get, IsTrue, All, ◌↔◌, None, Some, IsSome, IsSomeAnd, IfSome, IfOk, OnOk, OnErr, true, false};
-ghost use Rattle.array_strategy.specs.Elements.{HasItem, IsIntegerBy, IsSetAt, item_at, without_item, place_of, empty, of_items, pushed, unshifted, put_at, MayNeedMemory};
+ghost use Rattle.array_strategy.specs.Elements.{HasItem, IsFlags, IsIntegerBy, IsRaw, IsSetAt, item_at, without_item, place_of, empty, of_items, pushed, unshifted, put_at, MayNeedMemory};
 ghost use Rattle.array_strategy.specs.Storage.{seen};
 
 use crate::fault::PutFault;
@@ -181,7 +181,7 @@ impl<V: Item> LocalArray<V> {
     #[inline(always)]
     pub fn put_int(&mut self, index: i64, n: i64) -> bool
         ensures done { result ≡ true → IsSetAt self.old.items index (V.int n) self.new.items }
-        ensures there { self.old.strategy ≡ Strategy.Ints → HasItem self.old.items index → result ≡ true }
+        ensures refused { result ≡ false → HasItem self.old.items index → IsFlags V.flag self.old }
         ensures bound { length self.old.items ≤ MAX_LEN }
         ensures strategy { self.new.strategy ≡ self.old.strategy }
         ensures kept { result ≡ false → self.new ≡ self.old }
@@ -194,12 +194,46 @@ impl<V: Item> LocalArray<V> {
     #[inline(always)]
     pub fn put_flag(&mut self, index: i64, flag: Flag) -> bool
         ensures done { result ≡ true → IsSetAt self.old.items index (V.flag flag) self.new.items }
-        ensures there { self.old.strategy ≡ Strategy.Anys → HasItem self.old.items index → result ≡ true }
+        ensures refused { result ≡ false → HasItem self.old.items index → IsRaw V.int self.old }
+        ensures never { result ≡ true → self.old.strategy ≡ Strategy.Anys }
         ensures bound { length self.old.items ≤ MAX_LEN }
         ensures strategy { self.new.strategy ≡ self.old.strategy }
         ensures kept { result ≡ false → self.new ≡ self.old }
     {
         self.store.put_flag(index, flag)
+    }
+
+    /// Puts the item of an integer behind the last. It is done where there is room for one more, unless the array holds a byte for each item.
+    /// Else nothing is done.
+    #[inline(always)]
+    pub fn push_int(&mut self, n: i64) -> Result<bool, AllocError>
+        ensures done { IfOk result (λ done. done ≡ true → self.new ≡ pushed V.integer self.old (V.int n)) }
+        ensures room { IfOk result (λ done. done ≡ true → length self.old.items < MAX_LEN) }
+        ensures refused { IfOk result (λ done. done ≡ false → length self.old.items < MAX_LEN → IsFlags V.flag self.old) }
+        ensures kept { IfOk result (λ done. done ≡ false → self.new ≡ self.old) }
+        ensures err { OnErr result (self.new ≡ self.old) }
+    {
+        if self.len() == MAX_LEN {
+            return Ok(false);
+        }
+        self.store.push_int(self.alloc, n)
+    }
+
+    /// Puts the item of a flag behind the last. It is done where there is room for one more, unless the array holds raw integers. Else
+    /// nothing is done.
+    #[inline(always)]
+    pub fn push_flag(&mut self, flag: Flag) -> Result<bool, AllocError>
+        ensures done { IfOk result (λ done. done ≡ true → self.new ≡ pushed V.integer self.old (V.flag flag)) }
+        ensures room { IfOk result (λ done. done ≡ true → length self.old.items < MAX_LEN) }
+        ensures refused { IfOk result (λ done. done ≡ false → length self.old.items < MAX_LEN → IsRaw V.int self.old) }
+        ensures never { IfOk result (λ done. done ≡ true → self.old.strategy ≢ Strategy.Ints) }
+        ensures kept { IfOk result (λ done. done ≡ false → self.new ≡ self.old) }
+        ensures err { OnErr result (self.new ≡ self.old) }
+    {
+        if self.len() == MAX_LEN {
+            return Ok(false);
+        }
+        self.store.push_flag(self.alloc, flag)
     }
 
     /// Puts an item behind the last.

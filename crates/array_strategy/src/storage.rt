@@ -1,6 +1,6 @@
 //! The storage of an array: nothing, raw integers, flags or any items.
 
-ghost use Rattle.std.specs.Prelude.{◌≡◌, ◌<◌, ◌≤◌, ◌+◌, ◌-◌, ◌^◌, ◌++◌, ◌∷◌, [], length, map, take, drop, replicate, slice_get, All, IsSome, IsSomeAnd, IfSome, IfOk, OnOk, OnErr, None, true, false};
+ghost use Rattle.std.specs.Prelude.{◌≡◌, ◌≢◌, ◌<◌, ◌≤◌, ◌+◌, ◌-◌, ◌^◌, ◌++◌, ◌∷◌, [], length, map, take, drop, replicate, slice_get, All, IsSome, IsSomeAnd, IfSome, IfOk, OnOk, OnErr, None, true, false};
 ghost use Rattle.std.specs.List.{remove};
 
 use crate::flags::{are_flags, narrowed_flags, push_flags, told_flags, widened_flags};
@@ -44,7 +44,7 @@ pub enum Peeked<'a, V> {
 
 impl<V: Item> Store<V> {
     ghost use Rattle.array_strategy.specs.Storage.{stored, seen, replaced, filled};
-    ghost use Rattle.array_strategy.specs.Elements.{HasItem, IsIntegerBy, IsSetAt, Widens, empty, of_items, pushed, unshifted};
+    ghost use Rattle.array_strategy.specs.Elements.{HasItem, IsFlags, IsIntegerBy, IsRaw, IsSetAt, Widens, empty, of_items, pushed, unshifted};
 
     /// The storage of these items.
     pub(crate) fn of_vec(alloc: Global, items: Vec<V>) -> Result<Store<V>, AllocError>
@@ -274,7 +274,7 @@ impl<V: Item> Store<V> {
     #[inline(always)]
     pub(crate) fn put_int(&mut self, index: i64, n: i64) -> bool
         ensures done { result ≡ true → IsSetAt (stored V.int V.flag self.old).items index (V.int n) (stored V.int V.flag self.new).items }
-        ensures there { (stored V.int V.flag self.old).strategy ≡ Strategy.Ints → HasItem (stored V.int V.flag self.old).items index → result ≡ true }
+        ensures refused { result ≡ false → HasItem (stored V.int V.flag self.old).items index → IsFlags V.flag (stored V.int V.flag self.old) }
         ensures strategy { (stored V.int V.flag self.new).strategy ≡ (stored V.int V.flag self.old).strategy }
         ensures kept { result ≡ false → stored V.int V.flag self.new ≡ stored V.int V.flag self.old }
     {
@@ -291,7 +291,8 @@ impl<V: Item> Store<V> {
     #[inline(always)]
     pub(crate) fn put_flag(&mut self, index: i64, flag: Flag) -> bool
         ensures done { result ≡ true → IsSetAt (stored V.int V.flag self.old).items index (V.flag flag) (stored V.int V.flag self.new).items }
-        ensures there { (stored V.int V.flag self.old).strategy ≡ Strategy.Anys → HasItem (stored V.int V.flag self.old).items index → result ≡ true }
+        ensures refused { result ≡ false → HasItem (stored V.int V.flag self.old).items index → IsRaw V.int (stored V.int V.flag self.old) }
+        ensures never { result ≡ true → (stored V.int V.flag self.old).strategy ≡ Strategy.Anys }
         ensures strategy { (stored V.int V.flag self.new).strategy ≡ (stored V.int V.flag self.old).strategy }
         ensures kept { result ≡ false → stored V.int V.flag self.new ≡ stored V.int V.flag self.old }
     {
@@ -300,6 +301,57 @@ impl<V: Item> Store<V> {
             Store::Ints(_) => false,
             Store::Flags(flags) => set_at(flags, index, flag),
             Store::Anys(anys) => set_at(anys, index, V::of_flag(flag)),
+        }
+    }
+
+    /// Puts the item of an integer behind the last, unless each is a flag in a byte.
+    #[inline(always)]
+    pub(crate) fn push_int(&mut self, alloc: Global, n: i64) -> Result<bool, AllocError>
+        ensures done { IfOk result (λ done. done ≡ true → stored V.int V.flag self.new ≡ pushed V.integer (stored V.int V.flag self.old) (V.int n)) }
+        ensures refused { IfOk result (λ done. done ≡ false → IsFlags V.flag (stored V.int V.flag self.old)) }
+        ensures kept { IfOk result (λ done. done ≡ false → stored V.int V.flag self.new ≡ stored V.int V.flag self.old) }
+        ensures err { OnErr result (stored V.int V.flag self.new ≡ stored V.int V.flag self.old) }
+    {
+        match self {
+            Store::Empty => {
+                *self = Store::of_one(alloc, V::of_int(n))?;
+                Ok(true)
+            }
+            Store::Ints(ints) => {
+                ints.push_back(n)?;
+                Ok(true)
+            }
+            Store::Flags(_) => Ok(false),
+            Store::Anys(anys) => {
+                anys.push_back(V::of_int(n))?;
+                Ok(true)
+            }
+        }
+    }
+
+    /// Puts the item of a flag behind the last, unless integers are held raw.
+    #[inline(always)]
+    pub(crate) fn push_flag(&mut self, alloc: Global, flag: Flag) -> Result<bool, AllocError>
+        ensures done { IfOk result (λ done. done ≡ true → stored V.int V.flag self.new ≡ pushed V.integer (stored V.int V.flag self.old) (V.flag flag)) }
+        ensures refused { IfOk result (λ done. done ≡ false → IsRaw V.int (stored V.int V.flag self.old)) }
+        ensures never { IfOk result (λ done. done ≡ true → (stored V.int V.flag self.old).strategy ≢ Strategy.Ints) }
+        ensures kept { IfOk result (λ done. done ≡ false → stored V.int V.flag self.new ≡ stored V.int V.flag self.old) }
+        ensures err { OnErr result (stored V.int V.flag self.new ≡ stored V.int V.flag self.old) }
+    {
+        match self {
+            Store::Empty => {
+                *self = Store::of_one(alloc, V::of_flag(flag))?;
+                Ok(true)
+            }
+            Store::Ints(_) => Ok(false),
+            Store::Flags(flags) => {
+                flags.push_back(flag)?;
+                Ok(true)
+            }
+            Store::Anys(anys) => {
+                anys.push_back(V::of_flag(flag))?;
+                Ok(true)
+            }
         }
     }
 

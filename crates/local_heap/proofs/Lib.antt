@@ -1,5 +1,6 @@
 pub mod Listing
 pub mod Writes
+pub mod AtOnce
 pub mod Limits
 pub mod Inverse
 pub mod Slotted

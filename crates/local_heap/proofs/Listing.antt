@@ -81,18 +81,24 @@ module _ (xs : List Held) where
       let none : drop (suc (suc n - 1)) vs ≡ [] = drop_all (suc (suc n - 1)) vs (omega (arith, e)) in
       rw (some, none) (sym (append-nil (take (suc n - 1) vs)))
 
+  pub rest_popped : (ys : List Held) → ys ≡ take (length xs - 1) xs → Elements (map plain ys) ≡ becomes (Elements vs) Pop
+  rest_popped ys rest = ap Elements (ap (map plain) rest ∙ sym (take-map plain (length xs - 1) xs) ∙ ap (λ n. take (n - 1) vs) (sym as_long) ∙ without_last (length vs) refl)
+
+  pub rest_shifted : (ys : List Held) → ys ≡ drop 1 xs → Elements (map plain ys) ≡ becomes (Elements vs) Shift
+  rest_shifted ys rest = ap Elements (ap (map plain) rest ∙ sym (drop-map plain 1 xs))
+
   pub popped : (found : Option Held) (value : Held) (ys : List Held) → found ≡ slice_get xs (length xs - 1) → plain value ≡ or_nil (option_map plain found) → ys ≡ take (length xs - 1) xs
       → (reply.Value (plain value) ≡ gives (Elements vs) Pop) × (Elements (map plain ys) ≡ becomes (Elements vs) Pop)
   popped found value ys taken is rest = (
     ap reply.Value (is ∙ ap (λ o. or_nil (option_map plain o)) taken ∙ got (length xs - 1) ∙ ap (λ n. element vs (Some (n - 1))) (sym as_long) ∙ last_of (length vs) refl),
-    ap Elements (ap (map plain) rest ∙ sym (take-map plain (length xs - 1) xs) ∙ ap (λ n. take (n - 1) vs) (sym as_long) ∙ without_last (length vs) refl),
+    rest_popped ys rest,
   )
 
   pub shifted : (found : Option Held) (value : Held) (ys : List Held) → found ≡ slice_get xs 0 → plain value ≡ or_nil (option_map plain found) → ys ≡ drop 1 xs
       → (reply.Value (plain value) ≡ gives (Elements vs) Shift) × (Elements (map plain ys) ≡ becomes (Elements vs) Shift)
   shifted found value ys taken is rest = (
     ap reply.Value (is ∙ ap (λ o. or_nil (option_map plain o)) taken ∙ got 0),
-    ap Elements (ap (map plain) rest ∙ sym (drop-map plain 1 xs)),
+    rest_shifted ys rest,
   )
 
 -- ---- a read

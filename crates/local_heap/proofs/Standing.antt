@@ -1,26 +1,27 @@
 -- A heap before and behind an act on a list or a hash, and before and behind a new one.
 use Rattle.std.proofs.Common.{◌≡◌, ℕ, zero, suc, ◌==◌, cond, Bool, true, false, List, [], ◌∷◌, ◌++◌, map, get_or, set, Option, Some, None, inl, refl, ap, sym, ◌∙◌, subst, arith}
-use Rattle.std.specs.Prelude.{◌<◌, length, is_some, slice_get, option_and_then, ℤ, pos, IsSome, IfSome, IsSomeAnd, Result, Ok, Err, IfOk, IsOkAnd, OnOk, OnErr}
+use Rattle.std.specs.Prelude.{◌<◌, ◌≤◌, length, is_some, slice_get, option_and_then, ℤ, pos, IsSome, IfSome, IsSomeAnd, Result, Ok, Err, IfOk, IsOkAnd, OnOk, OnErr}
 use Rattle.std.specs.Option.{option_map}
 use Rattle.std.proofs.lemmas.Bool.Decides.{nat_tests}
 use Rattle.std.proofs.lemmas.List.{map_push, map-set, set-get_or}
-use Rattle.std.proofs.lemmas.Option.{slice_get_read}
+use Rattle.std.proofs.lemmas.Option.{slice_get_past, slice_get_read}
 use Rattle.rb_tree.specs.declared.span.NameId.{NameId}
 use Rattle.rb_model.specs.declared.act.Reply.{Reply as Answered}
-use Rattle.rb_model.specs.declared.act.Reply.TheVariants as answered
 use Rattle.rb_model.specs.declared.immediate.Immediate.{Immediate}
 use Rattle.rb_model.specs.declared.immediate.Immediate.TheVariants as immediate
 use Rattle.rb_model.specs.declared.value.Id.{Id}
 use Rattle.rb_model.specs.declared.value.Value.{Value as Held}
 use Rattle.rb_model.specs.Values.{Value as Val, Int, plain}
 use Rattle.rb_model.specs.declared.fault.Fault.TheVariants.{NoMethod}
-use Rattle.rb_model.specs.Acts.{Act, Reply, At, Done, GetField, KGet, Len, Put, SetField}
+use Rattle.rb_model.specs.Acts.{Act, Reply, At, Done, GetField, KGet, Len, SetField}
 use Rattle.rb_model.specs.Acts as reply
 use Rattle.rb_model.specs.Doing.{said}
 use Rattle.rb_model.specs.Things.{Thing, Field, becomes, becomes_by, field, gives, gives_to}
 use Rattle.rb_model.specs.Things as thing
 use Rattle.rb_model.specs.Paths.{shape_behind, shape_made}
-use Rattle.rb_model.specs.Immediates.{list_answered, told, told_answer}
+use Rattle.rb_model.specs.declared.act.Side.{Side}
+use Rattle.rb_model.specs.declared.act.Side.TheVariants as sides
+use Rattle.rb_model.specs.Immediates.{list_answered, taking, told, told_answer}
 use Rattle.rb_model.specs.Private.{Becomes, Gives, Private, changed, entered, held, or_none, shape_held, with_shape_of}
 use Rattle.rb_model.specs.Private as private
 use Rattle.shape_core.specs.Shape.{Shape}
@@ -29,11 +30,11 @@ use Rattle.array_strategy.specs.Elements.{Elements as Stored}
 use Rattle.local_heap.specs.declared.cells.Cell.{Cell}
 use Rattle.local_heap.specs.declared.cells.Cell.TheVariants as cell
 use Rattle.local_heap.specs.declared.object.Object.{Object}
-use Rattle.local_heap.specs.Contents.{Does, DoesPut, has_length, is_list, is_of_field, listed}
+use Rattle.local_heap.specs.Contents.{Does, DoesWrite, has_length, is_list, is_of_field, listed}
 use Rattle.local_heap.specs.Limits.{IsWithin, IsWithinAt}
-use Rattle.local_heap.specs.Memory.{MayWant, may_want}
+use Rattle.local_heap.specs.Memory.{MayWant, NotAtOnce, at_once, may_want}
 use Rattle.local_heap.specs.Slots.{Home}
-use Rattle.local_heap.specs.Cells.{AreSound, CellDoes, CellPuts, IsCell, IsContents, IsKnown, cell_at, contents, fields_in, home_by, private_by, shape_in, shaped_in, still, thing_in}
+use Rattle.local_heap.specs.Cells.{AreSound, CellDoes, CellRefuses, CellTakes, CellWrites, IsCell, IsContents, IsKnown, cell_at, contents, fields_in, home_by, private_by, shape_in, shaped_in, still, thing_in}
 use Rattle.local_heap.proofs.Acting.{AreWhole, private_now}
 use Rattle.local_heap.proofs.Cellwise.{Grows, Holds, all_at, all_push, all_set, held_cell, holds_more, read_at, shaped_there, sound_all, stays_grown, things_keep}
 use Rattle.local_heap.proofs.Limits.{stays_within}
@@ -588,7 +589,7 @@ module _ (thread : ℕ) (shapes : List Shape) (cells : List Cell) (h : Private) 
     pub wants_there : (act : Act) (c : Cell) → found ≡ Some c → IsSomeAnd (contents c) (λ t. may_want t act ≡ true) → MayWant h id act
     wants_there act c at e = λ x held_x. so_there (λ t. may_want t act ≡ true) c at e x held_x
 
-  -- ---- an element that is given a value
+  -- ---- a list that gains, changes or loses an element
 
   -- the cell of a serial number that is there is that of its id
   pub cell_there : (id : Id) (c : Cell) → id.thread ≡ thread → id.serial < length cells → c ≡ get_or cells id.serial c → Some c ≡ cell_at thread cells id
@@ -596,20 +597,44 @@ module _ (thread : ℕ) (shapes : List Shape) (cells : List Cell) (h : Private) 
       let own : (id.thread == thread) ≡ true = grind (arith, nat_tests) in
       rw own (sym (slice_get_read cells (length cells) id.serial c refl within read))
 
-  module _ (id : Id) (c : Cell) (is_found : Some c ≡ cell_at thread cells id) (read : c ≡ get_or cells id.serial c) (c' : Cell) (i : ℤ) (value : Option Val) (done : Bool)
-      (puts : CellPuts done c i value c') where
-    abbrev cells_put : List Cell
-    cells_put = set cells id.serial c'
+  -- nothing is held by an id of another thread, or by a serial number that is not there
+  pub elsewhere : (id : Id) → (id.thread ≡ thread → ⊥) → held h id ≡ None
+  elsewhere id other =
+      let not_own : (id.thread == thread) ≡ false = grind (arith, nat_tests) in
+      none_there id None (rw not_own refl) refl
 
-    abbrev after : Private
-    after = private_now thread shapes cells_put
+  pub beyond : (id : Id) → length cells ≤ id.serial → held h id ≡ None
+  beyond id past = none_there id None (by (id.thread == thread)) refl
+    where
+      by : (b : Bool) → None ≡ cond b (slice_get cells id.serial) None
+      by true = sym (slice_get_past cells id.serial past)
+      by false = refl
 
-    -- the answer of an act that was done
-    abbrev was_done : Result Answered Unit
-    was_done = Ok answered.Done
+  -- what is not held need not be done
+  pub not_held : (id : Id) (act : Act) → held h id ≡ None → NotAtOnce h id act
+  not_held id act none x e = absurd (let wrong : None ≡ Some x = sym none ∙ e in cc)
 
-    cells_same : c' ≡ c → cells_put ≡ cells
-    cells_same e = ap (set cells id.serial) (e ∙ read) ∙ set-get_or cells id.serial c
+  module _ (id : Id) (c : Cell) (is_found : Some c ≡ cell_at thread cells id) (read : c ≡ get_or cells id.serial c) where
+    -- what the cell may refuse may be refused
+    pub refused_there : (act : Act) → CellRefuses c act → NotAtOnce h id act
+    refused_there act refuses x e = by c refuses (sym (held_there id (Some c) is_found) ∙ e)
+      where
+        by : (d : Cell) → CellRefuses d act → still shapes home d ≡ Some x → at_once x act ≡ false
+        by cell.Empty refuse at = absurd (let wrong : None ≡ Some x = at in cc)
+        by (cell.Object o) refuse at = subst (λ (t : Thing). at_once t act ≡ false) (same_thing (thing_in shapes home o) x at) refl
+        by (cell.List list) refuse at = subst (λ (t : Thing). at_once t act ≡ false) (same_thing (listed list) x at) refuse
+        by (cell.Pairs pairs) refuse at = subst (λ (t : Thing). at_once t act ≡ false) (same_thing (thing.Pairs pairs) x at) refl
+
+    -- what is told of what is taken out of the cell is told of what is held
+    pub taken_told_there : (side : Side) → told_answer (contents c) (taking side) ≡ told_answer (held h id) (taking side)
+    taken_told_there side = by c side ∙ ap (λ o. told_answer o (taking side)) (sym (held_there id (Some c) is_found))
+      where
+        by : (d : Cell) (s : Side) → told_answer (contents d) (taking s) ≡ told_answer (still shapes home d) (taking s)
+        by cell.Empty s = refl
+        by (cell.Object o) sides.First = refl
+        by (cell.Object o) sides.Last = refl
+        by (cell.List list) s = refl
+        by (cell.Pairs pairs) s = refl
 
     list_held : (list : Stored Held) → c ≡ cell.List list → held h id ≡ Some (listed list)
     list_held list at = held_there id (Some c) is_found ∙ ap (still shapes home) at
@@ -621,65 +646,131 @@ module _ (thread : ℕ) (shapes : List Shape) (cells : List Cell) (h : Private) 
         by None e = absurd (cc)
         by (Some u) e = refl
 
-    -- where it is said to be done the cell has a list
-    module _ (P : Type 0) (is_done : done ≡ true)
-        (of_list : (v : Val) (list : Stored Held) → value ≡ Some v → c ≡ cell.List list → (later : Thing) → contents c' ≡ Some later → Does (listed list) (Put i v) was_done later → P) where
-      where_done : P
-      where_done = by c refl (subst (λ d. CellPuts d c i value c') is_done puts)
-        where
-          listing : (v : Option Val) (list : Stored Held) → value ≡ v → c ≡ cell.List list → (later : Thing) → contents c' ≡ Some later → DoesPut true (listed list) i v later → P
-          listing None list told at later now e = absurd e
-          listing (Some v) list told at later now e = of_list v list told at later now e
+    module _ (c' : Cell) where
+      abbrev cells_put : List Cell
+      cells_put = set cells id.serial c'
 
-          by : (k : Cell) → c ≡ k → CellPuts true k i value c' → P
-          by cell.Empty at p = absurd (let e = p.1 in cc)
-          by (cell.Object o) at p = absurd (let e = p.1 in cc)
-          by (cell.List list) at p = listing value list refl at p.0 p.1 p.2
-          by (cell.Pairs pairs) at p = absurd (let e = p.1 in cc)
+      abbrev after : Private
+      after = private_now thread shapes cells_put
 
-    pub put_there : done ≡ true → is_some (held h id) ≡ true
-    put_there is_done = where_done (is_some (held h id) ≡ true) is_done (λ v list told at later now does. ap is_some (list_held list at))
+      cells_same : c' ≡ c → cells_put ≡ cells
+      cells_same e = ap (set cells id.serial) (e ∙ read) ∙ set-get_or cells id.serial c
 
-    pub put_told : done ≡ true → is_some value ≡ true
-    put_told is_done = where_done (is_some value ≡ true) is_done (λ v list told at later now does. ap is_some told)
+      same_whole : c' ≡ c → AreWhole thread shapes cells_put
+      same_whole e = subst (AreWhole thread shapes) (sym (cells_same e)) whole
 
-    pub put_gives : done ≡ true → IfSome value (λ v. Gives h id (Put i v) Done)
-    put_gives is_done =
-        where_done (IfSome value (λ v. Gives h id (Put i v) Done)) is_done
-        (λ v list told at later now does.
-        rw told (done_reply id (list_here list at) c read c' (listed list) later (ap contents at) now (Put i v) was_done does))
+      same_private : c' ≡ c → after ≡ h
+      same_private e = ap (private_now thread shapes) (cells_same e) ∙ is
 
-    pub put_private : done ≡ true → IfSome value (λ v. Becomes h id (Put i v) after)
-    put_private is_done =
-        where_done (IfSome value (λ v. Becomes h id (Put i v) after)) is_done
-        (λ v list told at later now does.
-        rw told (done_private id (list_here list at) c read c' (listed list) later (ap contents at) now (Put i v) was_done does))
+      -- a list that is what it was
+      list_whole : (list : Stored Held) → c ≡ cell.List list → (later : Thing) → contents c' ≡ Some later → later ≡ listed list → AreWhole thread shapes cells_put
+      list_whole list at later now same =
+          let fits : IsWithin later = subst IsWithin (sym same) (is_within id (list_here list at) c read (listed list) (ap contents at)) in
+          contents_cells id (list_here list at) c read c' (listed list) later (ap contents at) now fits
 
-    pub put_kept : done ≡ false → after ≡ h
-    put_kept not_done = by c refl (subst (λ d. CellPuts d c i value c') not_done puts)
-      where
-        by : (k : Cell) → c ≡ k → CellPuts false k i value c' → after ≡ h
-        by cell.Empty at p = ap (private_now thread shapes) (cells_same (p.0 ∙ sym at)) ∙ is
-        by (cell.Object o) at p = ap (private_now thread shapes) (cells_same (p.0 ∙ sym at)) ∙ is
-        by (cell.List list) at p = contents_left id (list_here list at) c read c' (listed list) p.0 (ap contents at) p.1 p.2
-        by (cell.Pairs pairs) at p = ap (private_now thread shapes) (cells_same (p.0 ∙ sym at)) ∙ is
+      list_left : (list : Stored Held) → c ≡ cell.List list → (later : Thing) → contents c' ≡ Some later → later ≡ listed list → after ≡ h
+      list_left list at later now same = contents_left id (list_here list at) c read c' (listed list) later (ap contents at) now same
 
-    pub put_whole : AreWhole thread shapes cells_put
-    put_whole = or_not done refl
-      where
-        by : (k : Cell) → c ≡ k → CellPuts false k i value c' → AreWhole thread shapes cells_put
-        by cell.Empty at p = subst (AreWhole thread shapes) (sym (cells_same (p.0 ∙ sym at))) whole
-        by (cell.Object o) at p = subst (AreWhole thread shapes) (sym (cells_same (p.0 ∙ sym at))) whole
-        by (cell.List list) at p =
-            let fits : IsWithin p.0 = subst IsWithin (sym p.2) (is_within id (list_here list at) c read (listed list) (ap contents at)) in
-            contents_cells id (list_here list at) c read c' (listed list) p.0 (ap contents at) p.1 fits
-        by (cell.Pairs pairs) at p = subst (AreWhole thread shapes) (sym (cells_same (p.0 ∙ sym at))) whole
+      -- a list behind an act
+      acted_whole : (list : Stored Held) → c ≡ cell.List list → (later : Thing) → contents c' ≡ Some later → (act : Act) → later ≡ becomes (listed list) act → AreWhole thread shapes cells_put
+      acted_whole list at later now act become =
+          let fits : IsWithin later = subst IsWithin (sym become) (stays_within (listed list) act (is_within id (list_here list at) c read (listed list) (ap contents at))) in
+          contents_cells id (list_here list at) c read c' (listed list) later (ap contents at) now fits
 
-        or_not : (d : Bool) → done ≡ d → AreWhole thread shapes cells_put
-        or_not true is_done =
-            where_done (AreWhole thread shapes cells_put) is_done
-            (λ v list told at later now does. done_cells id (list_here list at) c read c' (listed list) later (ap contents at) now (Put i v) was_done does)
-        or_not false not_done = by c refl (subst (λ d. CellPuts d c i value c') not_done puts)
+      acted_private : (list : Stored Held) → c ≡ cell.List list → (later : Thing) → contents c' ≡ Some later → (act : Act) → later ≡ becomes (listed list) act → Becomes h id act after
+      acted_private list at later now act become = contents_acted id (list_here list at) c read c' (listed list) later (ap contents at) now act become
+
+      -- ---- a write of a value
+
+      module _ (act : Val → Act) (value : Option Val) (done : Bool) (writes : CellWrites done c act value c') where
+        -- where it is said to be done the cell has a list
+        module _ (P : Type 0) (is_done : done ≡ true)
+            (of_list : (v : Val) (list : Stored Held) → value ≡ Some v → c ≡ cell.List list → (later : Thing) → contents c' ≡ Some later
+            → (Done ≡ gives (listed list) (act v)) × (later ≡ becomes (listed list) (act v)) → P) where
+          where_done : P
+          where_done = by c refl (subst (λ d. CellWrites d c act value c') is_done writes)
+            where
+              listing : (v : Option Val) (list : Stored Held) → value ≡ v → c ≡ cell.List list → (later : Thing) → contents c' ≡ Some later → DoesWrite true (listed list) act v later → P
+              listing None list told at later now e = absurd e
+              listing (Some v) list told at later now e = of_list v list told at later now e
+
+              by : (k : Cell) → c ≡ k → CellWrites true k act value c' → P
+              by cell.Empty at p = absurd (let e = p.1 in cc)
+              by (cell.Object o) at p = absurd (let e = p.1 in cc)
+              by (cell.List list) at p = listing value list refl at p.0 p.1 p.2
+              by (cell.Pairs pairs) at p = absurd (let e = p.1 in cc)
+
+        pub write_there : done ≡ true → is_some (held h id) ≡ true
+        write_there is_done = where_done (is_some (held h id) ≡ true) is_done (λ v list told at later now does. ap is_some (list_held list at))
+
+        pub write_told : done ≡ true → is_some value ≡ true
+        write_told is_done = where_done (is_some value ≡ true) is_done (λ v list told at later now does. ap is_some told)
+
+        pub write_gives : done ≡ true → IfSome value (λ v. Gives h id (act v) Done)
+        write_gives is_done =
+            where_done (IfSome value (λ v. Gives h id (act v) Done)) is_done
+            (λ v list told at later now does.
+            rw told (λ x e. does.0 ∙ (sym (gives_alike c (listed list) (ap contents at) h.thread (act v)) ∙ ap (λ (t : Thing). gives_to h.thread t (act v)) (is_thing id (list_here list at) c read (listed list) (ap contents at) x e))))
+
+        pub write_private : done ≡ true → IfSome value (λ v. Becomes h id (act v) after)
+        write_private is_done =
+            where_done (IfSome value (λ v. Becomes h id (act v) after)) is_done
+            (λ v list told at later now does. rw told (acted_private list at later now (act v) does.1))
+
+        pub write_kept : done ≡ false → after ≡ h
+        write_kept not_done = by c refl (subst (λ d. CellWrites d c act value c') not_done writes)
+          where
+            by : (k : Cell) → c ≡ k → CellWrites false k act value c' → after ≡ h
+            by cell.Empty at p = same_private (p.0 ∙ sym at)
+            by (cell.Object o) at p = same_private (p.0 ∙ sym at)
+            by (cell.List list) at p = list_left list at p.0 p.1 p.2
+            by (cell.Pairs pairs) at p = same_private (p.0 ∙ sym at)
+
+        pub write_whole : AreWhole thread shapes cells_put
+        write_whole = or_not done refl
+          where
+            by : (k : Cell) → c ≡ k → CellWrites false k act value c' → AreWhole thread shapes cells_put
+            by cell.Empty at p = same_whole (p.0 ∙ sym at)
+            by (cell.Object o) at p = same_whole (p.0 ∙ sym at)
+            by (cell.List list) at p = list_whole list at p.0 p.1 p.2
+            by (cell.Pairs pairs) at p = same_whole (p.0 ∙ sym at)
+
+            or_not : (d : Bool) → done ≡ d → AreWhole thread shapes cells_put
+            or_not true is_done =
+                where_done (AreWhole thread shapes cells_put) is_done (λ v list told at later now does. acted_whole list at later now (act v) does.1)
+            or_not false not_done = by c refl (subst (λ d. CellWrites d c act value c') not_done writes)
+
+      -- ---- a value that is taken out
+
+      module _ (act : Act) where
+        pub take_whole : (value : Option Val) → CellTakes value c act c' → AreWhole thread shapes cells_put
+        take_whole value takes = by c refl value takes
+          where
+            by : (k : Cell) → c ≡ k → (v : Option Val) → CellTakes v k act c' → AreWhole thread shapes cells_put
+            by cell.Empty at v p = same_whole (p.0 ∙ sym at)
+            by (cell.Object o) at v p = same_whole (p.0 ∙ sym at)
+            by (cell.List list) at None p = list_whole list at p.0 p.1 p.2
+            by (cell.List list) at (Some v) p = acted_whole list at p.0 p.1 act p.2
+            by (cell.Pairs pairs) at v p = same_whole (p.0 ∙ sym at)
+
+        pub take_private : (value : Option Val) → CellTakes value c act c' → IfSome value (λ v. Becomes h id act after)
+        take_private None takes = tt
+        take_private (Some v) takes = by c refl takes
+          where
+            by : (k : Cell) → c ≡ k → CellTakes (Some v) k act c' → Becomes h id act after
+            by cell.Empty at p = absurd (let e = p.1 in cc)
+            by (cell.Object o) at p = absurd (let e = p.1 in cc)
+            by (cell.List list) at p = acted_private list at p.0 p.1 act p.2
+            by (cell.Pairs pairs) at p = absurd (let e = p.1 in cc)
+
+        pub take_kept : CellTakes None c act c' → after ≡ h
+        take_kept takes = by c refl takes
+          where
+            by : (k : Cell) → c ≡ k → CellTakes None k act c' → after ≡ h
+            by cell.Empty at p = same_private (p.0 ∙ sym at)
+            by (cell.Object o) at p = same_private (p.0 ∙ sym at)
+            by (cell.List list) at p = list_left list at p.0 p.1 p.2
+            by (cell.Pairs pairs) at p = same_private (p.0 ∙ sym at)
 
   -- a read of a field, of an element or of a key, and a count, leave the heap as it was
   pub fields_only : (id : Id) (name : NameId) → Becomes h id (GetField name) h

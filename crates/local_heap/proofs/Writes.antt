@@ -21,7 +21,7 @@ use Rattle.rb_model.specs.Doing.{said}
 use Rattle.rb_model.specs.Acts.{Done, Push, Put, Unshift}
 use Rattle.rb_model.specs.Things.{Elements, becomes, gives, has_room, index_of, is_integer, put_reply, put, with_element}
 use Rattle.local_heap.specs.Memory.{is_flag, put_wants, widens}
-use Rattle.local_heap.specs.Contents.{Does, DoesPut, Tells, listed}
+use Rattle.local_heap.specs.Contents.{Does, DoesWrite, Tells, listed}
 use Rattle.local_heap.proofs.Listing.{place_is, as_long}
 
 -- ---- one element more
@@ -124,7 +124,7 @@ or_true true = refl
 or_true false = refl
 
 -- a write within a list that was refused memory
-wider : (a : Stored Held) (v : Held) → Widens held.Int integer_in value_of flag_in a v → widens (map plain a.items) (plain v) ≡ true
+pub wider : (a : Stored Held) (v : Held) → Widens held.Int integer_in value_of flag_in a v → widens (map plain a.items) (plain v) ≡ true
 wider a v (inl (raw, other)) = rw (no_integer v other, all_integers a.items raw.items) refl
 wider a v (inr (flags, other)) = rw (no_flag v other, all_flags a.items flags.items) (or_true _)
 
@@ -206,6 +206,6 @@ module _ (a a' : Stored Held) (i : ℤ) (v : Held) (few : length a.items ≤ 167
           let there : nat_lt n (length before) ≡ true = lt-ltb n (length before) (subst (λ k. n < k) (sym (as_long a.items)) below) in
           rw (room, there) (refl, ap (λ ys. Elements (map plain ys)) e.1 ∙ ap Elements (map-set plain a.items n v))
 
-  pub does_set : (done : Bool) (value : Option Val) → value ≡ Some (plain v) → (done ≡ true → IsSetAt a.items i v a'.items) → (done ≡ false → a' ≡ a) → DoesPut done (listed a) i value (listed a')
+  pub does_set : (done : Bool) (value : Option Val) → value ≡ Some (plain v) → (done ≡ true → IsSetAt a.items i v a'.items) → (done ≡ false → a' ≡ a) → DoesWrite done (listed a) (Put i) value (listed a')
   does_set true value told set kept = rw told (sets_element (set refl))
   does_set false value told set kept = ap listed (kept refl)

@@ -1,5 +1,5 @@
 -- The private things as a heap keeps them.
-use Rattle.std.specs.Prelude.{◌≡◌, ℕ, ℤ, Bool, false, ◌<◌, ◌==◌, if◌then◌else◌, slice_get, List, map, length, Option, Some, None, Result, IsErr, IsOkAnd}
+use Rattle.std.specs.Prelude.{◌≡◌, ℕ, Bool, false, ◌<◌, ◌==◌, if◌then◌else◌, slice_get, List, map, length, Option, Some, None, Result, IfSome, IsErr, IsOkAnd}
 use Rattle.std.specs.Option.{option_map}
 use Rattle.std.specs.List.{AllByRecursion}
 use Rattle.rb_tree.specs.declared.span.NameId.{NameId}
@@ -20,7 +20,8 @@ use Rattle.local_heap.specs.declared.slot.Whose.{Whose}
 use Rattle.local_heap.specs.declared.cells.Cell.{Cell}
 use Rattle.local_heap.specs.declared.cells.Cell.TheVariants as cell
 use Rattle.local_heap.specs.declared.cells.Cells.{Cells}
-use Rattle.local_heap.specs.Contents.{Does, DoesPut, listed}
+use Rattle.local_heap.specs.Contents.{Does, DoesTake, DoesWrite, listed}
+use Rattle.local_heap.specs.Memory.{at_once}
 use Rattle.local_heap.specs.Limits.{IsWithin}
 use Rattle.local_heap.specs.Slots.{Home, IsOwnBy, slot_at}
 use Rattle.local_heap.specs.Fields.{AreWords, Wrote, fields_of}
@@ -94,12 +95,23 @@ CellDoes (cell.Object o) act result now = (now ≡ cell.Object o) × IsOkAnd res
 CellDoes (cell.List list) act result now = DoesWithin (listed list) act result now
 CellDoes (cell.Pairs pairs) act result now = DoesWithin (thing.Pairs pairs) act result now
 
--- Whether an element of what a cell has was given a value, and what the cell then has. Where it has no list, it was not.
-abbrev pub CellPuts : Bool → Cell → ℤ → Option Val → Cell → Type 0
-CellPuts done cell.Empty i value now = (now ≡ cell.Empty) × (done ≡ false)
-CellPuts done (cell.Object o) i value now = (now ≡ cell.Object o) × (done ≡ false)
-CellPuts done (cell.List list) i value now = (later : Thing) × (contents now ≡ Some later) × DoesPut done (listed list) i value later
-CellPuts done (cell.Pairs pairs) i value now = (now ≡ cell.Pairs pairs) × (done ≡ false)
+-- Whether a value was written to the list that a cell has, and what the cell then has. Where it has no list, it was not.
+abbrev pub CellWrites : Bool → Cell → (Val → Act) → Option Val → Cell → Type 0
+CellWrites done cell.Empty act value now = (now ≡ cell.Empty) × (done ≡ false)
+CellWrites done (cell.Object o) act value now = (now ≡ cell.Object o) × (done ≡ false)
+CellWrites done (cell.List list) act value now = (later : Thing) × (contents now ≡ Some later) × DoesWrite done (listed list) act value later
+CellWrites done (cell.Pairs pairs) act value now = (now ≡ cell.Pairs pairs) × (done ≡ false)
+
+-- what a cell has, where a value was taken out of its list
+abbrev pub CellTakes : Option Val → Cell → Act → Cell → Type 0
+CellTakes value cell.Empty act now = (now ≡ cell.Empty) × (value ≡ None)
+CellTakes value (cell.Object o) act now = (now ≡ cell.Object o) × (value ≡ None)
+CellTakes value (cell.List list) act now = (later : Thing) × (contents now ≡ Some later) × DoesTake value (listed list) act later
+CellTakes value (cell.Pairs pairs) act now = (now ≡ cell.Pairs pairs) × (value ≡ None)
+
+-- what a cell has is no thing to which an act is done at once
+abbrev pub CellRefuses : Cell → Act → Type 0
+CellRefuses cell act = IfSome (contents cell) (λ thing. at_once thing act ≡ false)
 
 abbrev pub still : List Shape → Home → Cell → Option Thing
 still shapes home cell.Empty = None

@@ -1,5 +1,5 @@
 -- What lists and hashes do by themselves.
-use Rattle.std.specs.Prelude.{◌≡◌, ℤ, Bool, true, false, map, Option, Some, IsSomeAnd, Result, Ok, Err}
+use Rattle.std.specs.Prelude.{◌≡◌, Bool, true, false, map, Option, Some, None, IsSomeAnd, Result, Ok, Err}
 use Rattle.array_strategy.specs.Elements.{Elements as Stored}
 use Rattle.array_strategy.specs.declared.fault.PutFault.{PutFault}
 use Rattle.array_strategy.specs.declared.fault.PutFault.TheVariants as fault
@@ -9,7 +9,7 @@ use Rattle.rb_model.specs.declared.act.Reply.{Reply as Answered}
 use Rattle.rb_model.specs.declared.fault.Fault.TheVariants.{IndexTooSmall, ArrayTooLong}
 use Rattle.rb_model.specs.declared.value.Value.{Value as Held}
 use Rattle.rb_model.specs.Values.{Value as Val, plain}
-use Rattle.rb_model.specs.Acts.{Act, GetField, Put, SetField, Done, Failed}
+use Rattle.rb_model.specs.Acts.{Act, GetField, SetField, Done, Failed}
 use Rattle.rb_model.specs.Doing.{said}
 use Rattle.rb_model.specs.Things.{Thing, Elements, Pairs, becomes, gives}
 use Rattle.local_heap.specs.Memory.{may_want}
@@ -38,10 +38,20 @@ abbrev pub Does : {E : Type 0} → Thing → Act → Result Answered E → Thing
 Does thing act (Ok reply) now = (said reply ≡ gives thing act) × (now ≡ becomes thing act)
 Does thing act (Err refused) now = (now ≡ thing) × (may_want thing act ≡ true)
 
--- Whether an element of a thing was given a value, and what the thing then is. Where it was not, the thing is what it was.
-abbrev pub DoesPut : Bool → Thing → ℤ → Option Val → Thing → Type 0
-DoesPut true thing i value now = IsSomeAnd value (λ v. (Done ≡ gives thing (Put i v)) × (now ≡ becomes thing (Put i v)))
-DoesPut false thing i value now = now ≡ thing
+-- Whether a write of a value to a thing was done, and what the thing then is. Where it was not, the thing is what it was.
+abbrev pub DoesWrite : Bool → Thing → (Val → Act) → Option Val → Thing → Type 0
+DoesWrite true thing act value now = IsSomeAnd value (λ v. (Done ≡ gives thing (act v)) × (now ≡ becomes thing (act v)))
+DoesWrite false thing act value now = now ≡ thing
+
+-- whether a write that may be refused memory was done
+abbrev pub was_done : {E : Type 0} → Result Bool E → Bool
+was_done (Ok done) = done
+was_done (Err refused) = false
+
+-- what a thing is behind an act that takes a value out, where it was done
+abbrev pub DoesTake : Option Val → Thing → Act → Thing → Type 0
+DoesTake None thing act now = now ≡ thing
+DoesTake (Some v) thing act now = now ≡ becomes thing act
 
 -- what is answered to a write that was refused
 abbrev pub Refuses : {E : Type 0} → PutFault → Result Answered E → Type 0

@@ -1,5 +1,6 @@
 -- Which acts may want memory.
-use Rattle.std.specs.Prelude.{◌≡◌, ◌==◌, ◌^◌, ◌&&◌, ◌||◌, ℕ, Bool, true, false, nat_lt, not, if◌then◌else◌, pos, negsuc, List, [], ◌∷◌, length, Option, Some, None}
+use Rattle.std.specs.Prelude.{◌≡◌, ◌==◌, ◌^◌, ◌&&◌, ◌||◌, ℕ, Bool, true, false, nat_lt, not, if◌then◌else◌, ℤ, ◌+ℤ◌, pos, negsuc, FitsSigned, List, [], ◌∷◌, length, Option, Some, None}
+use Rattle.std.specs.Int.{w64}
 use Rattle.std.specs.List.{list_all}
 use Rattle.rb_tree.specs.declared.span.NameId.{NameId}
 use Rattle.rb_model.specs.Values.{Value as Val, Nil, False, True, Int, Str, To, is_text}
@@ -44,6 +45,22 @@ abbrev pub put_wants : List Val → Option ℕ → Val → Bool
 put_wants vs None v = false
 put_wants vs (Some n) v = nat_lt n max_elements && (not (nat_lt n (length vs)) || widens vs v)
 
+abbrev pub has_element : ℕ → Option ℕ → Bool
+has_element count None = false
+has_element count (Some n) = nat_lt n count
+
+-- A write of an immediate value that is done at once, and wants no memory but for room: the list has the element, or may have one more, and
+-- the value does not widen it.
+abbrev pub at_once : Thing → Act → Bool
+at_once (Elements vs) (Put i v) = has_element (length vs) (index_of (length vs) i) && not (widens vs v)
+at_once (Elements vs) (Push v) = has_room (length vs) && not (widens vs v)
+at_once thing act = false
+
+-- A sum of a field and an integer that is made at once: the field is there, nothing but integers was written to it, and the sum has 64 bits.
+abbrev pub HasSum : Thing → NameId → ℤ → Type 0
+HasSum (Object class fs) name n = (wide_on name fs ≡ Some false) × (m : ℤ) × (field name fs ≡ Int m) × FitsSigned w64 (m +ℤ n)
+HasSum thing name n = ⊥
+
 -- An act that may want memory. A read wants none but where as many own a text as can be counted. What takes out, counts or clears wants
 -- none, and neither does what is refused.
 abbrev pub may_want : Thing → Act → Bool
@@ -62,3 +79,7 @@ may_want thing act = false
 -- the same of the thing of an id
 abbrev pub MayWant : Private → Id → Act → Type 0
 MayWant h id act = (thing : Thing) → held h id ≡ Some thing → may_want thing act ≡ true
+
+-- what an id has is no thing to which an act is done at once
+abbrev pub NotAtOnce : Private → Id → Act → Type 0
+NotAtOnce h id act = (thing : Thing) → held h id ≡ Some thing → at_once thing act ≡ false

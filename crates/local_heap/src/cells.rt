@@ -1,19 +1,19 @@
 // The things of a heap by serial number.
 
-ghost use Rattle.std.specs.Prelude.{◌≡◌, ◌<◌, length, is_some, pos, IfSome, IsSomeAnd, IfOk, OnErr, true};
+ghost use Rattle.std.specs.Prelude.{◌≡◌, ◌<◌, length, is_some, pos, IfSome, IsSomeAnd, IfOk, OnErr, true, false};
 ghost use Rattle.std.specs.Option.{option_copied, option_map};
 ghost use Rattle.rb_model.specs.Values.{Int, is_text, plain};
-ghost use Rattle.rb_model.specs.Acts.{At, KGet, Len};
+ghost use Rattle.rb_model.specs.Acts.{At, KGet, Len, Push, Put};
 ghost use Rattle.rb_model.specs.Acts as answer;
 ghost use Rattle.rb_model.specs.Doing.{doing, said};
 ghost use Rattle.rb_model.specs.Things.{field, gives};
-ghost use Rattle.rb_model.specs.Immediates.{list_answered, reference, told, told_answer, value_told};
+ghost use Rattle.rb_model.specs.Immediates.{list_answered, reference, taking, told, told_answer, value_told};
 ghost use Rattle.local_heap.specs.Memory.{may_want};
-ghost use Rattle.local_heap.specs.Contents.{has_length, is_list};
+ghost use Rattle.local_heap.specs.Contents.{has_length, is_list, was_done};
 ghost use Rattle.local_heap.specs.Slots.{IsOwnBy, IsWord, class_at, meaning, own, slot_at};
 ghost use Rattle.local_heap.specs.Words.{any_of};
 ghost use Rattle.local_heap.specs.Fields.{value_by};
-ghost use Rattle.local_heap.specs.Cells.{AreKnown, CellDoes, CellPuts, IsObject, IsSound, cell_at, contents, fields_in, home_of};
+ghost use Rattle.local_heap.specs.Cells.{AreKnown, CellDoes, CellRefuses, CellTakes, CellWrites, IsObject, IsSound, cell_at, contents, fields_in, home_of};
 
 use crate::list::{self, List};
 use crate::object::Object;
@@ -21,7 +21,7 @@ use crate::pairs;
 use crate::row::value_at;
 use crate::slot::Whose;
 use ordered_pairs::OrderedPairs;
-use rb_model::{Act, Fault, Id, Immediate, Ref, Reply, Sort, Value};
+use rb_model::{Act, Fault, Id, Immediate, Ref, Reply, Side, Sort, Value};
 use rb_tree::NameId;
 use shape_core::{Kind, Place, ShapeStore};
 use std::alloc::{AllocError, Global};
@@ -100,13 +100,43 @@ impl Cell {
     /// Gives an element an immediate value, where this is a list that has the element and it fits where it stands. Else nothing is done.
     #[inline(always)]
     pub fn put_immediate(&mut self, index: i64, value: Immediate) -> bool
-        ensures { CellPuts result self.old index (value_told value) self.new }
+        ensures does { CellWrites result self.old (Put index) (value_told value) self.new }
+        ensures refused { result ≡ false → IfSome (value_told value) (λ v. CellRefuses self.old (Put index v)) }
     {
         match self {
             Cell::Empty => false,
             Cell::Object(_) => false,
             Cell::List(list) => list::put_immediate(list, index, value),
             Cell::Pairs(_) => false,
+        }
+    }
+
+    /// Puts an immediate value behind the last element, where this is a list that may have one more and it fits to the others. Else nothing is
+    /// done.
+    #[inline(always)]
+    pub fn push_immediate(&mut self, value: Immediate) -> Result<bool, AllocError>
+        ensures does { CellWrites (was_done result) self.old Push (value_told value) self.new }
+        ensures refused { IfOk result (λ done. done ≡ false → IfSome (value_told value) (λ v. CellRefuses self.old (Push v))) }
+    {
+        match self {
+            Cell::Empty => Ok(false),
+            Cell::Object(_) => Ok(false),
+            Cell::List(list) => list::push_immediate(list, value),
+            Cell::Pairs(_) => Ok(false),
+        }
+    }
+
+    /// Takes an element that is an immediate value out at an end, where this is a list. Of any other nothing is done.
+    #[inline(always)]
+    pub fn take_immediate(&mut self, side: Side) -> Immediate
+        ensures told { result ≡ told_answer (contents self.old) (taking side) }
+        ensures does { CellTakes (value_told result) self.old (taking side) self.new }
+    {
+        match self {
+            Cell::Empty => Immediate::Other,
+            Cell::Object(_) => Immediate::Other,
+            Cell::List(list) => list::take_immediate(list, side),
+            Cell::Pairs(_) => Immediate::Other,
         }
     }
 

@@ -1,19 +1,19 @@
 // One list.
 
-ghost use Rattle.std.specs.Prelude.{◌≡◌, ◌≤◌, length, replicate, true, Some, IfSome, IfOk, OnErr};
+ghost use Rattle.std.specs.Prelude.{◌≡◌, ◌≤◌, length, replicate, true, false, None, Some, IfSome, IfOk, OnErr};
 ghost use Rattle.std.specs.Option.{option_map};
 ghost use Rattle.rb_model.specs.Values.{or_nil as nil_or, plain};
 ghost use Rattle.rb_model.specs.Flags.{value_of};
 ghost use Rattle.rb_model.specs.Acts.{Clear, Copy, DeleteAt, Len, Pop, Push, Put, Shift, Unshift, At};
 ghost use Rattle.rb_model.specs.Acts as answer;
 ghost use Rattle.rb_model.specs.Doing.{doing, seen};
-ghost use Rattle.rb_model.specs.Things.{gives, max_elements};
-ghost use Rattle.rb_model.specs.Immediates.{if_list as list_if, list_replied, reference, told, told_reply, value_told};
-ghost use Rattle.local_heap.specs.Memory.{may_want};
-ghost use Rattle.local_heap.specs.Contents.{Does, DoesPut, Refuses, Tells, listed};
+ghost use Rattle.rb_model.specs.Things.{gives, is_integer, max_elements};
+ghost use Rattle.rb_model.specs.Immediates.{if_list as list_if, list_replied, reference, taking, told, told_reply, value_told};
+ghost use Rattle.local_heap.specs.Memory.{at_once, may_want};
+ghost use Rattle.local_heap.specs.Contents.{Does, DoesTake, DoesWrite, Refuses, Tells, listed, was_done};
 
 use array_strategy::{LocalArray, Peeked, PutFault};
-use rb_model::{Act, Fault, Immediate, Ref, Reply, Sort, Thing, Value};
+use rb_model::{Act, Fault, Immediate, Ref, Reply, Side, Sort, Thing, Value};
 use std::alloc::{AllocError, Global};
 use typed_location::Flag;
 
@@ -87,7 +87,8 @@ pub fn immediate(list: &List, index: i64) -> Immediate
 /// Gives an element an immediate value, where the list has the element and it fits where it stands. Else nothing is done.
 #[inline(always)]
 pub fn put_immediate(list: &mut List, index: i64, value: Immediate) -> bool
-    ensures { DoesPut result (listed list.old) index (value_told value) (listed list.new) }
+    ensures does { DoesWrite result (listed list.old) (Put index) (value_told value) (listed list.new) }
+    ensures refused { result ≡ false → IfSome (value_told value) (λ v. at_once (listed list.old) (Put index v) ≡ false) }
 {
     match value {
         Immediate::Int(n) => list.put_int(index, n),
@@ -98,7 +99,8 @@ pub fn put_immediate(list: &mut List, index: i64, value: Immediate) -> bool
 /// Gives an element nil or a truth value, where the list has the element and it fits where it stands. Else nothing is done.
 #[inline(always)]
 fn put_flag(list: &mut List, index: i64, value: Immediate) -> bool
-    ensures { DoesPut result (listed list.old) index (value_told value) (listed list.new) }
+    ensures does { DoesWrite result (listed list.old) (Put index) (value_told value) (listed list.new) }
+    ensures refused { result ≡ false → IfSome (value_told value) (λ v. is_integer v ≡ false → at_once (listed list.old) (Put index v) ≡ false) }
 {
     match flag_told(value) {
         Some(flag) => list.put_flag(index, flag),
@@ -106,10 +108,75 @@ fn put_flag(list: &mut List, index: i64, value: Immediate) -> bool
     }
 }
 
+/// Puts an immediate value behind the last element, where the list may have one more and it fits to the others. Else nothing is done.
+#[inline(always)]
+pub fn push_immediate(list: &mut List, value: Immediate) -> Result<bool, AllocError>
+    ensures does { DoesWrite (was_done result) (listed list.old) Push (value_told value) (listed list.new) }
+    ensures refused { IfOk result (λ done. done ≡ false → IfSome (value_told value) (λ v. at_once (listed list.old) (Push v) ≡ false)) }
+{
+    match value {
+        Immediate::Int(n) => list.push_int(n),
+        other => push_flag(list, other),
+    }
+}
+
+/// Puts nil or a truth value behind the last element, where the list may have one more and it fits to the others. Else nothing is done.
+#[inline(always)]
+fn push_flag(list: &mut List, value: Immediate) -> Result<bool, AllocError>
+    ensures does { DoesWrite (was_done result) (listed list.old) Push (value_told value) (listed list.new) }
+    ensures refused { IfOk result (λ done. done ≡ false → IfSome (value_told value) (λ v. is_integer v ≡ false → at_once (listed list.old) (Push v) ≡ false)) }
+{
+    match flag_told(value) {
+        Some(flag) => list.push_flag(flag),
+        None => Ok(false),
+    }
+}
+
+/// Takes an element that is an immediate value out at an end. Of any other nothing is done.
+#[inline(always)]
+pub fn take_immediate(list: &mut List, side: Side) -> Immediate
+    ensures told { result ≡ told_reply (gives (listed list.old) (taking side)) }
+    ensures does { DoesTake (value_told result) (listed list.old) (taking side) (listed list.new) }
+{
+    match side {
+        Side::First => shift_immediate(list),
+        Side::Last => pop_immediate(list),
+    }
+}
+
+/// Takes the first element out, where it is an immediate value.
+#[inline(always)]
+fn shift_immediate(list: &mut List) -> Immediate
+    ensures told { result ≡ told_reply (gives (listed list.old) Shift) }
+    ensures does { DoesTake (value_told result) (listed list.old) Shift (listed list.new) }
+{
+    let told = immediate(list, 0);
+    if let Immediate::Other = told {
+        return told;
+    }
+    let _ = list.shift();
+    told
+}
+
+/// Takes the last element out, where it is an immediate value.
+#[inline(always)]
+fn pop_immediate(list: &mut List) -> Immediate
+    ensures told { result ≡ told_reply (gives (listed list.old) Pop) }
+    ensures does { DoesTake (value_told result) (listed list.old) Pop (listed list.new) }
+{
+    let told = immediate(list, -1);
+    if let Immediate::Other = told {
+        return told;
+    }
+    let _ = list.pop();
+    told
+}
+
 /// Nil or a truth value that is told, if it is one.
 #[inline(always)]
 fn flag_told(value: Immediate) -> Option<Flag>
-    ensures { IfSome result (λ flag. value_told value ≡ Some (plain (value_of flag))) }
+    ensures some { IfSome result (λ flag. value_told value ≡ Some (plain (value_of flag))) }
+    ensures none { result ≡ None → IfSome (value_told value) (λ v. is_integer v ≡ true) }
 {
     match value {
         Immediate::Nil => Some(Flag::Nil),

@@ -6,7 +6,9 @@ use Rattle.rb_model.specs.declared.value.Sort.{Sort}
 use Rattle.rb_model.specs.declared.value.Sort.TheVariants as sort
 use Rattle.rb_model.specs.declared.value.Ref.{Ref}
 use Rattle.rb_model.specs.Values.{Value, Reference, Nil, False, True, Int, To}
-use Rattle.rb_model.specs.Acts.{Act, Reply}
+use Rattle.rb_model.specs.declared.act.Side.{Side}
+use Rattle.rb_model.specs.declared.act.Side.TheVariants as side
+use Rattle.rb_model.specs.Acts.{Act, Pop, Shift, Reply}
 use Rattle.rb_model.specs.Acts as reply
 use Rattle.rb_model.specs.Things.{Thing, gives}
 
@@ -34,6 +36,11 @@ told_reply other = immediate.Other
 abbrev pub told_answer : Option Thing → Act → Immediate
 told_answer None act = immediate.Other
 told_answer (Some thing) act = told_reply (gives thing act)
+
+-- the act that takes an element out at an end of a list
+abbrev pub taking : Side → Act
+taking side.First = Shift
+taking side.Last = Pop
 
 abbrev pub reference : Ref → Reference
 reference thing = record { sort = thing.sort; id = thing.id }

@@ -48,6 +48,13 @@ pub enum Act {
     Unlock,
 }
 
+/// An end of a list.
+#[derive(Clone, Copy)]
+pub enum Side {
+    First,
+    Last,
+}
+
 /// What a thing answers.
 #[derive(Drop)]
 pub enum Reply {

@@ -15,7 +15,7 @@ mod tests;
 mod thing;
 mod value;
 
-pub use act::{Act, Make, Reply};
+pub use act::{Act, Make, Reply, Side};
 pub use call::{Answer, Call, End};
 pub use fault::Fault;
 pub use immediate::Immediate;

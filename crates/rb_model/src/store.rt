@@ -2,15 +2,15 @@
 
 ghost use Rattle.std.specs.Prelude.{◌≡◌, ◌≤◌, ◌-ℤ◌, None, true, false, ℕ, is_some, IsSome, IfSome, IfOk, OnOk, OnErr};
 ghost use Rattle.rb_model.specs.Values.{Int, plain};
-ghost use Rattle.rb_model.specs.Acts.{At, GetField, KGet, Put, SetField};
+ghost use Rattle.rb_model.specs.Acts.{At, GetField, KGet, Push, Put, SetField};
 ghost use Rattle.rb_model.specs.Acts as answer;
 ghost use Rattle.rb_model.specs.Doing.{doing, said, made, sort_of};
-ghost use Rattle.rb_model.specs.Immediates.{told_answer, list_answered, reference, value_told};
+ghost use Rattle.rb_model.specs.Immediates.{told_answer, list_answered, reference, taking, value_told};
 ghost use Rattle.std.specs.Option.{option_map};
 ghost use Rattle.rb_model.specs.Private.{Private, Gives, Becomes, held, entered, next_id};
 ghost use Rattle.rb_model.specs.Log.{Log as Calls, Answers, Print, is_sure, has_end, asked};
 
-use crate::act::{Act, Make, Reply};
+use crate::act::{Act, Make, Reply, Side};
 use crate::call::{Answer, Call};
 use crate::immediate::Immediate;
 use crate::shared_text::SharedText;
@@ -103,6 +103,27 @@ pub trait ThreadStore {
         ensures private { result ≡ true → IfSome (value_told value) (λ v. Becomes (private self.old) id (Put index v) (private self.new)) }
         ensures told { result ≡ true → is_some (value_told value) ≡ true }
         ensures kept { result ≡ false → private self.new ≡ private self.old }
+        ensures log { log self.new ≡ log self.old };
+
+    /// Puts an immediate value behind the last element of a list that is private here, where it fits to the others. Else, and where memory is
+    /// wanted, nothing is done.
+    fn push_immediate(&mut self, id: Id, value: Immediate) -> bool
+        requires live { live self.old }
+        ensures live { live self.new }
+        ensures there { result ≡ true → is_some (held (private self.old) id) ≡ true }
+        ensures gives { result ≡ true → IfSome (value_told value) (λ v. Gives (private self.old) id (Push v) answer.Done) }
+        ensures private { result ≡ true → IfSome (value_told value) (λ v. Becomes (private self.old) id (Push v) (private self.new)) }
+        ensures told { result ≡ true → is_some (value_told value) ≡ true }
+        ensures kept { result ≡ false → private self.new ≡ private self.old }
+        ensures log { log self.new ≡ log self.old };
+
+    /// Takes an element that is an immediate value out at an end of a list that is private here. Of any other nothing is done.
+    fn take_immediate(&mut self, id: Id, side: Side) -> Immediate
+        requires live { live self.old }
+        ensures live { live self.new }
+        ensures told { result ≡ told_answer (held (private self.old) id) (taking side) }
+        ensures private { IfSome (value_told result) (λ v. Becomes (private self.old) id (taking side) (private self.new)) }
+        ensures kept { result ≡ Immediate.Other → private self.new ≡ private self.old }
         ensures log { log self.new ≡ log self.old };
 
     /// Adds an integer to a field of an object that is private here, where its place holds integers alone and the sum is one. Else nothing is

@@ -14,8 +14,3 @@ parent_of (Child parent edge) = Some parent
 abbrev pub edge_of : Key → Option Edge
 edge_of (Root class) = None
 edge_of (Child parent edge) = Some edge
-
--- the numbers of the first n shapes
-abbrev pub first_ids : ℕ → List ShapeId
-first_ids zero = []
-first_ids (suc n) = first_ids n ++ record { 0 = n } ∷ []

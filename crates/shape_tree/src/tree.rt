@@ -3,7 +3,6 @@
 ghost use Rattle.std.specs.Prelude.{◌≡◌, ◌<◌, [], length, Contains, IfOk, IsOk, OnErr};
 ghost use Rattle.shape_core.specs.Path.{MayFollow};
 ghost use Rattle.shape_core.specs.Shape.{IsStore, Has, Gains, child_of, path_at, shape_at};
-ghost use Rattle.shape_tree.specs.Keys.{first_ids};
 
 use crate::guesses::Guesses;
 use crate::key::{Key, Row};
@@ -13,6 +12,7 @@ use indexmap::IndexMap;
 use shape_core::{Edge, Kind, NameId, Place, ShapeFacts, ShapeId, ShapeStore};
 use std::alloc::{AllocError, Global};
 use std::marker::Model;
+use std::ops::Range;
 
 /// A store of shapes in memory. Contracts see it as the list of its shapes in the order of making.
 #[derive(Drop)]
@@ -54,15 +54,12 @@ impl Tree {
         self.nodes.len()
     }
 
-    /// The shapes in the order of making.
-    pub fn list(&self, alloc: Global) -> Result<Vec<ShapeId>, AllocError>
-        ensures { IfOk result (λ ids. ids.items ≡ first_ids (length self.now)) }
+    /// The numbers of the shapes, in the order of making.
+    pub fn list(&self) -> Range<usize>
+        ensures first { result.start ≡ 0 }
+        ensures end { result.end ≡ length self.now }
     {
-        let mut ids = Vec::new(alloc);
-        for number in 0..self.len() {
-            ids.push(ShapeId(number as u64))?;
-        }
-        Ok(ids)
+        0..self.len()
     }
 
     /// The shape that an edge leads to, where none was guessed.

@@ -105,6 +105,8 @@ impl Item for Value {
 #[derive(Clone, Copy)]
 enum Deed {
     Push(Value),
+    PushInt(i64),
+    PushFlag(Flag),
     Unshift(Value),
     Put(i64, Value),
     PutInt(i64, i64),
@@ -112,7 +114,7 @@ enum Deed {
     Increment(i64),
 }
 
-use Deed::{Increment, Push, Put, PutFlag, PutInt, Unshift};
+use Deed::{Increment, Push, PushFlag, PushInt, Put, PutFlag, PutInt, Unshift};
 
 // How the items of an array are held, as its first item shows.
 #[derive(Clone, Copy, PartialEq)]
@@ -129,6 +131,8 @@ use Held::{InBytes, Nowhere, Raw, Whole};
 fn is_done(array: &mut LocalArray<Value>, deed: Deed) -> Result<bool, PutFault> {
     match deed {
         Push(item) => array.push(item)?,
+        PushInt(n) => return Ok(array.push_int(n)?),
+        PushFlag(flag) => return Ok(array.push_flag(flag)?),
         Unshift(item) => array.unshift(item)?,
         Put(index, item) => array.put(index, item, Nil)?,
         PutInt(index, n) => return Ok(array.put_int(index, n)),
@@ -157,14 +161,17 @@ fn has(array: &LocalArray<Value>, items: &[Value], how: Held) -> Result<bool, Pu
 // The items of an array, what is done to it, whether it comes about, the items behind it, and how they are then held.
 type Row = (&'static [Value], Deed, bool, &'static [Value], Held);
 
-const ROWS: [Row; 24] = [
+const ROWS: [Row; 30] = [
     (&[], Push(Int(1)), true, &[Int(1)], Raw),
     (&[], Push(Nil), true, &[Nil], InBytes),
+    (&[], PushInt(1), true, &[Int(1)], Raw),
+    (&[], PushFlag(Flag::Nil), true, &[Nil], InBytes),
     (&[], Unshift(Text), true, &[Text], Whole),
     (&[], Put(1, True), true, &[Nil, True], InBytes),
     (&[], PutInt(0, 1), false, &[], Nowhere),
     (&[Int(1)], Push(Int(2)), true, &[Int(1), Int(2)], Raw),
     (&[Int(1)], Push(Nil), true, &[Int(1), Nil], Whole),
+    (&[Int(1)], PushFlag(Flag::Nil), false, &[Int(1)], Raw),
     (&[Int(1)], Unshift(Int(2)), true, &[Int(2), Int(1)], Raw),
     (&[Int(1)], Unshift(True), true, &[True, Int(1)], Whole),
     (&[Int(1)], Put(0, Text), true, &[Text], Whole),
@@ -185,11 +192,14 @@ const ROWS: [Row; 24] = [
     ),
     (&[True], Push(False), true, &[True, False], InBytes),
     (&[True], Push(Int(1)), true, &[True, Int(1)], Whole),
+    (&[True], PushInt(1), false, &[True], InBytes),
     (&[True], Unshift(False), true, &[False, True], InBytes),
     (&[True], Unshift(Text), true, &[Text, True], Whole),
     (&[True], Put(2, False), true, &[True, Nil, False], InBytes),
     (&[True], PutInt(0, 1), false, &[True], InBytes),
     (&[Text], Push(Int(1)), true, &[Text, Int(1)], Whole),
+    (&[Text], PushInt(1), true, &[Text, Int(1)], Whole),
+    (&[Text], PushFlag(Flag::True), true, &[Text, True], Whole),
     (&[Text], Unshift(Int(1)), true, &[Int(1), Text], Whole),
     (&[Text], Put(2, Int(1)), true, &[Text, Nil, Int(1)], Whole),
     (&[Text, Nil], PutInt(-1, 1), true, &[Text, Int(1)], Whole),

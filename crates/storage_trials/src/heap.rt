@@ -7,7 +7,7 @@ ghost use Rattle.rb_model.specs.Private.{held};
 
 use Immediate::{False, Int, Nil, Other, True};
 use local_heap::LocalHeap;
-use rb_model::{Act, Id, Immediate, Make, Ref, Reply, SharedText, Thing, Value};
+use rb_model::{Act, Id, Immediate, Make, Ref, Reply, SharedText, Side, Thing, Value};
 use rb_tree::NameId;
 use shape_core::ShapeStore;
 use shape_tree::Tree;
@@ -148,6 +148,19 @@ fn first_wrong_put(heap: &mut Heap, alloc: Global) -> Result<Option<usize>, Allo
     Ok(None)
 }
 
+/// What a list takes in behind its elements, and gives out at both ends.
+fn passed(heap: &mut Heap, alloc: Global) -> Result<(bool, [Immediate; 3]), AllocError> {
+    let mut values = Vec::new(alloc);
+    values.push(Value::Int(1))?;
+    values.push(value_of(alloc, Other)?)?;
+    let id = heap.make(Make::Elements(values))?.id;
+    let pushed = heap.push_immediate(id, True)? && !heap.push_immediate(id, Other)?;
+    let first = heap.take_immediate(id, Side::First);
+    let last = heap.take_immediate(id, Side::Last);
+    let neither = heap.take_immediate(id, Side::Last);
+    Ok((pushed, [first, last, neither]))
+}
+
 /// Whether an integer is added to a field that holds integers alone, and none to one that was widened.
 fn gains(heap: &mut Heap) -> Result<bool, AllocError> {
     let id = make_with(heap, 8, NameId(1), -5)?.id;
@@ -172,18 +185,20 @@ fn make_with<S: ShapeStore>(
 }
 
 /// What comes out of all of it.
-fn tried(alloc: Global) -> Result<(bool, Option<usize>, bool), AllocError> {
+fn tried(alloc: Global) -> Result<(bool, Option<usize>, bool, bool), AllocError> {
     let mut heap = LocalHeap::new(alloc, 3, Tree::new(alloc)?)?;
     let things = are_things(&mut heap, alloc)?;
     let wrong = first_wrong_put(&mut heap, alloc)?;
     let gained = gains(&mut heap)?;
-    Ok((things, wrong, gained))
+    let (pushed, taken) = passed(&mut heap, alloc)?;
+    let passed = pushed && taken == [Int(1), True, Other];
+    Ok((things, wrong, gained, passed))
 }
 
 #[test]
 fn calls_succeed_where_memory_is_there(rt: HostRuntime) -> Result<(), Fail> {
-    let (things, wrong, gained) = tried(rt.alloc())?;
-    assert!(rt; things && gained);
+    let (things, wrong, gained, passed) = tried(rt.alloc())?;
+    assert!(rt; things && gained && passed);
     assert_eq!(rt; wrong, None);
     Ok(())
 }

@@ -54,7 +54,7 @@ fn are_made_once(alloc: Global) -> Result<bool, AllocError> {
         true => place_to_read(&tree, last, NameId(0)),
         false => None,
     };
-    let listed = tree.list(alloc)?.len();
+    let listed = tree.list().len();
     Ok(made && place == Some(Place(NAMES as u64)) && listed == 206)
 }
 

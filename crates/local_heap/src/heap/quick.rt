@@ -1,18 +1,18 @@
 // Reads of lists and hashes, and writes, that look up nothing but the thing and its shape.
 
-ghost use Rattle.std.specs.Prelude.{◌≡◌, ◌-ℤ◌, None, is_some, pos, true, false, IfSome, IfOk, OnErr};
+ghost use Rattle.std.specs.Prelude.{◌≡◌, ◌↔◌, ◌-ℤ◌, None, is_some, pos, true, false, IfSome, IsSomeAnd, IfOk, OnErr};
 ghost use Rattle.rb_model.specs.Values.{Int, plain};
-ghost use Rattle.rb_model.specs.Acts.{At, GetField, KGet, Len, Put, SetField};
+ghost use Rattle.rb_model.specs.Acts.{At, GetField, KGet, Len, Push, Put, SetField};
 ghost use Rattle.rb_model.specs.Acts as answer;
-ghost use Rattle.rb_model.specs.Immediates.{list_answered, reference, told_answer, value_told};
+ghost use Rattle.rb_model.specs.Immediates.{list_answered, reference, taking, told_answer, value_told};
 ghost use Rattle.std.specs.Option.{option_map};
 ghost use Rattle.rb_model.specs.Private.{Becomes, Gives, held};
-ghost use Rattle.local_heap.specs.Memory.{MayWant};
-ghost use Rattle.local_heap.specs.Contents.{has_length, is_list};
+ghost use Rattle.local_heap.specs.Memory.{HasSum, MayWant, NotAtOnce};
+ghost use Rattle.local_heap.specs.Contents.{has_length, is_list, was_done};
 
 use super::LocalHeap;
 use crate::cells::Cell;
-use rb_model::{Id, Immediate, Ref, Value};
+use rb_model::{Id, Immediate, Ref, Side, Value};
 use rb_tree::NameId;
 use shape_core::ShapeStore;
 use std::alloc::AllocError;
@@ -96,6 +96,7 @@ impl<S: ShapeStore> LocalHeap<S> {
         ensures private { result ≡ true → IfSome (value_told value) (λ v. Becomes self.old id (Put index v) self.new) }
         ensures told { result ≡ true → is_some (value_told value) ≡ true }
         ensures kept { result ≡ false → self.new ≡ self.old }
+        ensures refused { result ≡ false → IfSome (value_told value) (λ v. NotAtOnce self.old id (Put index v)) }
     {
         if id.thread != self.cells.thread {
             return false;
@@ -105,6 +106,45 @@ impl<S: ShapeStore> LocalHeap<S> {
             return false;
         }
         self.cells.items[at].put_immediate(index, value)
+    }
+
+    /// Puts an immediate value behind the last element of a list that is private here, where the list may have one more and it fits to the
+    /// others. Else nothing is done.
+    #[inline(always)]
+    pub fn push_immediate(&mut self, id: Id, value: Immediate) -> Result<bool, AllocError>
+        ensures there { was_done result ≡ true → is_some (held self.old id) ≡ true }
+        ensures gives { was_done result ≡ true → IfSome (value_told value) (λ v. Gives self.old id (Push v) answer.Done) }
+        ensures private { was_done result ≡ true → IfSome (value_told value) (λ v. Becomes self.old id (Push v) self.new) }
+        ensures told { was_done result ≡ true → is_some (value_told value) ≡ true }
+        ensures kept { was_done result ≡ false → self.new ≡ self.old }
+        ensures refused { IfOk result (λ done. done ≡ false → IfSome (value_told value) (λ v. NotAtOnce self.old id (Push v))) }
+    {
+        if id.thread != self.cells.thread {
+            return Ok(false);
+        }
+        let at = id.serial as usize;
+        if at >= self.cells.items.len() {
+            return Ok(false);
+        }
+        self.cells.items[at].push_immediate(value)
+    }
+
+    /// Takes an element that is an immediate value out at an end of a list that is private here. Of any other nothing is done. Nothing is
+    /// allocated or copied.
+    #[inline(always)]
+    pub fn take_immediate(&mut self, id: Id, side: Side) -> Immediate
+        ensures told { result ≡ told_answer (held self.old id) (taking side) }
+        ensures private { IfSome (value_told result) (λ v. Becomes self.old id (taking side) self.new) }
+        ensures kept { result ≡ Immediate.Other → self.new ≡ self.old }
+    {
+        if id.thread != self.cells.thread {
+            return Immediate::Other;
+        }
+        let at = id.serial as usize;
+        if at >= self.cells.items.len() {
+            return Immediate::Other;
+        }
+        self.cells.items[at].take_immediate(side)
     }
 
     /// Adds an integer to a field of an object that is private here, where its place holds integers alone and the sum is one. Else nothing is
@@ -117,6 +157,7 @@ impl<S: ShapeStore> LocalHeap<S> {
         ensures gives { IfSome result (λ sum. Gives self.old id (SetField name (Int sum)) answer.Done) }
         ensures private { IfSome result (λ sum. Becomes self.old id (SetField name (Int sum)) self.new) }
         ensures none { result ≡ None → self.new ≡ self.old }
+        ensures exact { (is_some result ≡ true) ↔ IsSomeAnd (held self.old id) (λ thing. HasSum thing name n) }
     {
         if self.cells.thread != id.thread {
             return None;

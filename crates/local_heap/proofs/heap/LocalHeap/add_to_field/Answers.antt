@@ -1,5 +1,5 @@
-use Rattle.std.proofs.Common.{◌≡◌, rules, refl, sym, to_z, of_z, w64, arith}
-use Rattle.local_heap.proofs.Adding.{Summed, no_sum, sum_there}
+use Rattle.std.proofs.Common.{◌≡◌, rules, sym, to_z, of_z, w64, arith}
+use Rattle.local_heap.proofs.Adding.{Summed, no_object, sum_there}
 use Rattle.local_heap.proofs.Standing.{cell_there, fields_only}
 use Rattle.local_heap.proofs.heap.LocalHeap.add_to_field.Given as given
 use Rattle.local_heap.proofs.heap.LocalHeap.add_to_field.Goals as goal
@@ -19,8 +19,8 @@ is_summed g c =
           w.add_to_field.new.self w.add_to_field.result (rw z at w.add_to_field.ensures.sum) w.add_to_field.ensures.written w.add_to_field.ensures.kept)
       | in_default w ↦
           rw (w.result-is, w.self-inside-is)
-          (no_sum c.self.inside.cells.thread (g.S.ShapeStore.shapes c.self.inside.shapes) c.self.inside.cells.items.items c.args.self.now c.self.view_is c.self.invariant
-          c.args.id c.index_mut.result.now found c.index_mut.ensures.value c.args.name c.args.n c.index_mut.result.now refl)
+          (no_object c.self.inside.cells.thread (g.S.ShapeStore.shapes c.self.inside.shapes) c.self.inside.cells.items.items c.args.self.now c.self.view_is c.self.invariant
+          c.args.id c.index_mut.result.now found c.index_mut.ensures.value c.args.name c.args.n w.in_default.not-Object)
     ]
 
 pub invariant_of-self : goal.invariant_of-self
@@ -43,3 +43,6 @@ returns-clause-private g c = (is_summed g c).private
 
 pub returns-clause-none : goal.returns-clause-none
 returns-clause-none g c = (is_summed g c).none
+
+pub returns-clause-exact : goal.returns-clause-exact
+returns-clause-exact g c = (is_summed g c).exact
