@@ -20,7 +20,7 @@ use Rattle.rb_machine.specs.Scopes.{Text}
 use Rattle.rb_machine.specs.Control.{Counting}
 use Rattle.rb_machine.specs.Control as machine
 use Rattle.rb_machine.specs.Texts.{shown, inspected}
-use Rattle.rb_machine.specs.Methods.{Answer, Gives, Raises, Loops, LoopsOver, Reads, EachPairOf, on_integers, joined, text, told, equal, is_nil, integer, upto, unless_fault, deed, block_fault, up_to, none_or_two, asks, changes, is_empty, adds, at_index, put_index, by_key, put_key}
+use Rattle.rb_machine.specs.Methods.{Answer, Gives, Raises, Loops, LoopsOver, Reads, EachPairOf, Synchronizes, on_integers, joined, text, told, equal, is_nil, integer, upto, unless_fault, deed, block_fault, up_to, none_or_two, asks, changes, is_empty, adds, at_index, put_index, by_key, put_key}
 use Rattle.rb_builtin.specs.declared.builtin.Builtin.{Builtin}
 use Rattle.rb_builtin.specs.declared.builtin.Builtin.TheVariants as builtin
 use Rattle.rb_builtin.specs.Names.{name_of, builtin_of, same_number}
@@ -133,6 +133,11 @@ module _ (P : Program) where
   of_any v builtin.Keys any args given = absurd (cc)
   of_any v builtin.Values any args given = absurd (cc)
   of_any v builtin.EachPair any args given = absurd (cc)
+  of_any v builtin.Lock any args given = absurd (cc)
+  of_any v builtin.Unlock any args given = absurd (cc)
+  of_any v builtin.Synchronize any args given = absurd (cc)
+  of_any v builtin.Join any args given = absurd (cc)
+  of_any v builtin.Value any args given = absurd (cc)
 
   of_integer : (m : ℤ) (b : Builtin) → is_any b ≡ false → Agrees (Int m) b
   unfolding Agrees
@@ -171,6 +176,11 @@ module _ (P : Program) where
   of_integer m builtin.Keys any args given = refl
   of_integer m builtin.Values any args given = refl
   of_integer m builtin.EachPair any args given = refl
+  of_integer m builtin.Lock any args given = refl
+  of_integer m builtin.Unlock any args given = refl
+  of_integer m builtin.Synchronize any args given = refl
+  of_integer m builtin.Join any args given = refl
+  of_integer m builtin.Value any args given = refl
   of_integer m builtin.Equal any args given = absurd (cc)
   of_integer m builtin.IsNil any args given = absurd (cc)
   of_integer m builtin.ToS any args given = absurd (cc)
@@ -213,6 +223,11 @@ module _ (P : Program) where
   of_text s builtin.Keys any args given = refl
   of_text s builtin.Values any args given = refl
   of_text s builtin.EachPair any args given = refl
+  of_text s builtin.Lock any args given = refl
+  of_text s builtin.Unlock any args given = refl
+  of_text s builtin.Synchronize any args given = refl
+  of_text s builtin.Join any args given = refl
+  of_text s builtin.Value any args given = refl
   of_text s builtin.Equal any args given = absurd (cc)
   of_text s builtin.IsNil any args given = absurd (cc)
   of_text s builtin.ToS any args given = absurd (cc)
@@ -255,6 +270,11 @@ module _ (P : Program) where
   of_array id builtin.Keys any args given = refl
   of_array id builtin.Values any args given = refl
   of_array id builtin.EachPair any args given = refl
+  of_array id builtin.Lock any args given = refl
+  of_array id builtin.Unlock any args given = refl
+  of_array id builtin.Synchronize any args given = refl
+  of_array id builtin.Join any args given = refl
+  of_array id builtin.Value any args given = refl
   of_array id builtin.Equal any args given = absurd (cc)
   of_array id builtin.IsNil any args given = absurd (cc)
   of_array id builtin.ToS any args given = absurd (cc)
@@ -297,6 +317,11 @@ module _ (P : Program) where
   of_hash id builtin.Keys any args given = unless_is (block_fault None given) (nat_eq (length args) 0) (Reads (record { sort = sort.Pairs; id = id }) machine.Keys)
   of_hash id builtin.Values any args given = unless_is (block_fault None given) (nat_eq (length args) 0) (Reads (record { sort = sort.Pairs; id = id }) machine.Values)
   of_hash id builtin.EachPair any args given = unless_is (block_fault (Some none_or_two) given) (nat_eq (length args) 0) (EachPairOf (record { sort = sort.Pairs; id = id }))
+  of_hash id builtin.Lock any args given = refl
+  of_hash id builtin.Unlock any args given = refl
+  of_hash id builtin.Synchronize any args given = refl
+  of_hash id builtin.Join any args given = refl
+  of_hash id builtin.Value any args given = refl
   of_hash id builtin.Equal any args given = absurd (cc)
   of_hash id builtin.IsNil any args given = absurd (cc)
   of_hash id builtin.ToS any args given = absurd (cc)
@@ -343,6 +368,11 @@ module _ (P : Program) where
   of_nil builtin.Keys any args given = refl
   of_nil builtin.Values any args given = refl
   of_nil builtin.EachPair any args given = refl
+  of_nil builtin.Lock any args given = refl
+  of_nil builtin.Unlock any args given = refl
+  of_nil builtin.Synchronize any args given = refl
+  of_nil builtin.Join any args given = refl
+  of_nil builtin.Value any args given = refl
 
   of_false : (b : Builtin) → is_any b ≡ false → Agrees False b
   unfolding Agrees
@@ -385,6 +415,11 @@ module _ (P : Program) where
   of_false builtin.Keys any args given = refl
   of_false builtin.Values any args given = refl
   of_false builtin.EachPair any args given = refl
+  of_false builtin.Lock any args given = refl
+  of_false builtin.Unlock any args given = refl
+  of_false builtin.Synchronize any args given = refl
+  of_false builtin.Join any args given = refl
+  of_false builtin.Value any args given = refl
 
   of_true : (b : Builtin) → is_any b ≡ false → Agrees True b
   unfolding Agrees
@@ -427,6 +462,11 @@ module _ (P : Program) where
   of_true builtin.Keys any args given = refl
   of_true builtin.Values any args given = refl
   of_true builtin.EachPair any args given = refl
+  of_true builtin.Lock any args given = refl
+  of_true builtin.Unlock any args given = refl
+  of_true builtin.Synchronize any args given = refl
+  of_true builtin.Join any args given = refl
+  of_true builtin.Value any args given = refl
 
   of_symbol : (name : NameId) (b : Builtin) → is_any b ≡ false → Agrees (Sym name) b
   unfolding Agrees
@@ -469,6 +509,11 @@ module _ (P : Program) where
   of_symbol name builtin.Keys any args given = refl
   of_symbol name builtin.Values any args given = refl
   of_symbol name builtin.EachPair any args given = refl
+  of_symbol name builtin.Lock any args given = refl
+  of_symbol name builtin.Unlock any args given = refl
+  of_symbol name builtin.Synchronize any args given = refl
+  of_symbol name builtin.Join any args given = refl
+  of_symbol name builtin.Value any args given = refl
 
   of_object : (class : ℕ) (id : Id) (b : Builtin) → is_any b ≡ false → Agrees (To (record { sort = (sort.Object class); id = id })) b
   unfolding Agrees
@@ -511,6 +556,11 @@ module _ (P : Program) where
   of_object class id builtin.Keys any args given = refl
   of_object class id builtin.Values any args given = refl
   of_object class id builtin.EachPair any args given = refl
+  of_object class id builtin.Lock any args given = refl
+  of_object class id builtin.Unlock any args given = refl
+  of_object class id builtin.Synchronize any args given = refl
+  of_object class id builtin.Join any args given = refl
+  of_object class id builtin.Value any args given = refl
 
   of_mutex : (id : Id) (b : Builtin) → is_any b ≡ false → Agrees (To (record { sort = sort.Mutex; id = id })) b
   unfolding Agrees
@@ -553,6 +603,11 @@ module _ (P : Program) where
   of_mutex id builtin.Keys any args given = refl
   of_mutex id builtin.Values any args given = refl
   of_mutex id builtin.EachPair any args given = refl
+  of_mutex id builtin.Lock any args given = unless_is (block_fault None given) (nat_eq (length args) 0) (changes acts.Lock (record { sort = sort.Mutex; id = id }))
+  of_mutex id builtin.Unlock any args given = unless_is (block_fault None given) (nat_eq (length args) 0) (changes acts.Unlock (record { sort = sort.Mutex; id = id }))
+  of_mutex id builtin.Synchronize any args given = unless_is (block_fault (Some (up_to 0)) given) (nat_eq (length args) 0) (Synchronizes (record { sort = sort.Mutex; id = id }))
+  of_mutex id builtin.Join any args given = refl
+  of_mutex id builtin.Value any args given = refl
 
   of_thread : (id : Id) (b : Builtin) → is_any b ≡ false → Agrees (To (record { sort = sort.Thread; id = id })) b
   unfolding Agrees
@@ -595,6 +650,11 @@ module _ (P : Program) where
   of_thread id builtin.Keys any args given = refl
   of_thread id builtin.Values any args given = refl
   of_thread id builtin.EachPair any args given = refl
+  of_thread id builtin.Lock any args given = refl
+  of_thread id builtin.Unlock any args given = refl
+  of_thread id builtin.Synchronize any args given = refl
+  of_thread id builtin.Join any args given = unless_is (block_fault None given) (nat_eq (length args) 0) (changes acts.Join (record { sort = sort.Thread; id = id }))
+  of_thread id builtin.Value any args given = unless_is (block_fault None given) (nat_eq (length args) 0) (asks acts.Join (record { sort = sort.Thread; id = id }) args)
 
   of_thing : (s : Sort) (id : Id) (b : Builtin) → is_any b ≡ false → Agrees (To (record { sort = s; id = id })) b
   of_thing (sort.Object class) id b any = of_object class id b any
@@ -626,7 +686,7 @@ look_up name [] = None
 look_up name (b ∷ bs) = cond (bytes_eq name (name_of b)) (Some b) (look_up name bs)
 
 all : List Builtin
-all = builtin.Equal ∷ builtin.IsNil ∷ builtin.ToS ∷ builtin.Inspect ∷ builtin.Plus ∷ builtin.Minus ∷ builtin.Times ∷ builtin.Over ∷ builtin.Modulo ∷ builtin.Negate ∷ builtin.Less ∷ builtin.AtMost ∷ builtin.More ∷ builtin.AtLeast ∷ builtin.TimesLoop ∷ builtin.Upto ∷ builtin.Length ∷ builtin.Index ∷ builtin.SetIndex ∷ builtin.Append ∷ builtin.Push ∷ builtin.Unshift ∷ builtin.Pop ∷ builtin.Shift ∷ builtin.DeleteAt ∷ builtin.First ∷ builtin.Last ∷ builtin.Size ∷ builtin.IsEmpty ∷ builtin.Clear ∷ builtin.Each ∷ builtin.EachWithIndex ∷ builtin.Map ∷ builtin.Select ∷ builtin.Delete ∷ builtin.HasKey ∷ builtin.Keys ∷ builtin.Values ∷ builtin.EachPair ∷ []
+all = builtin.Lock ∷ builtin.Unlock ∷ builtin.Synchronize ∷ builtin.Join ∷ builtin.Value ∷ builtin.Equal ∷ builtin.IsNil ∷ builtin.ToS ∷ builtin.Inspect ∷ builtin.Plus ∷ builtin.Minus ∷ builtin.Times ∷ builtin.Over ∷ builtin.Modulo ∷ builtin.Negate ∷ builtin.Less ∷ builtin.AtMost ∷ builtin.More ∷ builtin.AtLeast ∷ builtin.TimesLoop ∷ builtin.Upto ∷ builtin.Length ∷ builtin.Index ∷ builtin.SetIndex ∷ builtin.Append ∷ builtin.Push ∷ builtin.Unshift ∷ builtin.Pop ∷ builtin.Shift ∷ builtin.DeleteAt ∷ builtin.First ∷ builtin.Last ∷ builtin.Size ∷ builtin.IsEmpty ∷ builtin.Clear ∷ builtin.Each ∷ builtin.EachWithIndex ∷ builtin.Map ∷ builtin.Select ∷ builtin.Delete ∷ builtin.HasKey ∷ builtin.Keys ∷ builtin.Values ∷ builtin.EachPair ∷ []
 
 found_by : (t : Bool) (name : Text) (b c : Builtin) (rest : Option Builtin) → bytes_eq name (name_of c) ≡ t → (rest ≡ Some b → name ≡ name_of b) → cond t (Some c) rest ≡ Some b → name ≡ name_of b
 found_by true name b c rest e later f = let is = (bytes_eq-Decides name (name_of c)).0 e in cc
@@ -692,6 +752,11 @@ by_operation P builtin.HasKey m n e = absurd (cc)
 by_operation P builtin.Keys m n e = absurd (cc)
 by_operation P builtin.Values m n e = absurd (cc)
 by_operation P builtin.EachPair m n e = absurd (cc)
+by_operation P builtin.Lock m n e = absurd (cc)
+by_operation P builtin.Unlock m n e = absurd (cc)
+by_operation P builtin.Synchronize m n e = absurd (cc)
+by_operation P builtin.Join m n e = absurd (cc)
+by_operation P builtin.Value m n e = absurd (cc)
 
 pub operation_is : (P : Program) (name : Text) (b : Builtin) (m n : ℤ) → is_operation b ≡ true → builtin_of name ≡ Some b → deed P (Int m) name (Int n ∷ []) None ≡ operated b m n
 operation_is P name b m n e f = sym (by_number P (Int m) name b (Int n ∷ []) None f) ∙ by_operation P b m n e
@@ -736,6 +801,11 @@ numbered builtin.HasKey = refl
 numbered builtin.Keys = refl
 numbered builtin.Values = refl
 numbered builtin.EachPair = refl
+numbered builtin.Lock = refl
+numbered builtin.Unlock = refl
+numbered builtin.Synchronize = refl
+numbered builtin.Join = refl
+numbered builtin.Value = refl
 
 other_name : (name : Text) (b : Builtin) (t : Bool) → builtin_of name ≡ None → bytes_eq name (name_of b) ≡ t → bytes_eq name (name_of b) ≡ false
 other_name name b false e f = f
@@ -748,7 +818,7 @@ other_name name b true e f =
 pub no_number : (P : Program) (v : Value) (name : Text) (args : List Value) (given : Option ℕ) → builtin_of name ≡ None → deed P v name args given ≡ Raises NoMethod
 no_number P v name args given e =
     let f : (b : Builtin) → bytes_eq name (name_of b) ≡ false = λ b. other_name name b (bytes_eq name (name_of b)) e refl in
-    rw (f builtin.Equal, f builtin.IsNil, f builtin.ToS, f builtin.Inspect, f builtin.Plus, f builtin.Minus, f builtin.Times, f builtin.Over, f builtin.Modulo, f builtin.Negate, f builtin.Less, f builtin.AtMost, f builtin.More, f builtin.AtLeast, f builtin.TimesLoop, f builtin.Upto, f builtin.Length, f builtin.Index, f builtin.SetIndex, f builtin.Append, f builtin.Push, f builtin.Unshift, f builtin.Pop, f builtin.Shift, f builtin.DeleteAt, f builtin.First, f builtin.Last, f builtin.Size, f builtin.IsEmpty, f builtin.Clear, f builtin.Each, f builtin.EachWithIndex, f builtin.Map, f builtin.Select, f builtin.Delete, f builtin.HasKey, f builtin.Keys, f builtin.Values, f builtin.EachPair) refl
+    rw (f builtin.Equal, f builtin.IsNil, f builtin.ToS, f builtin.Inspect, f builtin.Plus, f builtin.Minus, f builtin.Times, f builtin.Over, f builtin.Modulo, f builtin.Negate, f builtin.Less, f builtin.AtMost, f builtin.More, f builtin.AtLeast, f builtin.TimesLoop, f builtin.Upto, f builtin.Length, f builtin.Index, f builtin.SetIndex, f builtin.Append, f builtin.Push, f builtin.Unshift, f builtin.Pop, f builtin.Shift, f builtin.DeleteAt, f builtin.First, f builtin.Last, f builtin.Size, f builtin.IsEmpty, f builtin.Clear, f builtin.Each, f builtin.EachWithIndex, f builtin.Map, f builtin.Select, f builtin.Delete, f builtin.HasKey, f builtin.Keys, f builtin.Values, f builtin.EachPair, f builtin.Lock, f builtin.Unlock, f builtin.Synchronize, f builtin.Join, f builtin.Value) refl
 
 same_by_name : (a b : Builtin) (t : Bool) → bytes_eq (name_of a) (name_of b) ≡ t → t ≡ true → Some a ≡ Some b
 same_by_name a b true e h = let is : name_of a ≡ name_of b = (bytes_eq-Decides (name_of a) (name_of b)).0 e in sym (numbered a) ∙ (ap builtin_of is ∙ numbered b)
@@ -806,3 +876,8 @@ walk_is a builtin.HasKey args given = refl
 walk_is a builtin.Keys args given = refl
 walk_is a builtin.Values args given = refl
 walk_is a builtin.EachPair args given = refl
+walk_is a builtin.Lock args given = refl
+walk_is a builtin.Unlock args given = refl
+walk_is a builtin.Synchronize args given = refl
+walk_is a builtin.Join args given = refl
+walk_is a builtin.Value args given = refl

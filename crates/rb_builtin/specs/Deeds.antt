@@ -7,7 +7,7 @@ use Rattle.rb_model.specs.declared.value.Ref.{Ref}
 use Rattle.rb_model.specs.declared.value.Sort.{Sort}
 use Rattle.rb_model.specs.declared.value.Sort.TheVariants as sort
 use Rattle.rb_model.specs.Values.{Value, Nil, Int, Str, To, Reference, plain, truth, same}
-use Rattle.rb_model.specs.Acts.{Act, At, Push, Unshift, Pop, Shift, DeleteAt, KGet, KHas, KDelete, Clear, Len}
+use Rattle.rb_model.specs.Acts.{Act, At, Push, Unshift, Pop, Shift, DeleteAt, KGet, KHas, KDelete, Clear, Len, Join, Lock, Unlock}
 use Rattle.rb_model.specs.Doing.{doing}
 use Rattle.rb_model.specs.Characters.{characters}
 use Rattle.rb_machine.specs.Scopes.{Text}
@@ -15,7 +15,7 @@ use Rattle.rb_machine.specs.Texts.{shown, inspected}
 use Rattle.rb_machine.specs.Drafts.{is_collection}
 use Rattle.rb_machine.specs.Control.{Turns, Counting, Walk, Step, Instead, IsZero, Use}
 use Rattle.rb_machine.specs.Control as machine
-use Rattle.rb_machine.specs.Methods.{Answer, Gives, Raises, Loops, LoopsOver, Asks, Reads, EachPairOf, Inspects, block_fault, integer, upto, on_integers, joined, equal, told, up_to, none_or_two, at_index, put_index, by_key, put_key, adds, asks, changes, is_empty}
+use Rattle.rb_machine.specs.Methods.{Answer, Gives, Raises, Loops, LoopsOver, Asks, Reads, EachPairOf, Inspects, Synchronizes, block_fault, integer, upto, on_integers, joined, equal, told, up_to, none_or_two, at_index, put_index, by_key, put_key, adds, asks, changes, is_empty}
 use Rattle.rb_builtin.specs.declared.builtin.Builtin.{Builtin}
 use Rattle.rb_builtin.specs.declared.builtin.Builtin.TheVariants as builtin
 use Rattle.rb_builtin.specs.Integers.{operated}
@@ -68,6 +68,7 @@ answer_of (held.Ask r act after) = Asks (thing_of r) (doing act) (step_of after 
 answer_of (held.Read r purpose) = Reads (thing_of r) (use_of purpose)
 answer_of (held.WalkPairs r) = EachPairOf (thing_of r)
 answer_of (held.Inspect r) = Inspects (To (thing_of r))
+answer_of (held.Synchronize r) = Synchronizes (thing_of r)
 
 -- how many parameters a block may have
 abbrev pub may_have : Takes → ℕ → Bool
@@ -198,10 +199,25 @@ hash_answer h builtin.Each args given = by_misfit (misfit args 0 (Some none_or_t
 hash_answer h builtin.EachPair args given = by_misfit (misfit args 0 (Some none_or_two) given) (EachPairOf h)
 hash_answer h b args given = collection_answer h b args given
 
+-- what mutexes answer to methods
+abbrev pub mutex_answer : Reference → Builtin → List Value → Option ℕ → Answer
+mutex_answer m builtin.Lock args given = by_misfit (misfit args 0 None given) (changes Lock m)
+mutex_answer m builtin.Unlock args given = by_misfit (misfit args 0 None given) (changes Unlock m)
+mutex_answer m builtin.Synchronize args given = by_misfit (misfit args 0 (Some (up_to 0)) given) (Synchronizes m)
+mutex_answer m b args given = Raises NoMethod
+
+-- what threads answer to methods
+abbrev pub thread_answer : Reference → Builtin → List Value → Option ℕ → Answer
+thread_answer t builtin.Join args given = by_misfit (misfit args 0 None given) (changes Join t)
+thread_answer t builtin.Value args given = by_misfit (misfit args 0 None given) (asks Join t args)
+thread_answer t b args given = Raises NoMethod
+
 -- what things answer, by what they are
 abbrev pub thing_answer : Sort → Reference → Builtin → List Value → Option ℕ → Answer
 thing_answer sort.List thing b args given = walk_answer thing b args given
 thing_answer sort.Pairs thing b args given = hash_answer thing b args given
+thing_answer sort.Mutex thing b args given = mutex_answer thing b args given
+thing_answer sort.Thread thing b args given = thread_answer thing b args given
 thing_answer other thing b args given = Raises NoMethod
 
 -- what values answer to methods that only some have

@@ -46,10 +46,15 @@ name_of builtin.HasKey = codes "key?"
 name_of builtin.Keys = codes "keys"
 name_of builtin.Values = codes "values"
 name_of builtin.EachPair = codes "each_pair"
+name_of builtin.Lock = codes "lock"
+name_of builtin.Unlock = codes "unlock"
+name_of builtin.Synchronize = codes "synchronize"
+name_of builtin.Join = codes "join"
+name_of builtin.Value = codes "value"
 
--- the built-in method of a name
-abbrev pub builtin_of : Text → Option Builtin
-builtin_of name =
+-- the built-in method of a name that needs no other thread
+abbrev pub plain_builtin_of : Text → Option Builtin
+plain_builtin_of name =
     if bytes_eq name (codes "==") then Some builtin.Equal else (
     if bytes_eq name (codes "nil?") then Some builtin.IsNil else (
     if bytes_eq name (codes "to_s") then Some builtin.ToS else (
@@ -90,6 +95,16 @@ builtin_of name =
     if bytes_eq name (codes "values") then Some builtin.Values else (
     if bytes_eq name (codes "each_pair") then Some builtin.EachPair else (
     None)))))))))))))))))))))))))))))))))))))))
+
+-- the built-in method of a name: first those of mutexes and threads
+abbrev pub builtin_of : Text → Option Builtin
+builtin_of name =
+    if bytes_eq name (codes "lock") then Some builtin.Lock else (
+    if bytes_eq name (codes "unlock") then Some builtin.Unlock else (
+    if bytes_eq name (codes "synchronize") then Some builtin.Synchronize else (
+    if bytes_eq name (codes "join") then Some builtin.Join else (
+    if bytes_eq name (codes "value") then Some builtin.Value else (
+    plain_builtin_of name)))))
 
 -- whether two numbers, or none, are the same
 abbrev pub same_number : Option Builtin → Option Builtin → Bool

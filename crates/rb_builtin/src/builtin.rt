@@ -84,11 +84,21 @@ pub enum Builtin {
     Values,
     /// `each_pair`
     EachPair,
+    /// `lock`
+    Lock,
+    /// `unlock`
+    Unlock,
+    /// `synchronize`
+    Synchronize,
+    /// `join`
+    Join,
+    /// `value`
+    Value,
 }
 
-/// The built-in method of this name, where there is one.
-pub fn builtin_of(name: &[u8]) -> Option<Builtin>
-    ensures { result ≡ spec.builtin_of name.now }
+/// The built-in method of this name that needs no other thread, where there is one.
+fn plain_builtin_of(name: &[u8]) -> Option<Builtin>
+    ensures { result ≡ spec.plain_builtin_of name.now }
 {
     match name {
         _ if name == b"==".as_slice() => Some(Builtin::Equal),
@@ -131,5 +141,19 @@ pub fn builtin_of(name: &[u8]) -> Option<Builtin>
         _ if name == b"values".as_slice() => Some(Builtin::Values),
         _ if name == b"each_pair".as_slice() => Some(Builtin::EachPair),
         _ => None,
+    }
+}
+
+/// The built-in method of this name, where there is one: first those of mutexes and threads, which may wait for another thread.
+pub fn builtin_of(name: &[u8]) -> Option<Builtin>
+    ensures { result ≡ spec.builtin_of name.now }
+{
+    match name {
+        _ if name == b"lock".as_slice() => Some(Builtin::Lock),
+        _ if name == b"unlock".as_slice() => Some(Builtin::Unlock),
+        _ if name == b"synchronize".as_slice() => Some(Builtin::Synchronize),
+        _ if name == b"join".as_slice() => Some(Builtin::Join),
+        _ if name == b"value".as_slice() => Some(Builtin::Value),
+        _ => plain_builtin_of(name),
     }
 }

@@ -82,6 +82,8 @@ pub enum Deed {
     WalkPairs(Ref),
     /// The inspected form of an array or a hash.
     Inspect(Ref),
+    /// The block is called once, while a mutex is owned.
+    Synchronize(Ref),
 }
 
 /// How many parameters a block may have.
@@ -643,6 +645,41 @@ fn hash_deed(
     }
 }
 
+/// What a mutex answers to a method.
+fn mutex_deed(mutex: Ref, method: Builtin, args: &[Value], block: Option<u32>) -> Deed
+    ensures { spec.answer_of result ≡ spec.mutex_answer (spec.thing_of mutex) method (map plain args.now) block }
+{
+    match method {
+        Builtin::Lock => unless(
+            misfit(args, 0, block),
+            Deed::Ask(mutex, Act::Lock, Behind::Receiver),
+        ),
+        Builtin::Unlock => unless(
+            misfit(args, 0, block),
+            Deed::Ask(mutex, Act::Unlock, Behind::Receiver),
+        ),
+        Builtin::Synchronize => unless(
+            misfit_with_block(args, 0, Takes::UpTo(0), block),
+            Deed::Synchronize(mutex),
+        ),
+        _ => Deed::Raise(Fault::NoMethod),
+    }
+}
+
+/// What a thread answers to a method.
+fn thread_deed(thread: Ref, method: Builtin, args: &[Value], block: Option<u32>) -> Deed
+    ensures { spec.answer_of result ≡ spec.thread_answer (spec.thing_of thread) method (map plain args.now) block }
+{
+    match method {
+        Builtin::Join => unless(
+            misfit(args, 0, block),
+            Deed::Ask(thread, Act::Join, Behind::Receiver),
+        ),
+        Builtin::Value => unless(misfit(args, 0, block), asks(thread, Act::Join)),
+        _ => Deed::Raise(Fault::NoMethod),
+    }
+}
+
 /// What a value answers to a method that only some values have.
 fn own_deed(
     alloc: Global,
@@ -658,6 +695,12 @@ fn own_deed(
         Value::Str(text) => text_deed(alloc, text, method, args, block),
         Value::Ref(thing) if thing.sort == Sort::List => walk_deed(*thing, method, args, block),
         Value::Ref(thing) if thing.sort == Sort::Pairs => hash_deed(*thing, method, args, block),
+        Value::Ref(thing) if thing.sort == Sort::Mutex => {
+            Ok(mutex_deed(*thing, method, args, block))
+        }
+        Value::Ref(thing) if thing.sort == Sort::Thread => {
+            Ok(thread_deed(*thing, method, args, block))
+        }
         _ => Ok(Deed::Raise(Fault::NoMethod)),
     }
 }

@@ -15,11 +15,11 @@ use Rattle.rb_model.specs.Ends
 use Rattle.rb_model.specs.Things.{Thing, gives_to}
 use Rattle.rb_model.specs.Private.{Private, held, entered, acted}
 use Rattle.rb_machine.specs.Scopes.{Script, Scope}
-use Rattle.rb_machine.specs.Control.{State, On, Cont, Then, Under, Turns, Counting, Walking, EachPair, WithElement, Eval, Give, Leave, Following, Looping, Turning, Passing, Joining, Drafting, Making, Calling, Reading, Showing, Ended, max_depth}
+use Rattle.rb_machine.specs.Control.{State, On, Cont, Then, Under, Turns, Counting, Walking, EachPair, WithElement, Locked, Eval, Give, Leave, Following, Looping, Turning, Passing, Joining, Drafting, Making, Calling, Reading, Showing, Starting, Ended, max_depth}
 use Rattle.rb_machine.specs.Drafts.{Needs, Goes, Finished, Element, Copies, Asks, needs}
 use Rattle.rb_machine.specs.Call.{ended, raised, start_element, drafted}
 use Rattle.rb_machine.specs.Give.{give}
-use Rattle.rb_machine.specs.Turns.{start_turn, turn, with_element, holding, given}
+use Rattle.rb_machine.specs.Turns.{start_turn, start_owning, turn, with_element, holding, given}
 use Rattle.rb_machine.specs.Follows.{next_thing}
 use Rattle.rb_machine.specs.Move.{Next, Go, Make, Ask, Show, Stop, move, replied, left_in, start_node}
 use Rattle.rb_machine.specs.Alone.{Runs, begins, goes, makes, acts, shows, Alone}
@@ -44,6 +44,7 @@ module _ (S : Script) where
   Lacks (On (Turning (Counting next last answer) block) k sc d left) = (left ≡ 0) × (int_lt next last ≡ true)
   Lacks (On (Turning (EachPair (p ∷ ps) answer) block) k sc d left) = left ≡ 0
   Lacks (On (Give v) (Then (WithElement array next walk block at) ∷ k) sc d left) = left ≡ 0
+  Lacks (On (Give v) (Then (Locked mutex block at) ∷ k) sc d left) = left ≡ 0
   Lacks (On (Drafting t at) k sc d left) = (left ≡ 0) × (comes_to_element (needs S.program t) ≡ true)
   Lacks s = ⊥
 
@@ -57,6 +58,7 @@ module _ (S : Script) where
       ap (λ l. Go (turn S (Counting next last answer) block k sc d l)) h.0 ∙ ap (λ b. Go (cond b spent (On (Give answer) k sc d 0))) h.1
   lacks_spent (On (Turning (EachPair (p ∷ ps) answer) block) k sc d left) h = ap (λ l. Go (turn S (EachPair (p ∷ ps) answer) block k sc d l)) h
   lacks_spent (On (Give v) (Then (WithElement array next walk block at) ∷ k) sc d left) h = ap (λ l. Go (with_element S v array next walk block at k sc d l)) h
+  lacks_spent (On (Give v) (Then (Locked mutex block at) ∷ k) sc d left) h = ap (λ l. Go (start_owning S mutex block at k sc d l)) h
   lacks_spent (On (Drafting t at) k sc d left) h = ap (λ l. Go (drafted S (needs S.program t) at k sc d l)) h.0 ∙ ap Go (element_spent (needs S.program t) at k sc d h.1)
   lacks_spent other h = absurd h
 
@@ -85,6 +87,11 @@ module _ (S : Script) (j : ℕ) where
   starts_or_lacks later values block k sc d zero = inr refl
   starts_or_lacks later values block k sc d (suc left) = inl (turn_started later values block k sc d left)
 
+  owning_or_lacks : (mutex : Reference) (block : Block) (at : Span) (k : List Cont) (sc : Scope) (d left : ℕ)
+      → (start_owning S mutex block at k sc d (left + j) ≡ longer j (start_owning S mutex block at k sc d left)) ⊎ (left ≡ 0)
+  owning_or_lacks mutex block at k sc d zero = inr refl
+  owning_or_lacks mutex block at k sc d (suc left) = inl (ap (start_owning S mutex block at k sc d) (one_step left))
+
   -- another iteration, where one begins
   another : (b : Bool) (later : Turns) (values : List Value) (block : Block) (answer : State) (k : List Cont) (sc : Scope) (d left : ℕ)
       → (cond b (start_turn S later values block k sc d (left + j)) (longer j answer) ≡ longer j (cond b (start_turn S later values block k sc d left) answer)) ⊎ ((left ≡ 0) × (b ≡ true))
@@ -106,6 +113,7 @@ module _ (S : Script) (j : ℕ) where
   element_keeps : (v : Value) (c : Cont) (k : List Cont) (sc : Scope) (d left : ℕ) → begins_turn_at S c ≡ true → Keeps (On (Give v) (c ∷ k) sc d left) (Go (give S v c k sc d left))
   element_keeps v (Then (WithElement array next walk block at)) k sc d left e =
       lifted _ _ (starts_or_lacks (Walking array (suc next) (holding v walk) at) (given v next walk) block k sc d left)
+  element_keeps v (Then (Locked mutex block at)) k sc d left e = lifted _ _ (owning_or_lacks mutex block at k sc d left)
   element_keeps v c k sc d left e = absurd (cc)
 
   given_keeps : (v : Value) (c : Cont) (k : List Cont) (sc : Scope) (d left : ℕ) (b : Bool) → begins_turn_at S c ≡ b → Keeps (On (Give v) (c ∷ k) sc d left) (Go (give S v c k sc d left))
@@ -139,6 +147,7 @@ module _ (S : Script) (j : ℕ) where
   keeps (On (Making thing) k sc d left) = inl refl
   keeps (On (Calling thing act at) k sc d left) = inl refl
   keeps (On (Reading thing purpose at) k sc d left) = inl refl
+  keeps (On (Starting body values at) k sc d left) = inl refl
   keeps (On (Showing bytes) k sc d left) = inl refl
   keeps (On (Ended how) k sc d left) = inl refl
 

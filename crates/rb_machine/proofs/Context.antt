@@ -1,6 +1,6 @@
 -- What the machine does is the same whatever waits behind what it is at.
 use Rattle.std.proofs.Common.{◌≡◌, ℕ, Bool, true, false, cond, List, [], ◌∷◌, ◌++◌, Option, Some, None, length, refl}
-use Rattle.std.specs.Prelude.{zero, suc, ◌+◌, pos, negsuc, int_lt, nat_lt, nat_le, nat_eq, codes}
+use Rattle.std.specs.Prelude.{slice_get, zero, suc, ◌+◌, pos, negsuc, int_lt, nat_lt, nat_le, nat_eq, codes}
 use Rattle.std.specs.List.{list_any}
 use Rattle.std.specs.Str.{bytes_eq}
 use Rattle.rb_tree.specs.declared.span.Span.{Span}
@@ -21,15 +21,15 @@ use Rattle.rb_model.specs.Acts.{Act, GetField, SetField, Reply}
 use Rattle.rb_model.specs.Acts as reply
 use Rattle.rb_model.specs.Ends as ending
 use Rattle.rb_machine.specs.Scopes.{Script, Text, Scope, text_of}
-use Rattle.rb_machine.specs.Control.{State, On, Cont, Then, Under, Test, Again, Turn, Frame, Step, AssignTo, FieldTo, GlobalTo, Rest, Choose, RightOfAnd, RightOfOr, Negate, ReturnOf, ReceiverOf, ReceiverToStore, Argument, Instead, Create, Initialize, PieceOf, JoinTo, WriteBehind, LinesBehind, LineOf, TextOf, IsZero, ElementBelow, WithElement, IndexedBy, MemberOf, IndexOf, ReadOf, RightOf, WriteTo}
-use Rattle.rb_machine.specs.Control.{Eval, Give, Leave, Following, Looping, Turning, Passing, Joining, Drafting, Making, Calling, Reading, Showing, Ended, Exit, Break, Next, Return, Aim, OnReceiver, ByName, Storing, Creating, Listing, Pairing, Place, OfLocal, OfField, OfGlobal, OfElement, OfAttribute, Walk, Each, WithIndex, Map, Select, Turns, Counting, Walking, EachPair, Style, Lines, Plain, Inspecting, Draft, Use, Keys, Values, ForEach, ForText, max_depth}
-use Rattle.rb_machine.specs.Methods.{Answer, Gives, Raises, Loops, LoopsOver, Asks, Reads, EachPairOf, Inspects, deed}
+use Rattle.rb_machine.specs.Control.{State, On, Cont, Then, Under, Test, Again, Turn, Owning, Frame, Step, AssignTo, FieldTo, GlobalTo, Rest, Choose, RightOfAnd, RightOfOr, Negate, ReturnOf, ReceiverOf, ReceiverToStore, Argument, Instead, Create, Initialize, PieceOf, JoinTo, WriteBehind, LinesBehind, LineOf, TextOf, IsZero, ElementBelow, WithElement, Locked, IndexedBy, MemberOf, IndexOf, ReadOf, RightOf, WriteTo}
+use Rattle.rb_machine.specs.Control.{Eval, Give, Leave, Following, Looping, Turning, Passing, Joining, Drafting, Making, Calling, Reading, Showing, Starting, Ended, Exit, Break, Next, Return, Aim, OnReceiver, ByName, Storing, Creating, Listing, Pairing, Threading, Place, OfLocal, OfField, OfGlobal, OfElement, OfAttribute, Walk, Each, WithIndex, Map, Select, Turns, Counting, Walking, EachPair, Style, Lines, Plain, Inspecting, Draft, Use, Keys, Values, ForEach, ForText, max_depth}
+use Rattle.rb_machine.specs.Methods.{Answer, Gives, Raises, Loops, LoopsOver, Asks, Reads, EachPairOf, Inspects, Synchronizes, deed}
 use Rattle.rb_machine.specs.Texts.{max_bytes, styled}
 use Rattle.rb_machine.specs.Drafts.{Needs, Goes, Finished, Element, Copies, with_line, opened, is_collection, is_array}
 use Rattle.rb_machine.specs.Drafts as draft
-use Rattle.rb_machine.specs.Call.{ask_of, going, start_element, drafted, named, texted, methods_of, params_of, invoked, top_level, own, last_value, enter, answered, invoke, operator, show, value_of, text_by, own_text, give_text, give_inspected, give_line, give_styled, bytes_of, write, write_behind, write_lines, put_lines, print, perform, read_place, decide, write_place, fill, new_array, new_hash, create_builtin, create, class_from, initialized, pair_up, pairs_of}
+use Rattle.rb_machine.specs.Call.{ask_of, going, start_element, drafted, named, texted, methods_of, params_of, invoked, top_level, own, last_value, enter, answered, invoke, operator, show, value_of, text_by, own_text, give_text, give_inspected, give_line, give_styled, bytes_of, write, write_behind, write_lines, put_lines, print, perform, start_body, read_place, decide, write_place, fill, new_array, new_hash, new_mutex, create_builtin, create, class_from, initialized, pair_up, pairs_of}
 use Rattle.rb_machine.specs.Begin.{begin, begin_call, begin_target, begin_return}
-use Rattle.rb_machine.specs.Turns.{is_below, next_element, finish, start_turn, turn, holding, given}
+use Rattle.rb_machine.specs.Turns.{is_below, next_element, finish, start_turn, start_owning, turn, holding, given}
 use Rattle.rb_machine.specs.Give.{join, give_step, give, leave}
 use Rattle.rb_machine.specs.Move.{join_piece}
 use Rattle.rb_machine.specs.Move as move
@@ -74,6 +74,10 @@ module _ (S : Script) where
   turn_started later values block r k sc d zero = refl
   turn_started later values block r k sc d (suc left) = refl
 
+  owning_started : (mutex : Reference) (block : Block) (at : Span) (r k : List Cont) (sc : Scope) (d left : ℕ) → start_owning S mutex block at (k ++ r) sc d left ≡ onto r (start_owning S mutex block at k sc d left)
+  owning_started mutex block at r k sc d zero = refl
+  owning_started mutex block at r k sc d (suc left) = refl
+
   pub turn_local : (turns : Turns) (block : Block) (r k : List Cont) (sc : Scope) (d left : ℕ) → turn S turns block (k ++ r) sc d left ≡ onto r (turn S turns block k sc d left)
   turn_local (Counting next last answer) block r k sc d left = either (int_lt next last) r _ _ _ _ (turn_started _ _ block r k sc d left) refl
   turn_local (Walking array next walk at) block r k sc d left = refl
@@ -96,6 +100,8 @@ module _ (S : Script) where
   answered_local (EachPairOf hash) (Some block) at r k sc d left = refl
   answered_local (EachPairOf hash) None at r k sc d left = refl
   answered_local (Inspects collection) block at r k sc d left = refl
+  answered_local (Synchronizes mutex) (Some block) at r k sc d left = refl
+  answered_local (Synchronizes mutex) None at r k sc d left = refl
 
   invoked_local : (m : Option Method) (v : Value) (name : Text) (args : List Value) (block : Option Block) (at : Span) (r k : List Cont) (sc : Scope) (d left : ℕ) → invoked S m v name args block at (k ++ r) sc d left ≡ onto r (invoked S m v name args block at k sc d left)
   invoked_local (Some m) v name args None at r k sc d left = enter_local m v args at r k sc d left
@@ -178,9 +184,14 @@ module _ (S : Script) where
   hash_local [] at r k sc d left = refl
   hash_local (v ∷ vs) at r k sc d left = refl
 
+  mutex_local : (args : List Value) (at : Span) (r k : List Cont) (sc : Scope) (d left : ℕ) → new_mutex S args at (k ++ r) sc d left ≡ onto r (new_mutex S args at k sc d left)
+  mutex_local [] at r k sc d left = refl
+  mutex_local (v ∷ vs) at r k sc d left = refl
+
   builtin_local : (name : Text) (args : List Value) (at : Span) (r k : List Cont) (sc : Scope) (d left : ℕ) → create_builtin S name args at (k ++ r) sc d left ≡ onto r (create_builtin S name args at k sc d left)
   builtin_local name args at r k sc d left =
-      either (bytes_eq name (codes "Array")) r _ _ _ _ (array_local args at r k sc d left) (either (bytes_eq name (codes "Hash")) r _ _ _ _ (hash_local args at r k sc d left) refl)
+      either (bytes_eq name (codes "Array")) r _ _ _ _ (array_local args at r k sc d left) (either (bytes_eq name (codes "Hash")) r _ _ _ _ (hash_local args at r k sc d left)
+      (either (bytes_eq name (codes "Mutex")) r _ _ _ _ (mutex_local args at r k sc d left) refl))
 
   create_local : (class : Option ℕ) (name : NameId) (args : List Value) (at : Span) (r k : List Cont) (sc : Scope) (d left : ℕ) → create S class name args at (k ++ r) sc d left ≡ onto r (create S class name args at k sc d left)
   create_local (Some class) name args at r k sc d left = refl
@@ -194,12 +205,17 @@ module _ (S : Script) where
   initialized_local None object [] at r k sc d left = refl
   initialized_local None object (v ∷ vs) at r k sc d left = refl
 
+  start_local : (b : Option Block) (body : ℕ) (args : List Value) (at : Span) (r k : List Cont) (sc : Scope) (d left : ℕ) → start_body S b body args at (k ++ r) sc d left ≡ onto r (start_body S b body args at k sc d left)
+  start_local (Some block) body args at r k sc d left = either (nat_eq (length args) (length block.params)) r _ _ _ _ refl refl
+  start_local None body args at r k sc d left = refl
+
   pub perform_local : (aim : Aim) (args : List Value) (at : Span) (r k : List Cont) (sc : Scope) (d left : ℕ) → perform S aim args at (k ++ r) sc d left ≡ onto r (perform S aim args at k sc d left)
   perform_local (OnReceiver v name block) args at r k sc d left = invoke_local v name args block at r k sc d left
   perform_local (ByName name) args at r k sc d left = own_local (texted S (text_of S name) (methods_of S sc.me)) name args at r k sc d left
   perform_local (Storing v name) args at r k sc d left = invoke_local v name args None at r (Then (Instead (last_value S args)) ∷ k) sc d left
   perform_local (Creating class) args at r k sc d left = create_local (class_from S 0 class S.program.classes) class args at r k sc d left
   perform_local Listing args at r k sc d left = refl
+  perform_local (Threading body) args at r k sc d left = start_local (slice_get S.program.bodies body) body args at r k sc d left
   perform_local Pairing args at r k sc d left = pair_local (pairs_of S args) at r k sc d left
 
   read_local : (place : Place) (o : AssignOp) (value : Node) (at : Span) (r k : List Cont) (sc : Scope) (d left : ℕ) → read_place S place o value at (k ++ r) sc d left ≡ onto r (read_place S place o value at k sc d left)
@@ -256,6 +272,7 @@ module _ (S : Script) where
   give_step_local v IsZero r k sc d left = refl
   give_step_local v (ElementBelow array next walk block at) r k sc d left = next_element_local v array next walk block at r k sc d left
   give_step_local v (WithElement array next walk block at) r k sc d left = turn_started (Walking array (suc next) (holding v walk) at) (given v next walk) block r k sc d left
+  give_step_local v (Locked mutex block at) r k sc d left = owning_started mutex block at r k sc d left
   give_step_local v (TextOf object) r k sc d left = refl
   give_step_local v (IndexedBy index o value at) r k sc d left = refl
   give_step_local v (MemberOf name o value at) r k sc d left = read_local (OfAttribute v name) o value at r k sc d left
@@ -270,6 +287,7 @@ module _ (S : Script) where
   give_local v (Test condition body) r k sc d left = either (truthy v) r _ _ _ _ refl refl
   give_local v (Again condition body) r k sc d left = refl
   give_local v (Turn turns block kept) r k sc d left = refl
+  give_local v (Owning mutex block at kept) r k sc d left = refl
   give_local v (Frame saved) r k sc d left = refl
 
   begin_call_local : (receiver : Option Node) (name : NameId) (args : List Node) (block : Option Block) (at : Span) (r k : List Cont) (sc : Scope) (d left : ℕ) → begin_call S receiver name args block at (k ++ r) sc d left ≡ onto r (begin_call S receiver name args block at k sc d left)
@@ -303,6 +321,9 @@ leave_local (Return v) (Test condition body) r k sc d left = refl
 leave_local Break (Again condition body) r k sc d left = refl
 leave_local Next (Again condition body) r k sc d left = refl
 leave_local (Return v) (Again condition body) r k sc d left = refl
+leave_local Break (Owning mutex block at kept) r k sc d left = refl
+leave_local Next (Owning mutex block at kept) r k sc d left = refl
+leave_local (Return v) (Owning mutex block at kept) r k sc d left = refl
 leave_local Break (Turn turns block kept) r k sc d left = refl
 leave_local Next (Turn turns block kept) r k sc d left = refl
 leave_local (Return v) (Turn turns block kept) r k sc d left = refl
@@ -337,6 +358,7 @@ pub replied_local : (s : State) (a : Reply) (r : List Cont) → move.replied (on
 replied_local (On (Making thing) k sc d left) a r = answer_local a _ r k sc d left
 replied_local (On (Calling thing act at) k sc d left) a r = answer_local a at r k sc d left
 replied_local (On (Reading thing purpose at) k sc d left) a r = used_local purpose thing a at r k sc d left
+replied_local (On (Starting body values at) k sc d left) a r = answer_local a _ r k sc d left
 replied_local (On (Showing bytes) k sc d left) a r = refl
 replied_local (On (Drafting t at) k sc d left) a r = refl
 replied_local (On (Ended how) k sc d left) a r = refl

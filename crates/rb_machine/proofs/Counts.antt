@@ -16,12 +16,12 @@ use Rattle.rb_model.specs.Acts.{Reply}
 use Rattle.rb_model.specs.Acts as reply
 use Rattle.rb_model.specs.Ends as ending
 use Rattle.rb_machine.specs.Scopes.{Script, Scope}
-use Rattle.rb_machine.specs.Control.{State, On, Cont, Then, Under, Turns, Counting, Walking, EachPair, WithElement, LineOf, Draft, Use, Keys, Values, ForEach, ForText, Eval, Give, Leave, Following, Looping, Turning, Passing, Joining, Drafting, Making, Calling, Reading, Showing, Ended, max_depth}
+use Rattle.rb_machine.specs.Control.{State, On, Cont, Then, Under, Turns, Counting, Walking, EachPair, WithElement, Locked, LineOf, Draft, Use, Keys, Values, ForEach, ForText, Eval, Give, Leave, Following, Looping, Turning, Passing, Joining, Drafting, Making, Calling, Reading, Showing, Starting, Ended, max_depth}
 use Rattle.rb_machine.specs.Drafts.{Needs, Goes, Finished, Element, Copies, Asks, needs, opened}
 use Rattle.rb_machine.specs.Call.{raised, going, drafted}
 use Rattle.rb_machine.specs.Begin.{begin}
 use Rattle.rb_machine.specs.Give.{give}
-use Rattle.rb_machine.specs.Turns.{start_turn, turn, holding, given}
+use Rattle.rb_machine.specs.Turns.{start_turn, start_owning, turn, holding, given}
 use Rattle.rb_machine.specs.Move.{Next, Go, move, answered, used, left_in, start_node, join_piece}
 use Rattle.rb_machine.specs.Laws.{one_more_if, begins_step, comes_to_element, CountsSteps, RepliesAreFree}
 use Rattle.rb_machine.proofs.Measure.{begins_turn_at, give_text_within, join_within, give_within, leave_within, perform_within}
@@ -55,6 +55,10 @@ module _ (S : Script) where
   turn_started later values b k sc d zero = refl
   turn_started later values b k sc d (suc left) = let e : nat_lt 0 (suc left) ≡ true = grind (arith, nat_tests) in ap (λ a. one_more_if a left) (sym e)
 
+  owning_started : (mutex : Reference) (b : Block) (at : Span) (k : List Cont) (sc : Scope) (d left : ℕ) → left ≡ one_more_if (nat_lt 0 left) (left_in (start_owning S mutex b at k sc d left))
+  owning_started mutex b at k sc d zero = refl
+  owning_started mutex b at k sc d (suc left) = let e : nat_lt 0 (suc left) ≡ true = grind (arith, nat_tests) in ap (λ a. one_more_if a left) (sym e)
+
   turn_counted : (turns : Turns) (b : Block) (k : List Cont) (sc : Scope) (d left : ℕ) → Counted (On (Turning turns b) k sc d left) (Go (turn S turns b k sc d left))
   turn_counted (Counting next last answer) b k sc d zero =
       same_left (int_lt next last) zero (start_turn S (Counting (next +ℤ pos 1) last answer) (Int next ∷ []) b k sc d zero) (On (Give answer) k sc d zero) refl refl
@@ -68,10 +72,12 @@ module _ (S : Script) where
 
   no_turn : (v : Value) (c : Cont) (k : List Cont) (sc : Scope) (d left : ℕ) → begins_turn_at S c ≡ false → begins_step S (On (Give v) (c ∷ k) sc d left) ≡ false
   no_turn v (Then (WithElement array next walk block at)) k sc d left e = absurd (cc)
+  no_turn v (Then (Locked mutex block at)) k sc d left e = absurd (cc)
   no_turn v c k sc d left e = refl
 
   element_counted : (v : Value) (c : Cont) (k : List Cont) (sc : Scope) (d left : ℕ) → begins_turn_at S c ≡ true → Counted (On (Give v) (c ∷ k) sc d left) (Go (give S v c k sc d left))
   element_counted v (Then (WithElement array next walk block at)) k sc d left e = turn_started (Walking array (suc next) (holding v walk) at) (given v next walk) block k sc d left
+  element_counted v (Then (Locked mutex block at)) k sc d left e = owning_started mutex block at k sc d left
   element_counted v c k sc d left e = absurd (cc)
 
   given_counted : (v : Value) (c : Cont) (k : List Cont) (sc : Scope) (d left : ℕ) (b : Bool) → begins_turn_at S c ≡ b → Counted (On (Give v) (c ∷ k) sc d left) (Go (give S v c k sc d left))
@@ -117,6 +123,7 @@ module _ (S : Script) where
   counted (On (Making thing) k sc d left) = tt
   counted (On (Calling thing act at) k sc d left) = tt
   counted (On (Reading thing purpose at) k sc d left) = tt
+  counted (On (Starting body values at) k sc d left) = tt
   counted (On (Showing bytes) k sc d left) = tt
   counted (On (Ended how) k sc d left) = tt
 
@@ -152,6 +159,7 @@ pub replies_are_free : RepliesAreFree
 replies_are_free (On (Making thing) k sc d left) r = answer_left r _ k sc d left
 replies_are_free (On (Calling thing act at) k sc d left) r = answer_left r at k sc d left
 replies_are_free (On (Reading thing purpose at) k sc d left) r = used_left purpose thing r at k sc d left
+replies_are_free (On (Starting body values at) k sc d left) r = answer_left r _ k sc d left
 replies_are_free (On (Showing bytes) k sc d left) r = refl
 replies_are_free (On (Drafting t at) k sc d left) r = refl
 replies_are_free (On (Ended how) k sc d left) r = refl

@@ -16,14 +16,14 @@ use Rattle.rb_model.specs.declared.fault.Fault.TheVariants.{TooDeep}
 use Rattle.rb_model.specs.Values.{Value, Int, To, Reference}
 use Rattle.rb_model.specs.Acts.{GetField}
 use Rattle.rb_machine.specs.Scopes.{Script, Scope, Text}
-use Rattle.rb_machine.specs.Control.{State, On, Cont, Then, Under, Turns, Counting, Walking, EachPair, OfField, Form, Inspected, Lined, Open, OfArray, OfHash, Coming, Between, OfValue, OfPair, Draft, LineOf, WithElement, Eval, Give, Leave, Following, Looping, Turning, Passing, Joining, Drafting, Making, Calling, Reading, Showing, Ended, max_depth}
+use Rattle.rb_machine.specs.Control.{State, On, Cont, Then, Under, Turns, Counting, Walking, EachPair, OfField, Form, Inspected, Lined, Open, OfArray, OfHash, Coming, Between, OfValue, OfPair, Draft, LineOf, WithElement, Locked, Eval, Give, Leave, Following, Looping, Turning, Passing, Joining, Drafting, Making, Calling, Reading, Showing, Starting, Ended, max_depth}
 use Rattle.rb_machine.specs.Texts.{max_bytes, inspected}
 use Rattle.rb_machine.specs.Drafts.{Needs, Goes, Finished, Element, Copies, Asks, joined, needs, inspects, lines, collection, is_open, again, closing, is_collection_sort, is_list_sort}
 use Rattle.rb_machine.specs.Call.{raised, drafted}
 use Rattle.rb_machine.specs.Begin.{begin, begin_call, begin_target, begin_return}
 use Rattle.rb_machine.specs.Give.{give}
-use Rattle.rb_machine.specs.Turns.{start_turn, turn}
-use Rattle.rb_machine.specs.Move.{Next, Go, Make, Ask, Show, Stop, move, left_in, start_node, join_piece, IsWant}
+use Rattle.rb_machine.specs.Turns.{start_turn, start_owning, turn}
+use Rattle.rb_machine.specs.Move.{Next, Go, Make, Ask, Begin, Show, Stop, move, left_in, start_node, join_piece, IsWant}
 use Rattle.rb_machine.specs.Laws.{Quiet, stays, moves, IsNeverStuck}
 use Rattle.rb_machine.proofs.Weights.{size, weight, weights, coming_weight, draft_weight}
 use Rattle.rb_machine.proofs.Measure.{Within, wider, begins_turn_at, ask_of_within, going_within, give_text_within, join_within, read_within, give_within, leave_within, perform_within}
@@ -77,6 +77,10 @@ module _ (S : Script) where
   turn_started later values b k sc d zero s e h = inr (sym e, h)
   turn_started later values b k sc d (suc left) s e h = inl (omega (arith, e))
 
+  owning_started : (mutex : Reference) (b : Block) (at : Span) (k : List Cont) (sc : Scope) (d left : ℕ) (s : State) → left_in s ≡ left → 0 < size s → Less (start_owning S mutex b at k sc d left) s
+  owning_started mutex b at k sc d zero s e h = inr (sym e, h)
+  owning_started mutex b at k sc d (suc left) s e h = inl (omega (arith, e))
+
   turn_less : (turns : Turns) (b : Block) (k : List Cont) (sc : Scope) (d left : ℕ) → Less (turn S turns b k sc d left) (On (Turning turns b) k sc d left)
   turn_less (Counting next last answer) b k sc d left =
       one_less (int_lt next last) (On (Turning (Counting next last answer) b) k sc d left) (start_turn S (Counting (next +ℤ pos 1) last answer) (Int next ∷ []) b k sc d left) (On (Give answer) k sc d left)
@@ -88,6 +92,8 @@ module _ (S : Script) where
   element_given : (v : Value) (c : Cont) (k : List Cont) (sc : Scope) (d left : ℕ) → begins_turn_at S c ≡ true → Less (give S v c k sc d left) (On (Give v) (c ∷ k) sc d left)
   element_given v (Then (WithElement array next walk block at)) k sc d left e =
       turn_started _ _ block k sc d left (On (Give v) (Then (WithElement array next walk block at) ∷ k) sc d left) refl (omega arith)
+  element_given v (Then (Locked mutex block at)) k sc d left e =
+      owning_started mutex block at k sc d left (On (Give v) (Then (Locked mutex block at) ∷ k) sc d left) refl (omega arith)
   element_given v c k sc d left e = absurd (cc)
 
   given_less : (v : Value) (c : Cont) (k : List Cont) (sc : Scope) (d left : ℕ) (b : Bool) → begins_turn_at S c ≡ b → Less (give S v c k sc d left) (On (Give v) (c ∷ k) sc d left)
@@ -179,6 +185,7 @@ module _ (S : Script) where
   down (On (Making thing) k sc d left) = tt
   down (On (Calling thing act at) k sc d left) = tt
   down (On (Reading thing purpose at) k sc d left) = tt
+  down (On (Starting body values at) k sc d left) = tt
   down (On (Showing bytes) k sc d left) = tt
   down (On (Ended how) k sc d left) = tt
 
@@ -198,6 +205,7 @@ module _ (S : Script) where
       not_more (inr p) q = omega (arith, p.0, q)
   settle s (Make thing) e h later = (s, stays s, subst IsWant (sym e) tt, omega arith)
   settle s (Ask thing act) e h later = (s, stays s, subst IsWant (sym e) tt, omega arith)
+  settle s (Begin body values) e h later = (s, stays s, subst IsWant (sym e) tt, omega arith)
   settle s (Show bytes) e h later = (s, stays s, subst IsWant (sym e) tt, omega arith)
   settle s (Stop how) e h later = (s, stays s, subst IsWant (sym e) tt, omega arith)
 

@@ -12,13 +12,13 @@ use Rattle.rb_model.specs.Ends.{End, Raised}
 use Rattle.rb_model.specs.Things.{Thing, gives_to}
 use Rattle.rb_model.specs.Private.{Private, held, entered, acted}
 use Rattle.rb_machine.specs.Scopes.{Script, Scope}
-use Rattle.rb_machine.specs.Control.{State, On, Cont, Then, Under, Counting, EachPair, WithElement, Eval, Give, Turning, Drafting, max_depth}
+use Rattle.rb_machine.specs.Control.{State, On, Cont, Then, Under, Counting, EachPair, WithElement, Locked, Eval, Give, Turning, Drafting, max_depth}
 use Rattle.rb_machine.specs.Drafts.{Needs, Element, needs}
 use Rattle.rb_machine.specs.Call.{raised, drafted}
-use Rattle.rb_machine.specs.Turns.{start_turn, turn, with_element}
+use Rattle.rb_machine.specs.Turns.{start_turn, start_owning, turn, with_element}
 use Rattle.rb_machine.specs.Begin.{begin}
 use Rattle.rb_machine.specs.Follows.{next_thing}
-use Rattle.rb_machine.specs.Move.{Next, Go, Make, Ask, Show, Stop, move, replied, left_in, start_node}
+use Rattle.rb_machine.specs.Move.{Next, Go, Make, Ask, Begin, Show, Stop, move, replied, left_in, start_node}
 use Rattle.rb_machine.specs.Alone.{Runs, begins, goes, makes, acts, shows, opening, Alone}
 use Rattle.rb_machine.specs.Laws.{StepsTakenAreEnough, one_more_if, begins_step, comes_to_element}
 use Rattle.rb_machine.proofs.Uniform.{longer, replied_longer}
@@ -85,6 +85,8 @@ module _ (S : Script) (j : ℕ) where
       absurd (stepped (turn S (EachPair (p ∷ ps) answer) block k sc d (suc j)) t (go_is _ t (ap (λ l. Go (turn S (EachPair (p ∷ ps) answer) block k sc d l)) (sym (at_more left h)) ∙ e)) refl small)
   lacks_ends (On (Give v) (Then (WithElement array next walk block at) ∷ k) sc d left) t h e small =
       absurd (stepped (with_element S v array next walk block at k sc d (suc j)) t (go_is _ t (ap (λ l. Go (with_element S v array next walk block at k sc d l)) (sym (at_more left h)) ∙ e)) refl small)
+  lacks_ends (On (Give v) (Then (Locked mutex block at) ∷ k) sc d left) t h e small =
+      absurd (stepped (start_owning S mutex block at k sc d (suc j)) t (go_is _ t (ap (λ l. Go (start_owning S mutex block at k sc d l)) (sym (at_more left h)) ∙ e)) refl small)
   lacks_ends (On (Drafting draft at) k sc d left) t h e small =
       let need = needs S.program draft in
       absurd (stepped (drafted S need at k sc d (suc j)) t (go_is _ t (ap (λ l. Go (drafted S need at k sc d l)) (sym (at_more left h.0)) ∙ e)) (element_takes need at k sc d h.1) small)
@@ -95,6 +97,7 @@ module _ (S : Script) (j : ℕ) where
   lacks_goes (On (Turning (Counting next last answer) block) k sc d left) want h e w = subst IsWanted (sym e) w
   lacks_goes (On (Turning (EachPair (p ∷ ps) answer) block) k sc d left) want h e w = subst IsWanted (sym e) w
   lacks_goes (On (Give v) (Then (WithElement array next walk block at) ∷ k) sc d left) want h e w = subst IsWanted (sym e) w
+  lacks_goes (On (Give v) (Then (Locked mutex block at) ∷ k) sc d left) want h e w = subst IsWanted (sym e) w
   lacks_goes (On (Drafting draft at) k sc d left) want h e w = subst IsWanted (sym e) w
   lacks_goes other want h e w = absurd h
 
@@ -103,6 +106,7 @@ module _ (S : Script) (j : ℕ) where
   back (Go s) want w e = absurd (subst IsWanted (sym e) w)
   back (Make thing) want w e = e
   back (Ask r act) want w e = e
+  back (Begin body values) want w e = e
   back (Show bytes) want w e = e
   back (Stop how) want w e = e
 
@@ -117,6 +121,7 @@ module _ (S : Script) (j : ℕ) where
   gone (Go s) t e = (s, refl, sym (go_is (longer (suc j) s) t e))
   gone (Make thing) t e = absurd (cc)
   gone (Ask r act) t e = absurd (cc)
+  gone (Begin body values) t e = absurd (cc)
   gone (Show bytes) t e = absurd (cc)
   gone (Stop how) t e = absurd (cc)
 

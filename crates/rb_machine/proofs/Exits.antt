@@ -1,7 +1,7 @@
 -- Where `break`, `next` and `return` lead.
 use Rattle.std.proofs.Common.{◌≡◌, ℕ, true, List, [], ◌∷◌, ◌++◌, refl}
 use Rattle.rb_machine.specs.Scopes.{Script, Scope}
-use Rattle.rb_machine.specs.Control.{State, On, Cont, Then, Under, Test, Again, Turn, Frame, Leave, Exit, Break, Next}
+use Rattle.rb_machine.specs.Control.{State, On, Cont, Then, Under, Test, Again, Turn, Owning, Frame, Leave, Exit, Break, Next}
 use Rattle.rb_machine.specs.Give.{back, leave}
 use Rattle.rb_machine.specs.Laws.{Quiet, stays, moves, is_inner, depth_behind, BreakEndsLoops, BreakEndsBlocks, NextGoesOn, ReturnEndsMethods}
 
@@ -14,6 +14,7 @@ past S e (Under depth ∷ inner) k sc d left t h q = moves _ _ _ refl (past S e 
 past S e (Test condition body ∷ inner) k sc d left t h q = absurd (cc)
 past S e (Again condition body ∷ inner) k sc d left t h q = absurd (cc)
 past S e (Turn turns block kept ∷ inner) k sc d left t h q = absurd (cc)
+past S e (Owning mutex block at kept ∷ inner) k sc d left t h q = absurd (cc)
 past S e (Frame saved ∷ inner) k sc d left t h q = absurd (cc)
 
 -- the next state is this one
@@ -39,4 +40,5 @@ return_ends_methods S (Under depth ∷ inner) k v saved sc d left h = moves _ _ 
 return_ends_methods S (Test condition body ∷ inner) k v saved sc d left h = moves _ _ _ refl (return_ends_methods S inner k v saved sc d left h)
 return_ends_methods S (Again condition body ∷ inner) k v saved sc d left h = moves _ _ _ refl (return_ends_methods S inner k v saved sc d left h)
 return_ends_methods S (Turn turns block kept ∷ inner) k v saved sc d left h = moves _ _ _ refl (return_ends_methods S inner k v saved (back kept sc) d left h)
+return_ends_methods S (Owning mutex block at kept ∷ inner) k v saved sc d left h = absurd (cc)
 return_ends_methods S (Frame inner_scope ∷ inner) k v saved sc d left h = absurd (cc)

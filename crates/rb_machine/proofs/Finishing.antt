@@ -9,13 +9,13 @@ use Rattle.rb_model.specs.Ends as ending
 use Rattle.rb_model.specs.Things.{Thing, gives_to}
 use Rattle.rb_model.specs.Private.{Private, held}
 use Rattle.rb_machine.specs.Scopes.{Script, Scope}
-use Rattle.rb_machine.specs.Control.{State, On, Cont, Draft, Form, Inspected, Lined, Use, Keys, Values, ForEach, ForText, Eval, Give, Leave, Following, Looping, Turning, Passing, Joining, Drafting, Making, Calling, Reading, Showing, Ended}
+use Rattle.rb_machine.specs.Control.{State, On, Cont, Draft, Form, Inspected, Lined, Use, Keys, Values, ForEach, ForText, Eval, Give, Leave, Following, Looping, Turning, Passing, Joining, Drafting, Making, Calling, Reading, Showing, Starting, Ended}
 use Rattle.rb_machine.specs.Texts.{max_bytes}
 use Rattle.rb_machine.specs.Drafts.{opened_array, lead_of, empty_lines}
 use Rattle.rb_machine.specs.Call.{going}
-use Rattle.rb_machine.specs.Move.{Next, Go, Make, Ask, Show, Stop, move, replied, answered, used, left_in}
+use Rattle.rb_machine.specs.Move.{Next, Go, Make, Ask, Begin, Show, Stop, move, replied, answered, used, left_in}
 use Rattle.rb_machine.specs.Alone.{Runs, begins, goes, makes, acts, shows, opening, globals_alone}
-use Rattle.rb_machine.specs.Laws.{Finishes, ends, misses, AlwaysFinishes}
+use Rattle.rb_machine.specs.Laws.{starts, Finishes, ends, misses, AlwaysFinishes}
 use Rattle.rb_machine.proofs.Weights.{size, use_weight, weights}
 use Rattle.rb_machine.proofs.Measure.{Within, wider, going_within}
 use Rattle.rb_machine.proofs.Down.{Less, Down, down, by_less}
@@ -68,6 +68,7 @@ module _ (S : Script) (N : ℕ) where
   reply_less (On (Making thing) k sc d left) r h = inr (answered_less r _ k sc d left)
   reply_less (On (Calling thing act at) k sc d left) r h = inr (answered_less r at k sc d left)
   reply_less (On (Reading thing purpose at) k sc d left) r h = inr (used_less purpose thing r at k sc d left)
+  reply_less (On (Starting body values at) k sc d left) r h = inr (answered_less r at k sc d left)
   reply_less (On (Showing bytes) k sc d left) r h = inr (refl, omega arith)
   reply_less (On (Drafting t at) k sc d left) r h = absurd h
   reply_less (On (Ended how) k sc d left) r h = absurd h
@@ -97,6 +98,7 @@ module _ (S : Script) (N : ℕ) where
   step s (Go t) e d reply later b h run = later t d b h (goes b h s t run e)
   step s (Make thing) e d reply later b h run = reply tt _ _ _ (makes b h s thing run e)
   step s (Ask q act) e d reply later b h run = asked s q act (held h q.id) b h run e refl (reply tt)
+  step s (Begin body values) e d reply later b h run = starts b h s body values run e
   step s (Show bytes) e d reply later b h run = reply tt Done _ _ (shows b h s bytes run e)
   step s (Stop how) e d reply later b h run = ends b how _ (record { store = h; last = s; run = run; ends = e; counted = refl })
 

@@ -1,6 +1,6 @@
 -- The names in scope follow the text of the script; and an end for want of steps has none left.
 use Rattle.std.proofs.Common.{◌≡◌, ℕ, zero, suc, ◌+◌, Bool, true, false, cond, List, [], ◌∷◌, ◌++◌, take, Option, Some, None, length, refl, sym, ap, ◌∙◌, subst}
-use Rattle.std.specs.Prelude.{pos, negsuc, nat_lt, nat_le, nat_eq, int_lt, codes, ◌==◌}
+use Rattle.std.specs.Prelude.{slice_get, pos, negsuc, nat_lt, nat_le, nat_eq, int_lt, codes, ◌==◌}
 use Rattle.std.specs.List.{list_any}
 use Rattle.std.specs.Option.{is_some}
 use Rattle.std.specs.Str.{bytes_eq}
@@ -26,15 +26,15 @@ use Rattle.rb_model.specs.Things.{max_elements}
 use Rattle.rb_model.specs.Acts.{Act, GetField, SetField}
 use Rattle.rb_model.specs.Ends.{Steps}
 use Rattle.rb_machine.specs.Scopes.{Script, Text, Scope, Locals, text_of, found, assign, fresh, with_locals}
-use Rattle.rb_machine.specs.Control.{State, On, Cont, Then, Under, Test, Again, Turn, Frame, Step, AssignTo, FieldTo, GlobalTo, Rest, Choose, RightOfAnd, RightOfOr, Negate, ReturnOf, ReceiverOf, ReceiverToStore, Argument, Instead, Create, Initialize, PieceOf, JoinTo, WriteBehind, LinesBehind, LineOf, TextOf, IsZero, ElementBelow, WithElement, IndexedBy, MemberOf, IndexOf, ReadOf, RightOf, WriteTo}
-use Rattle.rb_machine.specs.Control.{Ended, Exit, Break, Next, Return, Aim, OnReceiver, ByName, Storing, Creating, Listing, Pairing, Place, OfLocal, OfField, OfGlobal, OfElement, OfAttribute, Walk, Each, WithIndex, Map, Select, Turns, Counting, Walking, EachPair, Style, Lines, Plain, Inspecting, Draft, max_depth}
-use Rattle.rb_machine.specs.Methods.{Answer, Gives, Raises, Loops, LoopsOver, Asks, Reads, EachPairOf, Inspects, deed}
+use Rattle.rb_machine.specs.Control.{State, On, Cont, Then, Under, Test, Again, Turn, Owning, Frame, Step, AssignTo, FieldTo, GlobalTo, Rest, Choose, RightOfAnd, RightOfOr, Negate, ReturnOf, ReceiverOf, ReceiverToStore, Argument, Instead, Create, Initialize, PieceOf, JoinTo, WriteBehind, LinesBehind, LineOf, TextOf, IsZero, ElementBelow, WithElement, Locked, IndexedBy, MemberOf, IndexOf, ReadOf, RightOf, WriteTo}
+use Rattle.rb_machine.specs.Control.{Ended, Exit, Break, Next, Return, Aim, OnReceiver, ByName, Storing, Creating, Listing, Pairing, Threading, Place, OfLocal, OfField, OfGlobal, OfElement, OfAttribute, Walk, Each, WithIndex, Map, Select, Turns, Counting, Walking, EachPair, Style, Lines, Plain, Inspecting, Draft, max_depth}
+use Rattle.rb_machine.specs.Methods.{Answer, Gives, Raises, Loops, LoopsOver, Asks, Reads, EachPairOf, Inspects, Synchronizes, deed}
 use Rattle.rb_machine.specs.Texts.{max_bytes, styled}
 use Rattle.rb_machine.specs.Drafts.{Needs, Goes, Finished, Element, Copies, with_line, opened, is_collection, is_array}
 use Rattle.rb_machine.specs.Drafts as draft
-use Rattle.rb_machine.specs.Call.{raised, ask_of, going, start_element, drafted, named, texted, methods_of, params_of, invoked, top_level, own, last_value, enter, answered, invoke, operator, show, value_of, text_by, own_text, give_text, give_inspected, give_line, give_styled, bytes_of, write, write_behind, write_lines, put_lines, print, perform, read_place, decide, write_place, fill, new_array, new_hash, create_builtin, create, class_from, initialized, pair_up, pairs_of}
+use Rattle.rb_machine.specs.Call.{raised, ask_of, going, start_element, drafted, named, texted, methods_of, params_of, invoked, top_level, own, last_value, enter, answered, invoke, operator, show, value_of, text_by, own_text, give_text, give_inspected, give_line, give_styled, bytes_of, write, write_behind, write_lines, put_lines, print, perform, start_body, read_place, decide, write_place, fill, new_array, new_hash, new_mutex, create_builtin, create, class_from, initialized, pair_up, pairs_of}
 use Rattle.rb_machine.specs.Begin.{begin, begin_call, begin_target, begin_return}
-use Rattle.rb_machine.specs.Turns.{is_below, next_element, finish, start_turn, turn, holding, given}
+use Rattle.rb_machine.specs.Turns.{is_below, next_element, finish, start_turn, start_owning, turn, holding, given}
 use Rattle.rb_machine.specs.Give.{back, join, give_step, give, leave}
 use Rattle.rb_machine.specs.Move.{start_node, join_piece}
 use Rattle.rb_machine.specs.Laws.{names_in, AreInScope}
@@ -113,6 +113,15 @@ module _ (S : Script) where
         h,
       )
 
+  owning_started : (mutex : Reference) (block : Block) (at : Span) (k : List Cont) (sc : Scope) (d left : ℕ) → Inside k sc → Sound (start_owning S mutex block at k sc d left)
+  owning_started mutex block at k sc d zero h = λ e. refl
+  owning_started mutex block at k sc d (suc left) h = (
+    names_in sc.locals,
+    map-append (λ (b : NameId × Value). b.0) sc.locals (fresh (S.block_names block.at) []) ∙ ap (λ l. names_in sc.locals ++ l) (names_in-fresh (S.block_names block.at) []),
+    sym (length-map sc.locals (λ (b : NameId × Value). b.0)),
+    h,
+  )
+
   pub turn_sound : (turns : Turns) (block : Block) (k : List Cont) (sc : Scope) (d left : ℕ) → Inside k sc → Sound (turn S turns block k sc d left)
   turn_sound (Counting next last answer) block k sc d left h = either_sound (int_lt next last) _ _ (turn_started _ _ block k sc d left h) h
   turn_sound (Walking array next walk at) block k sc d left h = h
@@ -135,6 +144,8 @@ module _ (S : Script) where
   answered_sound (EachPairOf hash) (Some block) at k sc d left h = h
   answered_sound (EachPairOf hash) None at k sc d left h = raised_sound _ at left
   answered_sound (Inspects collection) block at k sc d left h = h
+  answered_sound (Synchronizes mutex) (Some block) at k sc d left h = h
+  answered_sound (Synchronizes mutex) None at k sc d left h = raised_sound _ at left
 
   invoked_sound : (m : Option Method) (v : Value) (name : Text) (args : List Value) (block : Option Block) (at : Span) (k : List Cont) (sc : Scope) (d left : ℕ) → Inside k sc → Sound (invoked S m v name args block at k sc d left)
   invoked_sound (Some m) v name args None at k sc d left h = enter_sound m v args at k sc d left h
@@ -217,10 +228,15 @@ module _ (S : Script) where
   hash_sound [] at k sc d left h = h
   hash_sound (v ∷ vs) at k sc d left h = raised_sound _ at left
 
+  mutex_sound : (args : List Value) (at : Span) (k : List Cont) (sc : Scope) (d left : ℕ) → Inside k sc → Sound (new_mutex S args at k sc d left)
+  mutex_sound [] at k sc d left h = h
+  mutex_sound (v ∷ vs) at k sc d left h = raised_sound _ at left
+
   builtin_sound : (name : Text) (args : List Value) (at : Span) (k : List Cont) (sc : Scope) (d left : ℕ) → Inside k sc → Sound (create_builtin S name args at k sc d left)
   builtin_sound name args at k sc d left h =
       either_sound (bytes_eq name (codes "Array")) _ _ (array_sound args at k sc d left h)
-      (either_sound (bytes_eq name (codes "Hash")) _ _ (hash_sound args at k sc d left h) (raised_sound _ at left))
+      (either_sound (bytes_eq name (codes "Hash")) _ _ (hash_sound args at k sc d left h)
+      (either_sound (bytes_eq name (codes "Mutex")) _ _ (mutex_sound args at k sc d left h) (raised_sound _ at left)))
 
   create_sound : (class : Option ℕ) (name : NameId) (args : List Value) (at : Span) (k : List Cont) (sc : Scope) (d left : ℕ) → Inside k sc → Sound (create S class name args at k sc d left)
   create_sound (Some class) name args at k sc d left h = h
@@ -234,12 +250,17 @@ module _ (S : Script) where
   initialized_sound None object [] at k sc d left h = h
   initialized_sound None object (v ∷ vs) at k sc d left h = raised_sound _ at left
 
+  start_sound : (b : Option Block) (body : ℕ) (args : List Value) (at : Span) (k : List Cont) (sc : Scope) (d left : ℕ) → Inside k sc → Sound (start_body S b body args at k sc d left)
+  start_sound (Some block) body args at k sc d left h = either_sound (nat_eq (length args) (length block.params)) _ _ h (raised_sound _ at left)
+  start_sound None body args at k sc d left h = raised_sound _ at left
+
   pub perform_sound : (aim : Aim) (args : List Value) (at : Span) (k : List Cont) (sc : Scope) (d left : ℕ) → Inside k sc → Sound (perform S aim args at k sc d left)
   perform_sound (OnReceiver v name block) args at k sc d left h = invoke_sound v name args block at k sc d left h
   perform_sound (ByName name) args at k sc d left h = own_sound (texted S (text_of S name) (methods_of S sc.me)) name args at k sc d left h
   perform_sound (Storing v name) args at k sc d left h = invoke_sound v name args None at (Then (Instead (last_value S args)) ∷ k) sc d left h
   perform_sound (Creating class) args at k sc d left h = create_sound (class_from S 0 class S.program.classes) class args at k sc d left h
   perform_sound Listing args at k sc d left h = h
+  perform_sound (Threading body) args at k sc d left h = start_sound (slice_get S.program.bodies body) body args at k sc d left h
   perform_sound Pairing args at k sc d left h = pair_sound (pairs_of S args) at k sc d left h
 
   read_sound : (place : Place) (o : AssignOp) (value : Node) (at : Span) (k : List Cont) (sc : Scope) (d left : ℕ) → Inside k sc → Sound (read_place S place o value at k sc d left)
@@ -299,6 +320,7 @@ module _ (S : Script) where
   give_step_sound v IsZero k sc d left h = h
   give_step_sound v (ElementBelow array next walk block at) k sc d left h = next_element_sound v array next walk block at k sc d left h
   give_step_sound v (WithElement array next walk block at) k sc d left h = turn_started (Walking array (suc next) (holding v walk) at) (given v next walk) block k sc d left h
+  give_step_sound v (Locked mutex block at) k sc d left h = owning_started mutex block at k sc d left h
   give_step_sound v (TextOf object) k sc d left h = h
   give_step_sound v (IndexedBy index o value at) k sc d left h = h
   give_step_sound v (MemberOf name o value at) k sc d left h = read_sound (OfAttribute v name) o value at k sc d left h
@@ -311,12 +333,16 @@ module _ (S : Script) where
   back_sound : (turns : Turns) (block : Block) (kept : ℕ) (k : List Cont) (sc : Scope) → Inside (Turn turns block kept ∷ k) sc → Inside k (back kept sc)
   back_sound turns block kept k sc h = subst (λ names. AreInScope S k names) (sym (names_in-take h.0 (S.block_names block.at) sc.locals kept h.1 h.2)) h.3
 
+  owning_back : (mutex : Reference) (block : Block) (at : Span) (kept : ℕ) (k : List Cont) (sc : Scope) → Inside (Owning mutex block at kept ∷ k) sc → Inside k (back kept sc)
+  owning_back mutex block at kept k sc h = subst (λ names. AreInScope S k names) (sym (names_in-take h.0 (S.block_names block.at) sc.locals kept h.1 h.2)) h.3
+
   pub give_sound : (v : Value) (c : Cont) (k : List Cont) (sc : Scope) (d left : ℕ) → Inside (c ∷ k) sc → Sound (give S v c k sc d left)
   give_sound v (Then step) k sc d left h = give_step_sound v step k sc d left h
   give_sound v (Under depth) k sc d left h = h
   give_sound v (Test condition body) k sc d left h = either_sound (truthy v) _ _ h h
   give_sound v (Again condition body) k sc d left h = h
   give_sound v (Turn turns block kept) k sc d left h = back_sound turns block kept k sc h
+  give_sound v (Owning mutex block at kept) k sc d left h = owning_back mutex block at kept k sc h
   give_sound v (Frame saved) k sc d left h = h.2
 
   pub leave_sound : (e : Exit) (c : Cont) (k : List Cont) (sc : Scope) (d left : ℕ) → Inside (c ∷ k) sc → Sound (leave e c k sc d left)
@@ -331,6 +357,9 @@ module _ (S : Script) where
   leave_sound Break (Turn turns block kept) k sc d left h = back_sound turns block kept k sc h
   leave_sound Next (Turn turns block kept) k sc d left h = back_sound turns block kept k sc h
   leave_sound (Return v) (Turn turns block kept) k sc d left h = back_sound turns block kept k sc h
+  leave_sound Break (Owning mutex block at kept) k sc d left h = owning_back mutex block at kept k sc h
+  leave_sound Next (Owning mutex block at kept) k sc d left h = owning_back mutex block at kept k sc h
+  leave_sound (Return v) (Owning mutex block at kept) k sc d left h = owning_back mutex block at kept k sc h
   leave_sound Break (Frame saved) k sc d left h = h.2
   leave_sound Next (Frame saved) k sc d left h = h.2
   leave_sound (Return v) (Frame saved) k sc d left h = h.2
@@ -355,7 +384,6 @@ module _ (S : Script) where
   begin_sound (node.OpAssign target o value at) k sc d left h = begin_target_sound (out-Target target) o value at k sc d left h
   begin_sound (node.Call receiver name args block at) k sc d left h = begin_call_sound receiver name args block at k sc d left h
   begin_sound (node.Return value at) k sc d left h = begin_return_sound value k sc d left h
-  begin_sound (node.ThreadNew args body at) k sc d left h = raised_sound _ at left
   begin_sound other k sc d left h = h
 
   pub node_sound : (n : Node) (k : List Cont) (sc : Scope) (d left : ℕ) → Inside k sc → Sound (start_node S n k sc d left)

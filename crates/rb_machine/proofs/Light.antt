@@ -218,13 +218,23 @@ module _ (P : Program) where
     ),
   )
 
+  mutexes_light : AreLight (method.mutex_rows P)
+  mutexes_light = (on_thing_light _ (λ m args. omega arith), (on_thing_light _ (λ m args. omega arith), (on_thing_light _ (λ m args. tt), tt)))
+
+  threads_light : AreLight (method.thread_rows P)
+  threads_light = (on_thing_light _ (λ t args. omega arith), (on_thing_light _ (λ t args. tt), tt))
+
   rows_light : AreLight (method.rows P)
   rows_light =
-      let collections = light_append (method.hash_rows P) (method.collection_rows P) hashes_light collections_light in
-      let arrays = light_append (method.array_rows P) (method.hash_rows P ++ method.collection_rows P) arrays_light collections in
-      let strings = light_append (method.string_rows P) (method.array_rows P ++ (method.hash_rows P ++ method.collection_rows P)) strings_light arrays in
-      let integers = light_append (method.integer_rows P) (method.string_rows P ++ (method.array_rows P ++ (method.hash_rows P ++ method.collection_rows P))) integers_light strings in
-      light_append (method.any_rows P) (method.integer_rows P ++ (method.string_rows P ++ (method.array_rows P ++ (method.hash_rows P ++ method.collection_rows P)))) any_light integers
+      let few = method.mutex_rows P ++ method.thread_rows P in
+      let last = method.collection_rows P ++ few in
+      let mutexes = light_append (method.mutex_rows P) (method.thread_rows P) mutexes_light threads_light in
+      let collections = light_append (method.collection_rows P) few collections_light mutexes in
+      let hashes = light_append (method.hash_rows P) last hashes_light collections in
+      let arrays = light_append (method.array_rows P) (method.hash_rows P ++ last) arrays_light hashes in
+      let strings = light_append (method.string_rows P) (method.array_rows P ++ (method.hash_rows P ++ last)) strings_light arrays in
+      let integers = light_append (method.integer_rows P) (method.string_rows P ++ (method.array_rows P ++ (method.hash_rows P ++ last))) integers_light strings in
+      light_append (method.any_rows P) (method.integer_rows P ++ (method.string_rows P ++ (method.array_rows P ++ (method.hash_rows P ++ last)))) any_light integers
 
 unless_fault_light : (fault : Option Fault) (counts : Bool) (a : Answer) → Light a → Light (method.unless_fault fault counts a)
 unless_fault_light (Some fault) counts a h = tt

@@ -20,7 +20,7 @@ use Rattle.rb_model.specs.Started.{after_call, after_entries, ungathered}
 use Rattle.rb_machine.specs.Scopes.{Script}
 use Rattle.rb_machine.specs.Control.{State}
 use Rattle.rb_machine.specs.Move.{Go, Make, Ask, Show, Stop, move, replied}
-use Rattle.rb_machine.specs.Follows.{At, Comes, ends, cut, fills, refuses, Tail, all_gathered, gathers, leaves_out, Follows, closes, late, full, next_thing, last_entry, step_of}
+use Rattle.rb_machine.specs.Follows.{starts_full, At, Comes, ends, cut, fills, refuses, Tail, all_gathered, gathers, leaves_out, Follows, closes, late, full, next_thing, last_entry, step_of}
 use Rattle.rb_machine.specs.Follows as thread
 use Rattle.rb_machine.specs.Alone.{Runs, Alone, opening}
 use Rattle.rb_machine.specs.Alone as run
@@ -143,6 +143,7 @@ module _ (S : Script) (N : ℕ) where
   beside (thread.makes l h s thing a e) z k = makes_beside (prints l.entries) h s thing (beside a z k) e
   beside (thread.acts l h s r act thing a e f) z k = acts_beside (prints l.entries) h s r act thing (beside a z k) e f
   beside (thread.asks l h h' s r act moved answer a e f g) z k = let wrong : false ≡ true = (keeps_more l.entries _ k).1 in absurd (cc)
+  beside (thread.starts l h h' s body values moved answer a e g) z k = let wrong : false ≡ true = (keeps_more l.entries _ k).1 in absurd (cc)
   beside (thread.prints l h s bytes a e) z k = shows_beside l.entries _ h s bytes (beside a z (keeps_more l.entries _ k).0) e refl
 
   -- ---- its own end
@@ -154,6 +155,7 @@ module _ (S : Script) (N : ℕ) where
   own_end (ends l h s e a stop) z k c = own_alone l h s e (beside a z k) stop
   own_end (cut l h want n a w ge le) z k c = let wrong : true ≡ false = c in absurd (cc)
   own_end (fills l h h' s r act moved used asked a e f g) z k c = let wrong : true ≡ false = c in absurd (cc)
+  own_end (starts_full l h h' s body values moved used asked a e g) z k c = let wrong : true ≡ false = c in absurd (cc)
   own_end (refuses l h s bytes a e) z k c = let wrong : true ≡ false = c in absurd (cc)
 
   closed_alone : (l : Log) (how : End) (n : ℕ) (last : Entry) → printed last.call ≡ [] → last.step ≡ n → Alone S N (prints l.entries) how n
@@ -178,6 +180,7 @@ module _ (S : Script) (N : ℕ) where
   shown_in (ends l h s e a stop) z k = shown_at l h s a z k
   shown_in (cut l h want n a w ge le) z k = shown_at l h want a z k
   shown_in (fills l h h' s r act moved used asked a e f g) z k = shown_at l h s a z k
+  shown_in (starts_full l h h' s body values moved used asked a e g) z k = shown_at l h s a z k
   shown_in (refuses l h s bytes a e) z k = shown_at l h s a z k
 
   shown_closed : (es : List Entry) (last : Entry) → printed last.call ≡ [] → keeps_to_itself (es ++ last ∷ []) ≡ true → (keeps_to_itself es ≡ true → Shown (prints es))

@@ -1,6 +1,6 @@
 -- The work that is left where no step begins: how much each part of the machine leaves.
 use Rattle.std.proofs.Common.{◌≡◌, ◌≤◌, ℕ, ◌+◌, ◌*◌, Bool, true, false, cond, List, [], ◌∷◌, ◌++◌, Option, Some, None, length, refl, arith}
-use Rattle.std.specs.Prelude.{pos, negsuc, nat_lt, nat_le, nat_eq, codes}
+use Rattle.std.specs.Prelude.{slice_get, pos, negsuc, nat_lt, nat_le, nat_eq, codes}
 use Rattle.std.specs.List.{list_any}
 use Rattle.std.specs.Str.{bytes_eq}
 use Rattle.std.proofs.lemmas.List.{length-append}
@@ -16,12 +16,12 @@ use Rattle.rb_model.specs.Values.{Value, Nil, False, True, Int, Sym, Str, To, Re
 use Rattle.rb_model.specs.Acts.{Act}
 use Rattle.rb_model.specs.Things.{max_elements}
 use Rattle.rb_machine.specs.Scopes.{Script, Text, Scope, text_of}
-use Rattle.rb_machine.specs.Control.{State, Cont, Then, Under, Test, Again, Turn, Frame, Step, AssignTo, FieldTo, GlobalTo, Rest, Choose, RightOfAnd, RightOfOr, Negate, ReturnOf, ReceiverOf, ReceiverToStore, Argument, Instead, Create, Initialize, PieceOf, JoinTo, WriteBehind, LinesBehind, LineOf, TextOf, IsZero, ElementBelow, WithElement, IndexedBy, MemberOf, IndexOf, ReadOf, RightOf, WriteTo}
-use Rattle.rb_machine.specs.Control.{Exit, Break, Next, Return, Aim, OnReceiver, ByName, Storing, Creating, Listing, Pairing, Place, OfLocal, OfField, OfGlobal, OfElement, OfAttribute, Walk, Each, WithIndex, Map, Select, Style, Lines, Plain, Inspecting, Draft}
-use Rattle.rb_machine.specs.Methods.{Answer, Gives, Raises, Loops, LoopsOver, Asks, Reads, EachPairOf, Inspects}
+use Rattle.rb_machine.specs.Control.{State, Cont, Then, Under, Test, Again, Turn, Owning, Frame, Step, AssignTo, FieldTo, GlobalTo, Rest, Choose, RightOfAnd, RightOfOr, Negate, ReturnOf, ReceiverOf, ReceiverToStore, Argument, Instead, Create, Initialize, PieceOf, JoinTo, WriteBehind, LinesBehind, LineOf, TextOf, IsZero, ElementBelow, WithElement, Locked, IndexedBy, MemberOf, IndexOf, ReadOf, RightOf, WriteTo}
+use Rattle.rb_machine.specs.Control.{Exit, Break, Next, Return, Aim, OnReceiver, ByName, Storing, Creating, Listing, Pairing, Threading, Place, OfLocal, OfField, OfGlobal, OfElement, OfAttribute, Walk, Each, WithIndex, Map, Select, Style, Lines, Plain, Inspecting, Draft}
+use Rattle.rb_machine.specs.Methods.{Answer, Gives, Raises, Loops, LoopsOver, Asks, Reads, EachPairOf, Inspects, Synchronizes}
 use Rattle.rb_machine.specs.Texts.{max_bytes, line_of, styled}
 use Rattle.rb_machine.specs.Drafts.{with_line, is_collection, is_array}
-use Rattle.rb_machine.specs.Call.{ask_of, going, named, texted, methods_of, params_of, invoked, top_level, own, last_value, enter, answered, invoke, show, value_of_p, value_of, text_by, own_text, give_text, give_inspected, give_line, give_styled, bytes_of, write, write_behind, write_lines, put_lines, print, perform, read_place, decide, write_place, fill, new_array, new_hash, create_builtin, create, class_from, initialized, pair_up, pairs_of}
+use Rattle.rb_machine.specs.Call.{ask_of, going, named, texted, methods_of, params_of, invoked, top_level, own, last_value, enter, answered, invoke, show, value_of_p, value_of, text_by, own_text, give_text, give_inspected, give_line, give_styled, bytes_of, write, write_behind, write_lines, put_lines, print, perform, start_body, read_place, decide, write_place, fill, new_array, new_hash, new_mutex, create_builtin, create, class_from, initialized, pair_up, pairs_of}
 use Rattle.rb_machine.specs.Turns.{is_below, next_element, finish}
 use Rattle.rb_machine.specs.Give.{join, give_step, give, leave}
 use Rattle.rb_machine.specs.Move.{left_in}
@@ -86,6 +86,8 @@ module _ (S : Script) where
   answered_within (EachPairOf hash) (Some block) at k sc d left h = (refl, omega arith)
   answered_within (EachPairOf hash) None at k sc d left h = (refl, omega arith)
   answered_within (Inspects collection) block at k sc d left h = (refl, omega arith)
+  answered_within (Synchronizes mutex) (Some block) at k sc d left h = (refl, omega arith)
+  answered_within (Synchronizes mutex) None at k sc d left h = (refl, omega arith)
 
   pub invoked_within : (m : Option Method) (v : Value) (name : Text) (args : List Value) (block : Option Block) (at : Span) (k : List Cont) (sc : Scope) (d left : ℕ)
       → Within left (9 + weights k) (invoked S m v name args block at k sc d left)
@@ -176,10 +178,15 @@ module _ (S : Script) where
   hash_within [] at k sc d left = (refl, omega arith)
   hash_within (v ∷ vs) at k sc d left = (refl, omega arith)
 
+  mutex_within : (args : List Value) (at : Span) (k : List Cont) (sc : Scope) (d left : ℕ) → Within left (3 + weights k) (new_mutex S args at k sc d left)
+  mutex_within [] at k sc d left = (refl, omega arith)
+  mutex_within (v ∷ vs) at k sc d left = (refl, omega arith)
+
   builtin_within : (name : Text) (args : List Value) (at : Span) (k : List Cont) (sc : Scope) (d left : ℕ) → Within left (3 + weights k) (create_builtin S name args at k sc d left)
   builtin_within name args at k sc d left =
       one_of (bytes_eq name (codes "Array")) left _ _ _ (array_within args at k sc d left)
-      (one_of (bytes_eq name (codes "Hash")) left _ _ _ (hash_within args at k sc d left) (refl, omega arith))
+      (one_of (bytes_eq name (codes "Hash")) left _ _ _ (hash_within args at k sc d left)
+      (one_of (bytes_eq name (codes "Mutex")) left _ _ _ (mutex_within args at k sc d left) (refl, omega arith)))
 
   create_within : (class : Option ℕ) (name : NameId) (args : List Value) (at : Span) (k : List Cont) (sc : Scope) (d left : ℕ) → Within left (7 + weights k) (create S class name args at k sc d left)
   create_within (Some class) name args at k sc d left = (refl, omega arith)
@@ -193,6 +200,10 @@ module _ (S : Script) where
   initialized_within None object [] at k sc d left = (refl, omega arith)
   initialized_within None object (v ∷ vs) at k sc d left = (refl, omega arith)
 
+  start_within : (b : Option Block) (body : ℕ) (args : List Value) (at : Span) (k : List Cont) (sc : Scope) (d left : ℕ) → Within left (3 + weights k) (start_body S b body args at k sc d left)
+  start_within (Some block) body args at k sc d left = one_of (nat_eq (length args) (length block.params)) left _ _ _ (refl, omega arith) (refl, omega arith)
+  start_within None body args at k sc d left = (refl, omega arith)
+
   pub perform_within : (aim : Aim) (args : List Value) (at : Span) (k : List Cont) (sc : Scope) (d left : ℕ) → Within left (10 + 12 * length args + weights k) (perform S aim args at k sc d left)
   perform_within (OnReceiver v name block) args at k sc d left = wider left _ _ _ (omega arith) (invoke_within v name args block at k sc d left)
   perform_within (ByName name) args at k sc d left = wider left _ _ _ (omega arith) (own_within (texted S (text_of S name) (methods_of S sc.me)) name args at k sc d left)
@@ -200,6 +211,7 @@ module _ (S : Script) where
   perform_within (Creating class) args at k sc d left = wider left _ _ _ (omega arith) (create_within (class_from S 0 class S.program.classes) class args at k sc d left)
   perform_within Listing args at k sc d left = (refl, omega arith)
   perform_within Pairing args at k sc d left = wider left _ _ _ (omega arith) (pair_within (pairs_of S args) at k sc d left)
+  perform_within (Threading body) args at k sc d left = wider left _ _ _ (omega arith) (start_within (slice_get S.program.bodies body) body args at k sc d left)
 
   pub read_within : (place : Place) (o : AssignOp) (value : Node) (at : Span) (k : List Cont) (sc : Scope) (d left : ℕ) → Within left (10 + weights k) (read_place S place o value at k sc d left)
   read_within (OfLocal name) o value at k sc d left = (refl, omega arith)
@@ -230,6 +242,7 @@ module _ (S : Script) where
   -- a step that begins an iteration
   abbrev pub begins_turn : Step → Bool
   begins_turn (WithElement array next walk block at) = true
+  begins_turn (Locked mutex block at) = true
   begins_turn other = false
 
   pub give_step_within : (v : Value) (step : Step) (k : List Cont) (sc : Scope) (d left : ℕ) → begins_turn step ≡ false → Within left (1 + step_weight step + weights k) (give_step S v step k sc d left)
@@ -256,6 +269,7 @@ module _ (S : Script) where
   give_step_within v IsZero k sc d left h = (refl, omega arith)
   give_step_within v (ElementBelow array next walk block at) k sc d left h = element_within v array next walk block at k sc d left
   give_step_within v (WithElement array next walk block at) k sc d left h = absurd (cc)
+  give_step_within v (Locked mutex block at) k sc d left h = absurd (cc)
   give_step_within v (TextOf object) k sc d left h = (refl, omega arith)
   give_step_within v (IndexedBy index o value at) k sc d left h = (refl, omega arith)
   give_step_within v (MemberOf name o value at) k sc d left h = read_within (OfAttribute v name) o value at k sc d left
@@ -274,6 +288,7 @@ module _ (S : Script) where
   give_within v (Test condition body) k sc d left h = one_of (truthy v) left _ _ _ (refl, omega arith) (refl, omega arith)
   give_within v (Again condition body) k sc d left h = (refl, omega arith)
   give_within v (Turn turns block kept) k sc d left h = (refl, omega arith)
+  give_within v (Owning mutex block at kept) k sc d left h = (refl, omega arith)
   give_within v (Frame saved) k sc d left h = (refl, omega arith)
 
   pub leave_within : (e : Exit) (c : Cont) (k : List Cont) (sc : Scope) (d left : ℕ) → Within left (1 + weight c + weights k) (leave e c k sc d left)
@@ -303,6 +318,7 @@ module _ (S : Script) where
       weighs IsZero = omega arith
       weighs (ElementBelow array next walk block at) = omega arith
       weighs (WithElement array next walk block at) = omega arith
+      weighs (Locked mutex block at) = omega arith
       weighs (TextOf object) = omega arith
       weighs (IndexedBy index o value at) = omega arith
       weighs (MemberOf name o value at) = omega arith
@@ -317,6 +333,9 @@ module _ (S : Script) where
   leave_within Break (Again condition body) k sc d left = (refl, omega arith)
   leave_within Next (Again condition body) k sc d left = (refl, omega arith)
   leave_within (Return v) (Again condition body) k sc d left = (refl, omega arith)
+  leave_within Break (Owning mutex block at kept) k sc d left = (refl, omega arith)
+  leave_within Next (Owning mutex block at kept) k sc d left = (refl, omega arith)
+  leave_within (Return v) (Owning mutex block at kept) k sc d left = (refl, omega arith)
   leave_within Break (Turn turns block kept) k sc d left = (refl, omega arith)
   leave_within Next (Turn turns block kept) k sc d left = (refl, omega arith)
   leave_within (Return v) (Turn turns block kept) k sc d left = (refl, omega arith)

@@ -9,7 +9,7 @@ use Rattle.rb_model.specs.Things.{Thing, gives_to}
 use Rattle.rb_model.specs.Private.{Private, held, entered, acted}
 use Rattle.rb_machine.specs.Scopes.{Script}
 use Rattle.rb_machine.specs.Control.{State}
-use Rattle.rb_machine.specs.Move.{Next, Go, Make, Ask, Show, Stop, move, replied, left_in}
+use Rattle.rb_machine.specs.Move.{Next, Go, Make, Ask, Begin, Show, Stop, move, replied, left_in}
 use Rattle.rb_machine.specs.Follows.{next_thing}
 use Rattle.rb_machine.specs.Alone.{Runs, begins, goes, makes, acts, shows, opening, globals_alone, Alone}
 use Rattle.rb_machine.specs.Laws.{HasOneRun}
@@ -29,6 +29,7 @@ abbrev after : Next → Point → Point
 after (Go t) x = record { bytes = x.bytes; store = x.store; state = t }
 after (Make thing) x = record { bytes = x.bytes; store = entered x.store thing; state = replied x.state (reply.Value (To (next_thing x.store thing))) }
 after (Ask r act) x = answered_by (held x.store r.id) (Ask r act) x
+after (Begin body values) x = x
 after (Show bytes) x = record { bytes = x.bytes ++ bytes; store = x.store; state = replied x.state Done }
 after (Stop how) x = x
 
@@ -85,6 +86,7 @@ acted_shows None next x = begins_itself x.bytes
 acted_shows (Some thing) (Ask r act) x = begins_itself x.bytes
 acted_shows (Some thing) (Go t) x = begins_itself x.bytes
 acted_shows (Some thing) (Make made) x = begins_itself x.bytes
+acted_shows (Some thing) (Begin body values) x = begins_itself x.bytes
 acted_shows (Some thing) (Show bytes) x = begins_itself x.bytes
 acted_shows (Some thing) (Stop how) x = begins_itself x.bytes
 
@@ -93,6 +95,7 @@ after_shows : (next : Next) (x : Point) → Begins x.bytes (after next x).bytes
 after_shows (Go t) x = begins_itself x.bytes
 after_shows (Make thing) x = begins_itself x.bytes
 after_shows (Ask r act) x = acted_shows (held x.store r.id) (Ask r act) x
+after_shows (Begin body values) x = begins_itself x.bytes
 after_shows (Show bytes) x = (bytes, refl)
 after_shows (Stop how) x = begins_itself x.bytes
 

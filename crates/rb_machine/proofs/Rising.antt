@@ -6,7 +6,7 @@ use Rattle.rb_model.specs.Private.{Private}
 use Rattle.rb_machine.specs.Scopes.{Script}
 use Rattle.rb_machine.specs.Control.{State}
 use Rattle.rb_machine.specs.Move.{replied, left_in}
-use Rattle.rb_machine.specs.Follows.{At, here, goes, makes, acts, asks, prints}
+use Rattle.rb_machine.specs.Follows.{starts, At, here, goes, makes, acts, asks, prints}
 use Rattle.rb_machine.specs.Laws.{one_more_if, begins_step}
 use Rattle.rb_machine.proofs.Counts.{counted_move, replies_are_free}
 use Rattle.rb_machine.proofs.Main.{last_step_more}
@@ -29,4 +29,5 @@ module _ (S : Script) (N : ℕ) (start : State) where
   steps_rise (makes l h s thing a e) = same_behind s _ _ (steps_rise a)
   steps_rise (acts l h s r act thing a e f) = same_behind s _ _ (steps_rise a)
   steps_rise (asks l h h' s r act moved answer a e f g) = logged_behind l.entries _ s answer refl
+  steps_rise (starts l h h' s body values moved answer a e g) = logged_behind l.entries _ s answer refl
   steps_rise (prints l h s bytes a e) = logged_behind l.entries _ s _ refl

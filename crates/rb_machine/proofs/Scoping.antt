@@ -13,7 +13,7 @@ use Rattle.rb_model.specs.Ends.{Steps}
 use Rattle.rb_model.specs.Things.{Thing, Object, Elements, Pairs, Mutex, Thread, gives, gives_to, mutex_gives, put_reply, index_of, has_room, may_put, max_elements}
 use Rattle.rb_model.specs.Private.{Private}
 use Rattle.rb_machine.specs.Scopes.{Script, Scope, Locals}
-use Rattle.rb_machine.specs.Control.{State, On, Cont, Use, Keys, Values, ForEach, ForText, Eval, Give, Leave, Following, Looping, Turning, Passing, Joining, Drafting, Making, Calling, Reading, Showing, Ended}
+use Rattle.rb_machine.specs.Control.{State, On, Cont, Use, Keys, Values, ForEach, ForText, Eval, Give, Leave, Following, Looping, Turning, Passing, Joining, Drafting, Making, Calling, Reading, Showing, Starting, Ended}
 use Rattle.rb_machine.specs.Drafts.{needs, opened}
 use Rattle.rb_machine.specs.Move.{Next, Go, Stop, move, replied, answered, used, left_in}
 use Rattle.rb_machine.specs.Alone.{Runs, begins, goes, makes, acts, shows}
@@ -80,6 +80,7 @@ module _ (S : Script) where
   moved (On (Making thing) k sc d left) h = tt
   moved (On (Calling thing act at) k sc d left) h = tt
   moved (On (Reading thing purpose at) k sc d left) h = tt
+  moved (On (Starting body values at) k sc d left) h = tt
   moved (On (Showing bytes) k sc d left) h = tt
   moved (On (Ended how) k sc d left) h = tt
 
@@ -105,6 +106,7 @@ module _ (S : Script) where
   reply_sound (On (Making thing) k sc d left) r plain h = answered_sound r _ k sc d left plain h
   reply_sound (On (Calling thing act at) k sc d left) r plain h = answered_sound r at k sc d left plain h
   reply_sound (On (Reading thing purpose at) k sc d left) r plain h = used_sound purpose thing r at k sc d left plain h
+  reply_sound (On (Starting body values at) k sc d left) r plain h = answered_sound r at k sc d left plain h
   reply_sound (On (Showing bytes) k sc d left) r plain h = h
   reply_sound (On (Drafting t at) k sc d left) r plain h = h
   reply_sound (On (Ended how) k sc d left) r plain h = h
@@ -129,6 +131,7 @@ module _ (S : Script) where
   in_scope (On (Making thing) k sc d left) h = h
   in_scope (On (Calling thing act at) k sc d left) h = h
   in_scope (On (Reading thing purpose at) k sc d left) h = h
+  in_scope (On (Starting body values at) k sc d left) h = h
   in_scope (On (Showing bytes) k sc d left) h = h
   in_scope (On (Drafting t at) k sc d left) h = h
   in_scope (On (Eval n) k sc d left) h = h
@@ -164,6 +167,7 @@ module _ (S : Script) where
   used_up (On (Making thing) k sc d left) h = tt
   used_up (On (Calling thing act at) k sc d left) h = tt
   used_up (On (Reading thing purpose at) k sc d left) h = tt
+  used_up (On (Starting body values at) k sc d left) h = tt
   used_up (On (Showing bytes) k sc d left) h = tt
   used_up (On (Drafting t at) k sc d left) h = tt
 

@@ -1,6 +1,6 @@
 -- What the machine does is the same however many steps are left, where it begins none.
 use Rattle.std.proofs.Common.{◌≡◌, ℕ, ◌+◌, Bool, true, false, cond, List, [], ◌∷◌, ◌++◌, Option, Some, None, length, refl}
-use Rattle.std.specs.Prelude.{pos, negsuc, nat_lt, nat_le, nat_eq, codes}
+use Rattle.std.specs.Prelude.{slice_get, pos, negsuc, nat_lt, nat_le, nat_eq, codes}
 use Rattle.std.specs.List.{list_any}
 use Rattle.std.specs.Str.{bytes_eq}
 use Rattle.rb_tree.specs.declared.span.Span.{Span}
@@ -21,13 +21,13 @@ use Rattle.rb_model.specs.Acts.{Act, GetField, SetField, Reply}
 use Rattle.rb_model.specs.Acts as reply
 use Rattle.rb_model.specs.Ends as ending
 use Rattle.rb_machine.specs.Scopes.{Script, Text, Scope, text_of}
-use Rattle.rb_machine.specs.Control.{State, On, Cont, Then, Under, Test, Again, Turn, Frame, Step, AssignTo, FieldTo, GlobalTo, Rest, Choose, RightOfAnd, RightOfOr, Negate, ReturnOf, ReceiverOf, ReceiverToStore, Argument, Instead, Create, Initialize, PieceOf, JoinTo, WriteBehind, LinesBehind, LineOf, TextOf, IsZero, ElementBelow, WithElement, IndexedBy, MemberOf, IndexOf, ReadOf, RightOf, WriteTo}
-use Rattle.rb_machine.specs.Control.{Eval, Give, Leave, Following, Looping, Turning, Passing, Joining, Drafting, Making, Calling, Reading, Showing, Ended, Exit, Break, Next, Return, Aim, OnReceiver, ByName, Storing, Creating, Listing, Pairing, Place, OfLocal, OfField, OfGlobal, OfElement, OfAttribute, Walk, Each, WithIndex, Map, Select, Style, Lines, Plain, Inspecting, Draft, Use, Keys, Values, ForEach, ForText, max_depth}
-use Rattle.rb_machine.specs.Methods.{Answer, Gives, Raises, Loops, LoopsOver, Asks, Reads, EachPairOf, Inspects, deed}
+use Rattle.rb_machine.specs.Control.{State, On, Cont, Then, Under, Test, Again, Turn, Owning, Frame, Step, AssignTo, FieldTo, GlobalTo, Rest, Choose, RightOfAnd, RightOfOr, Negate, ReturnOf, ReceiverOf, ReceiverToStore, Argument, Instead, Create, Initialize, PieceOf, JoinTo, WriteBehind, LinesBehind, LineOf, TextOf, IsZero, ElementBelow, WithElement, Locked, IndexedBy, MemberOf, IndexOf, ReadOf, RightOf, WriteTo}
+use Rattle.rb_machine.specs.Control.{Eval, Give, Leave, Following, Looping, Turning, Passing, Joining, Drafting, Making, Calling, Reading, Showing, Starting, Ended, Exit, Break, Next, Return, Aim, OnReceiver, ByName, Storing, Creating, Listing, Pairing, Threading, Place, OfLocal, OfField, OfGlobal, OfElement, OfAttribute, Walk, Each, WithIndex, Map, Select, Style, Lines, Plain, Inspecting, Draft, Use, Keys, Values, ForEach, ForText, max_depth}
+use Rattle.rb_machine.specs.Methods.{Answer, Gives, Raises, Loops, LoopsOver, Asks, Reads, EachPairOf, Inspects, Synchronizes, deed}
 use Rattle.rb_machine.specs.Texts.{max_bytes, styled}
 use Rattle.rb_machine.specs.Drafts.{Needs, Goes, Finished, Element, Copies, with_line, opened, is_collection, is_array}
 use Rattle.rb_machine.specs.Drafts as draft
-use Rattle.rb_machine.specs.Call.{ask_of, going, drafted, named, texted, methods_of, params_of, invoked, top_level, own, last_value, enter, answered, invoke, operator, show, value_of, text_by, own_text, give_text, give_inspected, give_line, give_styled, bytes_of, write, write_behind, write_lines, put_lines, print, perform, read_place, decide, write_place, fill, new_array, new_hash, create_builtin, create, class_from, initialized, pair_up, pairs_of}
+use Rattle.rb_machine.specs.Call.{ask_of, going, drafted, named, texted, methods_of, params_of, invoked, top_level, own, last_value, enter, answered, invoke, operator, show, value_of, text_by, own_text, give_text, give_inspected, give_line, give_styled, bytes_of, write, write_behind, write_lines, put_lines, print, perform, start_body, read_place, decide, write_place, fill, new_array, new_hash, new_mutex, create_builtin, create, class_from, initialized, pair_up, pairs_of}
 use Rattle.rb_machine.specs.Begin.{begin, begin_call, begin_target, begin_return}
 use Rattle.rb_machine.specs.Turns.{is_below, next_element, finish}
 use Rattle.rb_machine.specs.Give.{join, give_step, give, leave}
@@ -87,6 +87,8 @@ module _ (S : Script) where
   answered_uniform (EachPairOf hash) (Some block) at k sc d j left = refl
   answered_uniform (EachPairOf hash) None at k sc d j left = refl
   answered_uniform (Inspects collection) block at k sc d j left = refl
+  answered_uniform (Synchronizes mutex) (Some block) at k sc d j left = refl
+  answered_uniform (Synchronizes mutex) None at k sc d j left = refl
 
   invoked_uniform : (m : Option Method) (v : Value) (name : Text) (args : List Value) (block : Option Block) (at : Span) (k : List Cont) (sc : Scope) (d : ℕ) → Uniform (invoked S m v name args block at k sc d)
   invoked_uniform (Some m) v name args None at k sc d j left = enter_uniform m v args at k sc d j left
@@ -170,9 +172,14 @@ module _ (S : Script) where
   hash_uniform [] at k sc d j left = refl
   hash_uniform (v ∷ vs) at k sc d j left = refl
 
+  mutex_uniform : (args : List Value) (at : Span) (k : List Cont) (sc : Scope) (d : ℕ) → Uniform (new_mutex S args at k sc d)
+  mutex_uniform [] at k sc d j left = refl
+  mutex_uniform (v ∷ vs) at k sc d j left = refl
+
   builtin_uniform : (name : Text) (args : List Value) (at : Span) (k : List Cont) (sc : Scope) (d : ℕ) → Uniform (create_builtin S name args at k sc d)
   builtin_uniform name args at k sc d j left =
-      either (bytes_eq name (codes "Array")) j _ _ _ _ (array_uniform args at k sc d j left) (either (bytes_eq name (codes "Hash")) j _ _ _ _ (hash_uniform args at k sc d j left) refl)
+      either (bytes_eq name (codes "Array")) j _ _ _ _ (array_uniform args at k sc d j left) (either (bytes_eq name (codes "Hash")) j _ _ _ _ (hash_uniform args at k sc d j left)
+      (either (bytes_eq name (codes "Mutex")) j _ _ _ _ (mutex_uniform args at k sc d j left) refl))
 
   create_uniform : (class : Option ℕ) (name : NameId) (args : List Value) (at : Span) (k : List Cont) (sc : Scope) (d : ℕ) → Uniform (create S class name args at k sc d)
   create_uniform (Some class) name args at k sc d j left = refl
@@ -186,12 +193,17 @@ module _ (S : Script) where
   initialized_uniform None object [] at k sc d j left = refl
   initialized_uniform None object (v ∷ vs) at k sc d j left = refl
 
+  start_uniform : (b : Option Block) (body : ℕ) (args : List Value) (at : Span) (k : List Cont) (sc : Scope) (d : ℕ) → Uniform (start_body S b body args at k sc d)
+  start_uniform (Some block) body args at k sc d j left = either (nat_eq (length args) (length block.params)) j _ _ _ _ refl refl
+  start_uniform None body args at k sc d j left = refl
+
   pub perform_uniform : (aim : Aim) (args : List Value) (at : Span) (k : List Cont) (sc : Scope) (d : ℕ) → Uniform (perform S aim args at k sc d)
   perform_uniform (OnReceiver v name block) args at k sc d j left = invoke_uniform v name args block at k sc d j left
   perform_uniform (ByName name) args at k sc d j left = own_uniform (texted S (text_of S name) (methods_of S sc.me)) name args at k sc d j left
   perform_uniform (Storing v name) args at k sc d j left = invoke_uniform v name args None at (Then (Instead (last_value S args)) ∷ k) sc d j left
   perform_uniform (Creating class) args at k sc d j left = create_uniform (class_from S 0 class S.program.classes) class args at k sc d j left
   perform_uniform Listing args at k sc d j left = refl
+  perform_uniform (Threading body) args at k sc d j left = start_uniform (slice_get S.program.bodies body) body args at k sc d j left
   perform_uniform Pairing args at k sc d j left = pair_uniform (pairs_of S args) at k sc d j left
 
   read_uniform : (place : Place) (o : AssignOp) (value : Node) (at : Span) (k : List Cont) (sc : Scope) (d : ℕ) → Uniform (read_place S place o value at k sc d)
@@ -248,6 +260,7 @@ module _ (S : Script) where
   give_step_uniform v IsZero k sc d h j left = refl
   give_step_uniform v (ElementBelow array next walk block at) k sc d h j left = next_element_uniform v array next walk block at k sc d j left
   give_step_uniform v (WithElement array next walk block at) k sc d h j left = absurd (cc)
+  give_step_uniform v (Locked mutex block at) k sc d h j left = absurd (cc)
   give_step_uniform v (TextOf object) k sc d h j left = refl
   give_step_uniform v (IndexedBy index o value at) k sc d h j left = refl
   give_step_uniform v (MemberOf name o value at) k sc d h j left = read_uniform (OfAttribute v name) o value at k sc d j left
@@ -262,6 +275,7 @@ module _ (S : Script) where
   give_uniform v (Test condition body) k sc d h j left = either (truthy v) j _ _ _ _ refl refl
   give_uniform v (Again condition body) k sc d h j left = refl
   give_uniform v (Turn turns block kept) k sc d h j left = refl
+  give_uniform v (Owning mutex block at kept) k sc d h j left = refl
   give_uniform v (Frame saved) k sc d h j left = refl
 
   begin_call_uniform : (receiver : Option Node) (name : NameId) (args : List Node) (block : Option Block) (at : Span) (k : List Cont) (sc : Scope) (d : ℕ) → Uniform (begin_call S receiver name args block at k sc d)
@@ -295,6 +309,9 @@ leave_uniform (Return v) (Test condition body) k sc d j left = refl
 leave_uniform Break (Again condition body) k sc d j left = refl
 leave_uniform Next (Again condition body) k sc d j left = refl
 leave_uniform (Return v) (Again condition body) k sc d j left = refl
+leave_uniform Break (Owning mutex block at kept) k sc d j left = refl
+leave_uniform Next (Owning mutex block at kept) k sc d j left = refl
+leave_uniform (Return v) (Owning mutex block at kept) k sc d j left = refl
 leave_uniform Break (Turn turns block kept) k sc d j left = refl
 leave_uniform Next (Turn turns block kept) k sc d j left = refl
 leave_uniform (Return v) (Turn turns block kept) k sc d j left = refl
@@ -329,6 +346,7 @@ pub replied_longer : (j : ℕ) (s : State) (r : Reply) → replied (longer j s) 
 replied_longer j (On (Making thing) k sc d left) r = answer_uniform r _ k sc d j left
 replied_longer j (On (Calling thing act at) k sc d left) r = answer_uniform r at k sc d j left
 replied_longer j (On (Reading thing purpose at) k sc d left) r = used_uniform purpose thing r at k sc d j left
+replied_longer j (On (Starting body values at) k sc d left) r = answer_uniform r _ k sc d j left
 replied_longer j (On (Showing bytes) k sc d left) r = refl
 replied_longer j (On (Drafting t at) k sc d left) r = refl
 replied_longer j (On (Ended how) k sc d left) r = refl

@@ -6,9 +6,9 @@ use Rattle.rb_tree.specs.declared.node.Piece.{out-Piece}
 use Rattle.rb_model.specs.Values.{Nil}
 use Rattle.rb_model.specs.Ends as ending
 use Rattle.rb_machine.specs.Scopes.{Script, Scope}
-use Rattle.rb_machine.specs.Control.{Control, State, On, Cont, Under, Eval, Give, Leave, Following, Looping, Turning, Passing, Joining, Drafting, Making, Calling, Reading, Showing, Ended, max_depth}
+use Rattle.rb_machine.specs.Control.{Control, State, On, Cont, Under, Eval, Give, Leave, Following, Looping, Turning, Passing, Joining, Drafting, Making, Calling, Reading, Showing, Starting, Ended, max_depth}
 use Rattle.rb_machine.specs.Drafts.{needs}
-use Rattle.rb_machine.specs.Move.{Next, Go, Make, Ask, Show, Stop, move, start_node}
+use Rattle.rb_machine.specs.Move.{Next, Go, Make, Ask, Begin, Show, Stop, move, start_node}
 use Rattle.rb_machine.specs.Laws.{Way, arrives, goes, gets, IsAsked, IsAlive, ContextChangesNothing}
 use Rattle.rb_machine.proofs.Context.{onto, either, begin_local, give_local, leave_local, perform_local, piece_local, turn_local, drafted_local, replied_local}
 
@@ -48,6 +48,7 @@ module _ (S : Script) (r : List Cont) where
   keeps (On (Making thing) k sc d left) = inl refl
   keeps (On (Calling thing act at) k sc d left) = inl refl
   keeps (On (Reading thing purpose at) k sc d left) = inl refl
+  keeps (On (Starting body values at) k sc d left) = inl refl
   keeps (On (Showing bytes) k sc d left) = inl refl
   keeps (On (Ended how) k sc d left) = inl refl
 
@@ -82,6 +83,7 @@ module _ (S : Script) (r : List Cont) where
       same (Go t) h = absurd h
       same (Make thing) h = tt
       same (Ask thing act) h = tt
+      same (Begin body values) h = tt
       same (Show bytes) h = tt
       same (Stop how) h = absurd h
   asked_onto s next e (inr last) asked = absurd (none next (subst (LastEnds s) e (last_ends s last)) asked)
@@ -90,6 +92,7 @@ module _ (S : Script) (r : List Cont) where
       none (Go t) h k = k
       none (Make thing) h k = h
       none (Ask thing act) h k = h
+      none (Begin body values) h k = h
       none (Show bytes) h k = h
       none (Stop how) h k = k
 

@@ -1,8 +1,8 @@
 -- How much work is left where no step begins: what each thing that waits may still cause, and what the machine is at.
 use Rattle.std.specs.Prelude.{ℕ, suc, ◌+◌, ◌*◌, List, [], ◌∷◌, length}
-use Rattle.rb_machine.specs.Control.{State, On, Cont, Then, Test, Turn, Form, Inspected, Lined, Coming, Between, OfValue, OfPair, Draft, Use, ForText}
+use Rattle.rb_machine.specs.Control.{State, On, Cont, Then, Test, Turn, Owning, Form, Inspected, Lined, Coming, Between, OfValue, OfPair, Draft, Use, ForText}
 use Rattle.rb_machine.specs.Control.{Step, FieldTo, GlobalTo, Rest, Choose, ReceiverOf, ReceiverToStore, Argument, Create, Initialize, PieceOf, JoinTo, WriteBehind, LinesBehind, LineOf, ElementBelow, MemberOf, IndexOf, RightOf, WriteTo}
-use Rattle.rb_machine.specs.Control.{Eval, Give, Leave, Following, Looping, Turning, Passing, Joining, Drafting, Making, Calling, Reading, Showing, Ended}
+use Rattle.rb_machine.specs.Control.{Eval, Give, Leave, Following, Looping, Turning, Passing, Joining, Drafting, Making, Calling, Reading, Showing, Starting, Ended}
 
 -- A text in the making: a value that comes next may be read, or asked for its text, and a pair is a key and a value; each collection that is
 -- begun is ended.
@@ -49,6 +49,7 @@ abbrev pub weight : Cont → ℕ
 weight (Then step) = step_weight step
 weight (Test condition body) = 3
 weight (Turn turns block kept) = 6
+weight (Owning mutex block at kept) = 4
 weight c = 1
 
 abbrev pub weights : List Cont → ℕ
@@ -65,6 +66,7 @@ size (On (Looping condition body) k sc d left) = 2 + weights k
 size (On (Following v nodes) k sc d left) = 3 + weights k
 size (On (Making thing) k sc d left) = 3 + weights k
 size (On (Calling thing act at) k sc d left) = 3 + weights k
+size (On (Starting body values at) k sc d left) = 3 + weights k
 size (On (Showing bytes) k sc d left) = 3 + weights k
 size (On (Joining bytes pieces at) k sc d left) = 3 + length pieces + weights k
 size (On (Drafting t at) k sc d left) = 3 + draft_weight t + weights k

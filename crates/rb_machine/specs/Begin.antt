@@ -13,8 +13,8 @@ use Rattle.rb_tree.specs.Layer.{NodeLayer}
 use Rattle.rb_model.specs.Values.{Nil, False, True, Int, Sym}
 use Rattle.rb_model.specs.Acts.{GetField}
 use Rattle.rb_machine.specs.Scopes.{Script, Scope, text_of, look}
-use Rattle.rb_machine.specs.Control.{State, On, Cont, Then, Eval, Give, Leave, Looping, Passing, Joining, Break, Next, Return, AssignTo, FieldTo, GlobalTo, Choose, RightOfAnd, RightOfOr, Negate, ReturnOf, ReceiverOf, ReceiverToStore, IndexedBy, MemberOf, ByName, Creating, Listing, Pairing, OfLocal, OfField, OfGlobal}
-use Rattle.rb_machine.specs.Call.{ask, unbuilt, globals, own_field, read_place}
+use Rattle.rb_machine.specs.Control.{State, On, Cont, Then, Eval, Give, Leave, Looping, Passing, Joining, Break, Next, Return, AssignTo, FieldTo, GlobalTo, Choose, RightOfAnd, RightOfOr, Negate, ReturnOf, ReceiverOf, ReceiverToStore, IndexedBy, MemberOf, ByName, Creating, Listing, Pairing, Threading, OfLocal, OfField, OfGlobal}
+use Rattle.rb_machine.specs.Call.{ask, globals, own_field, read_place}
 
 -- the keys and the values of a literal, in the order of the text
 abbrev pub parts : List (Node × Node) → List Node
@@ -60,7 +60,7 @@ module _ (S : Script) where
   begin (node.OpAssign target op value at) k sc d left = begin_target (out-Target target) op value at k sc d left
   begin (node.Call receiver name args block at) k sc d left = begin_call receiver name args block at k sc d left
   begin (node.New class args at) k sc d left = On (Passing (Creating class) [] args at) k sc d left
-  begin (node.ThreadNew args body at) k sc d left = unbuilt at left
+  begin (node.ThreadNew args body at) k sc d left = On (Passing (Threading body) [] args at) k sc d left
   begin (node.And first second at) k sc d left = On (Eval first) (Then (RightOfAnd second) ∷ k) sc d left
   begin (node.Or first second at) k sc d left = On (Eval first) (Then (RightOfOr second) ∷ k) sc d left
   begin (node.Not value at) k sc d left = On (Eval value) (Then Negate ∷ k) sc d left

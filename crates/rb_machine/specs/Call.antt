@@ -1,5 +1,5 @@
 -- Calls: which method is found, how its body begins, what a built-in one does, and what `puts`, `print` and `p` show.
-use Rattle.std.specs.Prelude.{ℕ, zero, suc, ◌+◌, pos, negsuc, nat_eq, nat_lt, nat_le, ◌==◌, if◌then◌else◌, List, [], ◌∷◌, ◌++◌, length, replicate, Option, Some, None, find, slice_get, codes}
+use Rattle.std.specs.Prelude.{ℕ, zero, suc, ◌+◌, pos, negsuc, nat_eq, nat_lt, nat_le, ◌==◌, if◌then◌else◌, List, [], ◌∷◌, ◌++◌, length, map, replicate, Option, Some, None, find, slice_get, codes}
 use Rattle.std.specs.List.{list_any}
 use Rattle.std.specs.Option.{option_map}
 use Rattle.std.specs.Str.{bytes_eq}
@@ -16,18 +16,18 @@ use Rattle.rb_model.specs.declared.value.Sort.TheVariants as sort
 use Rattle.rb_model.specs.declared.fault.Fault.{Fault}
 use Rattle.rb_model.specs.declared.fault.Fault.TheVariants.{NoMethod, ArgumentCount, TypeMismatch, BadKey, IndexTooSmall, ArrayTooLong, TextTooLong, TooDeep}
 use Rattle.rb_model.specs.Values.{Value, Nil, Int, Str, To, Reference, truthy}
-use Rattle.rb_model.specs.Acts.{Act, GetField, SetField}
+use Rattle.rb_model.specs.Acts.{Act, GetField, SetField, Lock}
 use Rattle.rb_model.specs.Ends.{End, Raised, Steps}
 use Rattle.rb_model.specs.Things.{max_elements, key_of, gathered}
 use Rattle.rb_model.specs.Things as thing
 use Rattle.rb_machine.specs.Scopes.{Script, Text, Scope, text_of, look, assign, fresh, with_locals}
-use Rattle.rb_machine.specs.Control.{State, On, Cont, Then, Under, Frame, Step, Eval, Give, Following, Turning, Drafting, Making, Calling, Reading, Showing, Ended, max_depth}
-use Rattle.rb_machine.specs.Control.{Aim, OnReceiver, ByName, Storing, Creating, Listing, Pairing, Instead, Create, Initialize, Place, OfLocal, OfField, OfGlobal, OfElement, OfAttribute, ReadOf, RightOf, WriteTo}
-use Rattle.rb_machine.specs.Control.{Walking, Style, Lines, Plain, Inspecting, Inspected, Lined, Draft, ForEach, ForText, WriteBehind, LinesBehind, LineOf, TextOf}
+use Rattle.rb_machine.specs.Control.{State, On, Cont, Then, Under, Frame, Step, Eval, Give, Following, Turning, Drafting, Making, Calling, Reading, Starting, Showing, Ended, max_depth}
+use Rattle.rb_machine.specs.Control.{Aim, OnReceiver, ByName, Storing, Creating, Listing, Pairing, Threading, Instead, Create, Initialize, Place, OfLocal, OfField, OfGlobal, OfElement, OfAttribute, ReadOf, RightOf, WriteTo}
+use Rattle.rb_machine.specs.Control.{Walking, Style, Lines, Plain, Inspecting, Inspected, Lined, Draft, ForEach, ForText, WriteBehind, LinesBehind, LineOf, TextOf, Locked}
 use Rattle.rb_machine.specs.Texts.{max_bytes, shown, inspected, styled}
 use Rattle.rb_machine.specs.Drafts.{Needs, Goes, Finished, Element, Copies, is_collection, is_array, draft_of}
 use Rattle.rb_machine.specs.Drafts as draft
-use Rattle.rb_machine.specs.Methods.{Answer, Gives, Raises, Loops, LoopsOver, Asks, Reads, EachPairOf, Inspects, deed}
+use Rattle.rb_machine.specs.Methods.{Answer, Gives, Raises, Loops, LoopsOver, Asks, Reads, EachPairOf, Inspects, Synchronizes, deed}
 
 -- the end of a thread
 abbrev pub ended : End → ℕ → State
@@ -116,6 +116,8 @@ module _ (S : Script) where
   answered (EachPairOf hash) (Some block) at k sc d left = On (Reading hash (ForEach (To hash) block) at) k sc d left
   answered (EachPairOf hash) None at k sc d left = raised ArgumentCount at left
   answered (Inspects collection) block at k sc d left = On (Drafting (draft_of Inspected collection) at) k sc d left
+  answered (Synchronizes mutex) (Some block) at k sc d left = ask mutex Lock at (Then (Locked mutex block at) ∷ k) sc d left
+  answered (Synchronizes mutex) None at k sc d left = raised ArgumentCount at left
 
   -- a method of the script takes no block
   abbrev pub invoked : Option Method → Value → Text → List Value → Option Block → Span → List Cont → Scope → ℕ → ℕ → State
@@ -266,17 +268,44 @@ module _ (S : Script) where
   new_hash [] at k sc d left = On (Making (thing.Pairs [])) k sc d left
   new_hash args at k sc d left = raised ArgumentCount at left
 
+  -- a mutex is free in the beginning
+  abbrev pub new_mutex : List Value → Span → List Cont → Scope → ℕ → ℕ → State
+  new_mutex [] at k sc d left = On (Making (thing.Mutex None)) k sc d left
+  new_mutex args at k sc d left = raised ArgumentCount at left
+
   -- a new thing of a class that is built in
   abbrev pub create_builtin : Text → List Value → Span → List Cont → Scope → ℕ → ℕ → State
   create_builtin name args at k sc d left =
       if bytes_eq name (codes "Array") then new_array args at k sc d left
       else (if bytes_eq name (codes "Hash") then new_hash args at k sc d left
-      else unbuilt at left)
+      else (if bytes_eq name (codes "Mutex") then new_mutex args at k sc d left
+      else unbuilt at left))
 
   -- An object of a class has no instance variables yet. Where there is `initialize`, it is called, and its value is not used.
   abbrev pub create : Option ℕ → NameId → List Value → Span → List Cont → Scope → ℕ → ℕ → State
   create (Some class) name args at k sc d left = On (Making (thing.Object class [])) (Then (Initialize args at) ∷ k) sc d left
   create None name args at k sc d left = create_builtin (text_of S name) args at k sc d left
+
+  -- ---- threads
+
+  -- `self`, where it is an object
+  abbrev pub self_of : Value → List Value
+  self_of (To thing) = To thing ∷ []
+  self_of v = []
+
+  -- What the body of a thread is given: the arguments, `self` where the block stands in a method of a class, and the locals that it captures, in
+  -- the order of their first use.
+  abbrev pub given_to : ℕ → List Value → Scope → List Value
+  given_to body args sc = args ++ (self_of sc.me ++ map (λ (name : NameId). look name sc.locals) (S.captured_names body))
+
+  -- a thread takes as many arguments as its block has parameters
+  abbrev pub start_body : Option Block → ℕ → List Value → Span → List Cont → Scope → ℕ → ℕ → State
+  start_body (Some block) body args at k sc d left =
+      if nat_eq (length args) (length block.params) then On (Starting body (given_to body args sc) at) k sc d left else raised ArgumentCount at left
+  start_body None body args at k sc d left = unbuilt at left
+
+  abbrev pub start : ℕ → List Value → Span → List Cont → Scope → ℕ → ℕ → State
+  start body args at k sc d left = start_body (slice_get S.program.bodies body) body args at k sc d left
 
   -- ---- literals of hashes
 
@@ -313,6 +342,7 @@ module _ (S : Script) where
   perform (Creating class) args at k sc d left = create (class_from 0 class S.program.classes) class args at k sc d left
   perform Listing args at k sc d left = On (Making (thing.Elements args)) k sc d left
   perform Pairing args at k sc d left = pair_up (pairs_of args) at k sc d left
+  perform (Threading body) args at k sc d left = start body args at k sc d left
 
   -- ---- assignments with an operator
 

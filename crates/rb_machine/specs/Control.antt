@@ -19,7 +19,8 @@ pub data Exit : Type 0 where
   Return : (value : Value) → Exit
 
 -- what arguments are evaluated for: the call of a method of a receiver, of a method by its name alone, an assignment by a call,
--- whose value is the last argument, a new object of a class, a new array of them, or a new hash of keys and values by turns
+-- whose value is the last argument, a new object of a class, a new array of them, a new hash of keys and values by turns, or a new thread that
+-- runs the body of a number
 pub data Aim : Type 0 where
   OnReceiver : (receiver : Value) (name : Text) (block : Option Block) → Aim
   ByName : (name : NameId) → Aim
@@ -27,6 +28,7 @@ pub data Aim : Type 0 where
   Creating : (class : NameId) → Aim
   Listing : Aim
   Pairing : Aim
+  Threading : (body : ℕ) → Aim
 
 -- what an assignment with an operator reads and writes, once its parts are evaluated
 pub data Place : Type 0 where
@@ -118,6 +120,8 @@ pub data Step : Type 0 where
   TextOf : (object : Value) → Step
   -- whether there are none, by their number
   IsZero : Step
+  -- the block of `synchronize`, once its mutex is locked
+  Locked : (mutex : Reference) (block : Block) (at : Span) → Step
   -- the next element of an array, where its length says that there is one; and the iteration of a block with it
   ElementBelow : (array : Reference) (next : ℕ) (walk : Walk) (block : Block) (at : Span) → Step
   WithElement : (array : Reference) (next : ℕ) (walk : Walk) (block : Block) (at : Span) → Step
@@ -130,13 +134,15 @@ pub data Step : Type 0 where
   WriteTo : (place : Place) (at : Span) → Step
 
 -- What waits: a step inside a node; or what an exit may end: a node, begun at this depth; the condition and the body of a loop; an
--- iteration of a block, with so many locals round it, and those that are left; a method, with the scope that called it.
+-- iteration of a block, with so many locals round it, and those that are left; a block that owns a mutex, likewise; a method, with the scope
+-- that called it.
 pub data Cont : Type 0 where
   Then : (step : Step) → Cont
   Under : (depth : ℕ) → Cont
   Test : (condition : Node) (body : List Node) → Cont
   Again : (condition : Node) (body : List Node) → Cont
   Turn : (turns : Turns) (block : Block) (kept : ℕ) → Cont
+  Owning : (mutex : Reference) (block : Block) (at : Span) (kept : ℕ) → Cont
   Frame : (saved : Scope) → Cont
 
 -- how many nodes may be under evaluation at once, and collections whose text is being made
@@ -159,10 +165,11 @@ pub data Control : Type 0 where
   Joining : (bytes : List ℕ) (pieces : List Piece) (at : Span) → Control
   -- a text with collections in it is made
   Drafting : (draft : Draft) (at : Span) → Control
-  -- a thing is made; something is asked of a thing; a collection is read by one copy; bytes are shown
+  -- a thing is made; something is asked of a thing; a collection is read by one copy; a thread is started; bytes are shown
   Making : (thing : Thing) → Control
   Calling : (thing : Reference) (act : Act) (at : Span) → Control
   Reading : (thing : Reference) (purpose : Use) (at : Span) → Control
+  Starting : (body : ℕ) (values : List Value) (at : Span) → Control
   Showing : (bytes : List ℕ) → Control
   Ended : (how : End) → Control
 

@@ -8,11 +8,11 @@ use Rattle.rb_model.specs.Acts as reply
 use Rattle.rb_model.specs.Ends.{End as Ending, Value, Full, Sink, Memory, told, later, closing}
 use Rattle.rb_model.specs.Things.{Thing, gives_to, Object, Elements, Pairs, Mutex, Thread}
 use Rattle.rb_model.specs.Private.{Private, Item, Leaves, bare, held, next_id, entered, acted}
-use Rattle.rb_model.specs.Log.{Log, Entry, Call, On, Gather, Print, End, fresh, logged, refused, filled, last_step}
-use Rattle.rb_model.specs.Started.{ungathered}
+use Rattle.rb_model.specs.Log.{Log, Entry, Call, On, Start, Gather, Print, End, fresh, logged, refused, filled, last_step}
+use Rattle.rb_model.specs.Started.{next_thread, ungathered}
 use Rattle.rb_machine.specs.Scopes.{Script}
 use Rattle.rb_machine.specs.Control.{State}
-use Rattle.rb_machine.specs.Move.{Go, Make, Ask, Show, Stop, move, replied, left_in, IsWant}
+use Rattle.rb_machine.specs.Move.{Go, Make, Ask, Begin, Show, Stop, move, replied, left_in, IsWant}
 
 -- the sort of a thing
 abbrev pub sort_of : Thing → Sort
@@ -62,6 +62,9 @@ module _ (S : Script) (N : ℕ) (start : State) where
     -- anything else that is asked of a thing is an entry; what it hands over moves, and the entry's reply goes to the machine
     asks : (l : Log) (h h' : Private) (s : State) (r : Reference) (act : Act) (moved : List Item) (answer : Reply) → At l h s → move S s ≡ Ask r act → held h r.id ≡ None
         → Leaves h (handed act) moved h' → At (logged l (entry s (On r act) moved answer)) h' (replied s answer)
+    -- the start of a thread is an entry; what the thread is given moves
+    starts : (l : Log) (h h' : Private) (s : State) (body : ℕ) (values : List Val) (moved : List Item) (answer : Reply) → At l h s → move S s ≡ Begin body values
+        → Leaves h values moved h' → At (logged l (entry s (Start (next_thread h.thread l) body values) moved answer)) h' (replied s answer)
     -- a print is an entry
     prints : (l : Log) (h : Private) (s : State) (bytes : List ℕ) → At l h s → move S s ≡ Show bytes
         → At (logged l (entry s (Print bytes) [] Done)) h (replied s Done)
@@ -73,6 +76,8 @@ module _ (S : Script) (N : ℕ) (start : State) where
     cut : (l : Log) (h : Private) (want : State) (n : ℕ) → At l h want → IsWant (move S want) → last_step l.entries ≤ n → n ≤ step_of want → Comes l h Memory n
     fills : (l : Log) (h h' : Private) (s : State) (r : Reference) (act : Act) (moved : List Item) (used asked : ℕ) → At l h s → move S s ≡ Ask r act → held h r.id ≡ None
         → Leaves h (handed act) moved h' → Comes (filled l (On r act) moved used asked) h (Full used asked) (step_of s)
+    starts_full : (l : Log) (h h' : Private) (s : State) (body : ℕ) (values : List Val) (moved : List Item) (used asked : ℕ) → At l h s → move S s ≡ Begin body values
+        → Leaves h values moved h' → Comes (filled l (Start (next_thread h.thread l) body values) moved used asked) h (Full used asked) (step_of s)
     refuses : (l : Log) (h : Private) (s : State) (bytes : List ℕ) → At l h s → move S s ≡ Show bytes → Comes (refused l (Print bytes) []) h Sink (step_of s)
 
   -- the last entry of a thread

@@ -4,13 +4,13 @@ use Rattle.rb_tree.specs.declared.span.Span.{Span}
 use Rattle.rb_tree.specs.declared.node.Piece.{Piece}
 use Rattle.rb_model.specs.declared.fault.Fault.TheVariants.{TextTooLong}
 use Rattle.rb_model.specs.Values.{Value, Nil, Int, truthy, truth, same}
-use Rattle.rb_model.specs.Acts.{SetField}
+use Rattle.rb_model.specs.Acts.{SetField, Unlock}
 use Rattle.rb_machine.specs.Scopes.{Script, Scope, assign, with_locals}
-use Rattle.rb_machine.specs.Control.{State, On, Cont, Then, Under, Test, Again, Turn, Frame, Step, Eval, Give, Leave, Following, Looping, Turning, Passing, Joining, Making, Exit, Break, Next, Return, AssignTo, FieldTo, GlobalTo, Rest, Choose, RightOfAnd, RightOfOr, Negate, ReturnOf, ReceiverOf, ReceiverToStore, Argument, OnReceiver, Storing, Instead, Create, Initialize, PieceOf, JoinTo, WriteBehind, LinesBehind, LineOf, TextOf, IsZero, ElementBelow, WithElement, IndexedBy, MemberOf, IndexOf, ReadOf, RightOf, WriteTo, OfElement, OfAttribute}
+use Rattle.rb_machine.specs.Control.{State, On, Cont, Then, Under, Test, Again, Turn, Owning, Frame, Step, Eval, Give, Leave, Following, Looping, Turning, Passing, Joining, Making, Exit, Break, Next, Return, AssignTo, FieldTo, GlobalTo, Rest, Choose, RightOfAnd, RightOfOr, Negate, ReturnOf, ReceiverOf, ReceiverToStore, Argument, OnReceiver, Storing, Instead, Create, Initialize, PieceOf, JoinTo, WriteBehind, LinesBehind, LineOf, TextOf, IsZero, Locked, ElementBelow, WithElement, IndexedBy, MemberOf, IndexOf, ReadOf, RightOf, WriteTo, OfElement, OfAttribute}
 use Rattle.rb_machine.specs.Texts.{max_bytes}
 use Rattle.rb_machine.specs.Drafts.{with_line}
 use Rattle.rb_machine.specs.Call.{raised, globals, ask, own_field, invoke, initialize, operator, give_text, text_answered, bytes_of, going, write_behind, write_lines, read_place, decide, write_place}
-use Rattle.rb_machine.specs.Turns.{turned, next_element, with_element}
+use Rattle.rb_machine.specs.Turns.{turned, next_element, with_element, start_owning}
 
 -- bytes join a text that may not grow too long
 abbrev pub join : List ℕ → List ℕ → List Piece → Span → List Cont → Scope → ℕ → ℕ → State
@@ -45,6 +45,7 @@ module _ (S : Script) where
   give_step v (LinesBehind bytes values at) k sc d left = write_lines S bytes (bytes_of S v) values at k sc d left
   give_step v (LineOf draft at) k sc d left = going (with_line draft (bytes_of S v)) at k sc d left
   give_step v (TextOf object) k sc d left = On (Give (text_answered S object v)) k sc d left
+  give_step v (Locked mutex block at) k sc d left = start_owning S mutex block at k sc d left
   give_step v IsZero k sc d left = On (Give (truth (same v (Int (pos 0))))) k sc d left
   give_step v (ElementBelow array next walk block at) k sc d left = next_element v array next walk block at k sc d left
   give_step v (WithElement array next walk block at) k sc d left = with_element S v array next walk block at k sc d left
@@ -62,10 +63,11 @@ module _ (S : Script) where
   give v (Test condition body) k sc d left = if truthy v then On (Following Nil body) (Again condition body ∷ k) sc d left else On (Give Nil) k sc d left
   give v (Again condition body) k sc d left = On (Looping condition body) k sc d left
   give v (Turn turns block kept) k sc d left = On (Turning (turned v turns) block) k (back kept sc) d left
+  give v (Owning mutex block at kept) k sc d left = ask mutex Unlock at (Then (Instead v) ∷ k) (back kept sc) d left
   give v (Frame saved) k sc d left = On (Give v) k saved d left
 
 -- An exit comes to what waits. `break` ends the nearest loop or call with a block, whose value is then nil; `next` ends the iteration, with
--- nil; `return` ends the method.
+-- nil; `return` ends the method. Each gives back the mutex of a `synchronize` that it goes out of.
 abbrev pub leave : Exit → Cont → List Cont → Scope → ℕ → ℕ → State
 leave e (Then step) k sc d left = On (Leave e) k sc d left
 leave e (Under depth) k sc d left = On (Leave e) k sc depth left
@@ -78,6 +80,9 @@ leave (Return v) (Again condition body) k sc d left = On (Leave (Return v)) k sc
 leave Break (Turn turns block kept) k sc d left = On (Give Nil) k (back kept sc) d left
 leave Next (Turn turns block kept) k sc d left = On (Turning (turned Nil turns) block) k (back kept sc) d left
 leave (Return v) (Turn turns block kept) k sc d left = On (Leave (Return v)) k (back kept sc) d left
+leave Break (Owning mutex block at kept) k sc d left = ask mutex Unlock at (Then (Instead Nil) ∷ k) (back kept sc) d left
+leave Next (Owning mutex block at kept) k sc d left = ask mutex Unlock at (Then (Instead Nil) ∷ k) (back kept sc) d left
+leave (Return v) (Owning mutex block at kept) k sc d left = ask mutex Unlock at (Then (Instead v) ∷ Then ReturnOf ∷ k) (back kept sc) d left
 leave Break (Frame saved) k sc d left = On (Give Nil) k saved d left
 leave Next (Frame saved) k sc d left = On (Give Nil) k saved d left
 leave (Return v) (Frame saved) k sc d left = On (Give v) k saved d left

@@ -23,7 +23,7 @@ use Rattle.rb_model.specs.Ends as ending
 use Rattle.rb_model.specs.Log.{Call, Entry, Log, prints, last_step}
 use Rattle.rb_model.specs.Log as log
 use Rattle.rb_machine.specs.Scopes.{Script, Scope, Text, text_of, Locals, with_locals, found, look, assign, fresh}
-use Rattle.rb_machine.specs.Control.{Control, State, On, Eval, Give, Leave, Following, Looping, Turning, Passing, Break, Next, Return, Turns, Counting, Cont, Then, Under, Test, Again, Turn, Frame, Aim, OnReceiver, Creating, Place, Argument, Initialize, Instead, Making, ReceiverOf, RightOfAnd, RightOfOr, ReadOf, WriteTo, PieceOf, JoinTo, WriteBehind, TextOf, Joining, Drafting, Lines, Plain, EachPair, WithElement, Ended, max_depth}
+use Rattle.rb_machine.specs.Control.{Control, State, On, Eval, Give, Leave, Following, Looping, Turning, Passing, Break, Next, Return, Turns, Counting, Cont, Then, Under, Test, Again, Turn, Owning, Frame, Aim, OnReceiver, Creating, Place, Argument, Initialize, Instead, Making, ReceiverOf, RightOfAnd, RightOfOr, ReadOf, WriteTo, PieceOf, JoinTo, WriteBehind, TextOf, Joining, Drafting, Lines, Plain, EachPair, WithElement, Locked, Ended, max_depth}
 use Rattle.rb_machine.specs.Texts.{max_bytes, line_of}
 use Rattle.rb_machine.specs.Methods.{deed, integer, Raises, quotient, modulo}
 use Rattle.rb_machine.specs.Control.{Walking, Walk, Map, Select, ElementBelow, Calling, Reading, ForText, Listing, Pairing, Draft, Open, Inspected, OfValue, Between}
@@ -31,7 +31,7 @@ use Rattle.rb_machine.specs.Drafts.{Needs, Element, needs, is_array, is_collecti
 use Rattle.rb_machine.specs.Turns.{turned, holding, given, finish, start_turn}
 use Rattle.rb_machine.specs.Call.{perform, class_from, texted, methods_of, give_text, write, print, raised, pairs_of}
 use Rattle.rb_machine.specs.Give.{back, give, leave}
-use Rattle.rb_machine.specs.Move.{Next as Coming, Go, Ask, Stop, move, replied, left_in, IsWant}
+use Rattle.rb_machine.specs.Move.{Next as Coming, Go, Ask, Begin, Stop, move, replied, left_in, IsWant}
 use Rattle.rb_machine.specs.Follows.{Follows}
 use Rattle.rb_machine.specs.Alone.{Runs, Alone, opening}
 
@@ -48,9 +48,10 @@ IsNeverStuck = (S : Script) (s : State) → (t : State) × Quiet S s t × IsWant
 abbrev pub HasOneRun : Type 0
 HasOneRun = (S : Script) (N : ℕ) (b b' : List ℕ) (e e' : End) (n n' : ℕ) → Alone S N b e n → Alone S N b' e' n' → (b ≡ b') × (e ≡ e') × (n ≡ n')
 
--- A script with a budget of steps comes to its end; or it asks something of a thing that is not there.
+-- A script with a budget of steps comes to its end; or it asks something of a thing that is not there, or starts a thread.
 pub data Finishes (S : Script) (N : ℕ) : Type 0 where
   ends : (bytes : List ℕ) (how : End) (steps : ℕ) → Alone S N bytes how steps → Finishes S N
+  starts : (bytes : List ℕ) (h : Private) (s : State) (body : ℕ) (values : List Value) → Runs S N bytes h s → move S s ≡ Begin body values → Finishes S N
   misses : (bytes : List ℕ) (h : Private) (s : State) (r : Reference) (act : Act) → Runs S N bytes h s → move S s ≡ Ask r act → held h r.id ≡ None → Finishes S N
 
 abbrev pub AlwaysFinishes : Type 0
@@ -81,12 +82,14 @@ abbrev pub comes_to_element : Needs → Bool
 comes_to_element (Element draft) = true
 comes_to_element other = false
 
--- Whether a node begins; an iteration of a block, with an integer, a pair or an element; or the text of an element or a pair.
+-- Whether a node begins; an iteration of a block, with an integer, a pair or an element, or while it owns a mutex; or the text of an element or
+-- a pair.
 abbrev pub begins_step : Script → State → Bool
 begins_step S (On (Eval n) k sc d left) = nat_lt 0 left && nat_lt d max_depth
 begins_step S (On (Turning (Counting next last answer) block) k sc d left) = nat_lt 0 left && int_lt next last
 begins_step S (On (Turning (EachPair (p ∷ ps) answer) block) k sc d left) = nat_lt 0 left
 begins_step S (On (Give v) (Then (WithElement array next walk block at) ∷ k) sc d left) = nat_lt 0 left
+begins_step S (On (Give v) (Then (Locked mutex block at) ∷ k) sc d left) = nat_lt 0 left
 begins_step S (On (Drafting draft at) k sc d left) = nat_lt 0 left && comes_to_element (needs S.program draft)
 begins_step S s = false
 
@@ -110,10 +113,11 @@ is_inner (Then step ∷ k) = is_inner k
 is_inner (Under depth ∷ k) = is_inner k
 is_inner (c ∷ k) = false
 
--- what is inside one method: loops and blocks too
+-- what is inside one method: loops and blocks too, but none that owns a mutex, which is given back first
 abbrev pub is_in_method : List Cont → Bool
 is_in_method [] = true
 is_in_method (Frame saved ∷ k) = false
+is_in_method (Owning mutex block at kept ∷ k) = false
 is_in_method (c ∷ k) = is_in_method k
 
 -- how many nodes are under evaluation behind these
@@ -336,6 +340,7 @@ abbrev pub AreInScope : Script → List Cont → List NameId → Type 0
 AreInScope S [] names = names ≡ S.main_names
 AreInScope S (Frame saved ∷ k) names = (m : Method) × (names ≡ S.method_names m) × AreInScope S k (names_in saved.locals)
 AreInScope S (Turn turns block kept ∷ k) names = (outer : List NameId) × (names ≡ outer ++ S.block_names block.at) × (kept ≡ length outer) × AreInScope S k outer
+AreInScope S (Owning mutex block at kept ∷ k) names = (outer : List NameId) × (names ≡ outer ++ S.block_names block.at) × (kept ≡ length outer) × AreInScope S k outer
 AreInScope S (c ∷ k) names = AreInScope S k names
 
 -- at each state of a run, until it ends

@@ -9,6 +9,7 @@ pub mod Turns
 pub mod Give
 pub mod Move
 pub mod Follows
+pub mod Threads
 pub mod Alone
 pub mod Collections
 pub mod Laws

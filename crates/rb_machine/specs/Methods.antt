@@ -9,7 +9,7 @@ use Rattle.rb_model.specs.declared.value.Sort.TheVariants as sort
 use Rattle.rb_model.specs.declared.fault.Fault.{Fault}
 use Rattle.rb_model.specs.declared.fault.Fault.TheVariants.{NoMethod, ArgumentCount, TypeMismatch, BadKey, ZeroDivision, IntegerOverflow, TextTooLong}
 use Rattle.rb_model.specs.Values.{Value, Nil, Int, Str, To, Reference, truth, same}
-use Rattle.rb_model.specs.Acts.{Act, At, Put, Push, Unshift, Pop, Shift, DeleteAt, KGet, KHas, KPut, KDelete, Clear, Len}
+use Rattle.rb_model.specs.Acts.{Act, At, Put, Push, Unshift, Pop, Shift, DeleteAt, KGet, KHas, KPut, KDelete, Clear, Len, Join, Lock, Unlock}
 use Rattle.rb_model.specs.Characters.{characters}
 use Rattle.rb_machine.specs.Scopes.{Text}
 use Rattle.rb_machine.specs.Control.{Turns, Counting, Walk, Each, WithIndex, Map, Select, Step, Instead, IsZero, Use, Keys, Values}
@@ -17,8 +17,8 @@ use Rattle.rb_machine.specs.Texts.{max_bytes, shown, inspected}
 use Rattle.rb_machine.specs.Drafts.{is_collection}
 
 -- What a method does: it gives a value, raises a fault, or calls its block in turns; it asks something of a thing, whose reply is the answer,
--- or what a step makes of it; it reads a collection by one copy, or calls its block with each pair of one; or it gives the inspected form of a
--- collection.
+-- or what a step makes of it; it reads a collection by one copy, or calls its block with each pair of one; it gives the inspected form of a
+-- collection; or it calls its block once, while it owns a mutex.
 pub data Answer : Type 0 where
   Gives : (value : Value) → Answer
   Raises : (fault : Fault) → Answer
@@ -28,6 +28,7 @@ pub data Answer : Type 0 where
   Reads : (thing : Reference) (purpose : Use) → Answer
   EachPairOf : (hash : Reference) → Answer
   Inspects : (collection : Value) → Answer
+  Synchronizes : (mutex : Reference) → Answer
 
 -- the receivers of a row
 pub data Receiver : Type 0 where
@@ -37,12 +38,16 @@ pub data Receiver : Type 0 where
   Array : Receiver
   Hash : Receiver
   Collection : Receiver
+  Mutex : Receiver
+  Thread : Receiver
 
 abbrev pub has_sort : Receiver → Sort → Bool
 has_sort Array sort.List = true
 has_sort Hash sort.Pairs = true
 has_sort Collection sort.List = true
 has_sort Collection sort.Pairs = true
+has_sort Mutex sort.Mutex = true
+has_sort Thread sort.Thread = true
 has_sort other other_sort = false
 
 abbrev pub is_of : Receiver → Value → Bool
@@ -253,8 +258,22 @@ module _ (P : Program) where
       ∷ record { of = Hash; name = codes "each_pair"; arity = 0; block = Some none_or_two; does = on_thing (λ h args. EachPairOf h) }
       ∷ []
 
+  abbrev pub mutex_rows : List Row
+  mutex_rows =
+      record { of = Mutex; name = codes "lock"; arity = 0; block = None; does = on_thing (λ m args. changes Lock m) }
+      ∷ record { of = Mutex; name = codes "unlock"; arity = 0; block = None; does = on_thing (λ m args. changes Unlock m) }
+      ∷ record { of = Mutex; name = codes "synchronize"; arity = 0; block = Some (up_to 0); does = on_thing (λ m args. Synchronizes m) }
+      ∷ []
+
+  -- the end of a thread is waited for; a value is given, and any other end is the caller's own
+  abbrev pub thread_rows : List Row
+  thread_rows =
+      record { of = Thread; name = codes "join"; arity = 0; block = None; does = on_thing (λ t args. changes Join t) }
+      ∷ record { of = Thread; name = codes "value"; arity = 0; block = None; does = on_thing (asks Join) }
+      ∷ []
+
   abbrev pub rows : List Row
-  rows = any_rows ++ (integer_rows ++ (string_rows ++ (array_rows ++ (hash_rows ++ collection_rows))))
+  rows = any_rows ++ (integer_rows ++ (string_rows ++ (array_rows ++ (hash_rows ++ (collection_rows ++ (mutex_rows ++ thread_rows))))))
 
   -- the row of a method, where the receiver has it
   abbrev pub row_of : Value → Text → Option Row

@@ -17,18 +17,20 @@ use Rattle.rb_model.specs.Ends as ending
 use Rattle.rb_model.specs.Things.{Thing, key_of}
 use Rattle.rb_model.specs.Things as thing
 use Rattle.rb_machine.specs.Scopes.{Script, Scope}
-use Rattle.rb_machine.specs.Control.{State, On, Cont, Then, Under, Test, Eval, Give, Leave, Following, Looping, Turning, Passing, Joining, Drafting, Making, Calling, Reading, Showing, Ended, Rest, Argument, PieceOf, Use, Keys, Values, ForEach, ForText, EachPair, max_depth}
+use Rattle.rb_machine.specs.Control.{State, On, Cont, Then, Under, Test, Eval, Give, Leave, Following, Looping, Turning, Passing, Joining, Drafting, Making, Calling, Reading, Starting, Showing, Ended, Rest, Argument, PieceOf, Use, Keys, Values, ForEach, ForText, EachPair, max_depth}
 use Rattle.rb_machine.specs.Drafts.{needs, opened}
 use Rattle.rb_machine.specs.Call.{ended, raised, perform, going, drafted}
 use Rattle.rb_machine.specs.Begin.{begin}
 use Rattle.rb_machine.specs.Give.{join, give, leave}
 use Rattle.rb_machine.specs.Turns.{turn}
 
--- what comes next: another state; or a want: a thing is made, something is asked of a thing, bytes are shown, or the thread ends
+-- what comes next: another state; or a want: a thing is made, something is asked of a thing, a thread is started, bytes are shown, or the thread
+-- ends
 pub data Next : Type 0 where
   Go : State → Next
   Make : (thing : Thing) → Next
   Ask : (thing : Reference) (act : Act) → Next
+  Begin : (body : ℕ) (values : List Value) → Next
   Show : (bytes : List ℕ) → Next
   Stop : (how : End) → Next
 
@@ -67,6 +69,7 @@ module _ (S : Script) where
   move (On (Making thing) k sc d left) = Make thing
   move (On (Calling thing act at) k sc d left) = Ask thing act
   move (On (Reading thing purpose at) k sc d left) = Ask thing Copy
+  move (On (Starting body values at) k sc d left) = Begin body values
   move (On (Showing bytes) k sc d left) = Show bytes
   move (On (Ended how) k sc d left) = Stop how
 
@@ -96,6 +99,7 @@ abbrev pub replied : State → Reply → State
 replied (On (Making thing) k sc d left) r = answered r (record { from = 0; to = 0 }) k sc d left
 replied (On (Calling thing act at) k sc d left) r = answered r at k sc d left
 replied (On (Reading thing purpose at) k sc d left) r = used purpose thing r at k sc d left
+replied (On (Starting body values at) k sc d left) r = answered r at k sc d left
 replied (On (Showing bytes) k sc d left) r = On (Give Nil) k sc d left
 replied s r = s
 

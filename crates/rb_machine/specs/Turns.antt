@@ -7,7 +7,7 @@ use Rattle.rb_model.specs.Acts.{At, Len}
 use Rattle.rb_model.specs.Ends as ending
 use Rattle.rb_model.specs.Things as thing
 use Rattle.rb_machine.specs.Scopes.{Script, Scope, fresh, with_locals}
-use Rattle.rb_machine.specs.Control.{State, On, Cont, Then, Turn, Give, Following, Making, Turns, Counting, Walking, EachPair, Walk, WithIndex, Map, Select, ElementBelow, WithElement}
+use Rattle.rb_machine.specs.Control.{State, On, Cont, Then, Turn, Owning, Give, Following, Making, Turns, Counting, Walking, EachPair, Walk, WithIndex, Map, Select, ElementBelow, WithElement}
 use Rattle.rb_machine.specs.Call.{ended, ask}
 
 -- the iterations that are left behind an iteration that gave this value
@@ -60,6 +60,12 @@ module _ (S : Script) where
   turn (Walking array next walk at) block k sc d left = ask array Len at (Then (ElementBelow array next walk block at) ∷ k) sc d left
   turn (EachPair [] answer) block k sc d left = On (Give answer) k sc d left
   turn (EachPair (p ∷ ps) answer) block k sc d left = start_turn (EachPair ps answer) (p.0 ∷ p.1 ∷ []) block k sc d left
+
+  -- the block of `synchronize` begins, while its mutex is owned; it is one iteration, which is given nothing
+  abbrev pub start_owning : (mutex : Reference) → Block → Span → List Cont → Scope → ℕ → ℕ → State
+  start_owning mutex block at k sc d zero = ended ending.Steps zero
+  start_owning mutex block at k sc d (suc left) =
+      On (Following Nil block.body) (Owning mutex block at (length sc.locals) ∷ k) (with_locals sc (sc.locals ++ fresh (S.block_names block.at) [])) d left
 
   -- an iteration with an element
   abbrev pub with_element : Value → Reference → ℕ → Walk → Block → Span → List Cont → Scope → ℕ → ℕ → State
