@@ -13,6 +13,8 @@ pub struct CodeMethod {
     pub name: NameId,
     pub params: Items<Param>,
     pub size: u32,
+    /// How many arguments may wait behind the frame at once, for which a row needs slots.
+    pub waits: u32,
     pub body: Items<Code>,
     pub at: Span,
 }
@@ -33,6 +35,8 @@ pub struct CodeBody {
     /// The names that are captured, in the order of their first use.
     pub captured: Items<NameId>,
     pub size: u32,
+    /// How many arguments may wait behind the frame at once.
+    pub waits: u32,
     pub body: Items<Code>,
     pub at: Span,
 }
@@ -55,6 +59,8 @@ pub struct CodeScript {
     pub dispatch: Items<Items<Found>>,
     pub main: Items<Code>,
     pub main_size: u32,
+    /// How many arguments of the top level may wait behind its frame at once.
+    pub main_waits: u32,
 }
 
 /// Which method of a class is among those found.

@@ -30,6 +30,16 @@ module _ {O : Type 0} {g : Ghosts O} where
   Enters to method count at old new room room' depth r =
       methods.Enters old.context.script.now old.context.program.now old.context.steps (me_of old.context.me) to method count at old.base depth old.left new.left room room' (g.log old.store) (g.log new.store) (g.private old.store) (g.private new.store) (outcome r new.value new.leave)
 
+  -- the same with these arguments, of which there are as many as parameters, wherever they stand
+  abbrev pub EntersApart : Val → CodeMethod → List Val → (old new : Walker O g) → (depth : ℕ) → Registers → Type 0
+  EntersApart to method args old new depth r =
+      methods.EntersApart old.context.script.now old.context.program.now old.context.steps to method args depth old.left new.left (g.log old.store) (g.log new.store) (g.private old.store) (g.private new.store) (outcome r new.value new.leave)
+
+  -- from where the statements of a method stand, with its locals in this frame, the machine comes to what came of the call
+  abbrev pub RunsIn : Val → CodeMethod → (frame : List Held) → (old new : Walker O g) → (depth : ℕ) → Registers → Type 0
+  RunsIn to method frame old new depth r =
+      methods.RunsIn old.context.script.now old.context.program.now old.context.steps to method frame depth old.left new.left (g.log old.store) (g.log new.store) (g.private old.store) (g.private new.store) (outcome r new.value new.leave)
+
   -- the same where no one reads the value
   abbrev pub EntersUnread : Val → CodeMethod → (count : ℕ) → Span → (old new : Walker O g) → (room room' : List Held) → (depth : ℕ) → Registers → Type 0
   EntersUnread to method count at old new room room' depth r =

@@ -336,6 +336,7 @@ impl<'p, O: ThreadStore + Drop> Walker<'p, O> {
 
     /// The top level of the script, whose locals are nil in the beginning.
     fn top(&mut self, room: &mut [Value]) -> Came
+        requires room { self.old.base ≤ length room.old }
         requires base { self.old.base ≡ self.old.context.script.now.main_size }
         requires me { self.old.context.me ≡ None }
         ensures context { self.new.context ≡ self.old.context }
@@ -344,15 +345,12 @@ impl<'p, O: ThreadStore + Drop> Walker<'p, O> {
     {
         let script = self.context.script.script();
         let size = script.main_size as usize;
-        if size > room.len() {
-            return self.over(Cut::Memory);
-        }
         clear(room, 0, size);
         self.body(script.main.as_slice(), 0, room)
     }
 }
 
-/// Runs the top level of a script, in this row of slots. Answers the store, how many steps were begun, and how the work went out: its end
+/// Runs the top level of a script, in this row of slots, which has those of its frame. Answers the store, how many steps were begun, and how the work went out: its end
 /// entry is still to be made.
 pub fn run_main<'p, O: ThreadStore + Drop>(
     context: Context<'p>,
@@ -362,6 +360,7 @@ pub fn run_main<'p, O: ThreadStore + Drop>(
     requires live { O.live store }
     requires begun { O.log store ≡ log.fresh }
     requires made { O.private store ≡ bare 0 }
+    requires room { context.script.now.main_size ≤ length room.old }
     ensures live { O.live result.0 }
     ensures goes { (S : Script) → StandsFor context.entry.script.now S → S.program ≡ context.entry.program.now → GoesOut S context.entry.steps (O.log result.0) (O.private result.0) (over result.2) result.1 }
 {
@@ -387,6 +386,7 @@ fn run_by<O: ThreadStore + Drop>(
     requires live { O.live store }
     requires begun { O.log store ≡ log.fresh }
     requires made { O.private store ≡ bare 0 }
+    requires room { methods.now.main_size ≤ length room.old }
     ensures live { O.live result.0 }
     ensures goes { (S : Script) → StandsFor methods.now S → S.program ≡ program.now → GoesOut S steps (O.log result.0) (O.private result.0) (over result.2) result.1 }
 {

@@ -167,6 +167,11 @@ writer_is text =
       is_other text (codes "keys") refl,
       is_other text (codes "values") refl,
       is_other text (codes "each_pair") refl,
+      is_other text (codes "lock") refl,
+      is_other text (codes "unlock") refl,
+      is_other text (codes "synchronize") refl,
+      is_other text (codes "join") refl,
+      is_other text (codes "value") refl,
     )
     (search rules)
 

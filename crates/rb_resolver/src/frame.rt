@@ -25,9 +25,44 @@ fn find(name: NameId, names: &[NameId]) -> Option<usize>
 pub(crate) struct Frame {
     pub names: Vec<NameId>,
     pub size: usize,
+    /// How many arguments wait behind the frame while this node is evaluated, and how many have done so at most.
+    pub waiting: usize,
+    pub most: usize,
 }
 
 impl Frame {
+    /// The frame of a text whose own names are these, with so many slots at least.
+    pub(crate) fn of(names: Vec<NameId>, least: usize) -> Frame
+        ensures names { result.names ≡ names }
+        ensures room { length names.items ≤ result.size }
+        ensures least { least ≤ result.size }
+    {
+        let size = names.len().max(least);
+        Frame {
+            names,
+            size,
+            waiting: 0,
+            most: 0,
+        }
+    }
+
+    /// So many arguments more may wait from now on.
+    pub(crate) fn wait(&mut self, count: usize)
+        ensures names { self.new.names ≡ self.old.names }
+        ensures size { self.new.size ≡ self.old.size }
+    {
+        self.waiting = self.waiting.saturating_add(count);
+        self.most = self.most.max(self.waiting);
+    }
+
+    /// So many of them wait no more.
+    pub(crate) fn pass(&mut self, count: usize)
+        ensures names { self.new.names ≡ self.old.names }
+        ensures size { self.new.size ≡ self.old.size }
+    {
+        self.waiting = self.waiting.saturating_sub(count);
+    }
+
     /// The slot of a local, which stands at this place.
     pub(crate) fn slot(&self, name: NameId, at: Span) -> Result<u32, ResolveFault>
         ensures { IfOk result (λ slot. has_slot name self.now.names.items slot ≡ true) }

@@ -43,7 +43,7 @@ fn node(
             Ok(Code::Str(pieces, *at))
         }
         Node::Array(items, at) => {
-            let items = body(known, names, items.as_slice(), frame)?;
+            let items = arguments(known, names, items.as_slice(), frame)?;
             Ok(Code::Array(items, *at))
         }
         Node::Hash(sources, at) => {
@@ -71,7 +71,7 @@ fn node(
             at,
         } => {
             let receiver = boxed(known, names, receiver.get(), frame)?;
-            let args = body(known, names, args.as_slice(), frame)?;
+            let args = arguments(known, names, args.as_slice(), frame)?;
             Ok(stored(names, *name, receiver, args, *at))
         }
         Node::OpAssign {
@@ -110,12 +110,12 @@ fn node(
             at,
         } => {
             let receiver = optional(known, names, receiver, frame)?;
-            let args = body(known, names, args.as_slice(), frame)?;
+            let args = arguments(known, names, args.as_slice(), frame)?;
             let block = optional_block(known, names, block, frame)?;
             called(known, names, receiver, *name, args, block, *at)
         }
         Node::New { class, args, at } => {
-            let args = body(known, names, args.as_slice(), frame)?;
+            let args = arguments(known, names, args.as_slice(), frame)?;
             made(known, names, *class, args, *at)
         }
         Node::ThreadNew {
@@ -123,7 +123,7 @@ fn node(
             body: number,
             at,
         } => {
-            let args = body(known, names, args.as_slice(), frame)?;
+            let args = arguments(known, names, args.as_slice(), frame)?;
             started(known, frame, args, *number, *at)
         }
         Node::And(left, right, at) => {
@@ -224,6 +224,26 @@ pub(crate) fn body(
     Ok(codes)
 }
 
+/// Resolves the arguments of a call, or the elements of a list: while one is evaluated, those before it wait.
+#[cycle(resolving)]
+#[tactic(auto, using(crate::proofs::Layers::erasing))]
+fn arguments(
+    known: &Known,
+    names: &Names,
+    nodes: &[Node],
+    frame: &mut Frame,
+) -> Result<Items<Code>, ResolveFault>
+    ensures erases { IfOk result (λ codes. map erase codes ≡ nodes.now) }
+    ensures fits { IfOk result (λ codes. (S : Script) → spec.IsKnown known.now names.now S → (size : ℕ) → frame.new.size ≤ size → body_fits S codes frame.old.names.items size ≡ true) }
+    ensures names { OnOk result (frame.new.names.items ≡ frame.old.names.items) }
+    ensures rises { frame.old.size ≤ frame.new.size }
+{
+    frame.wait(nodes.len());
+    let codes = body(known, names, nodes, frame)?;
+    frame.pass(nodes.len());
+    Ok(codes)
+}
+
 /// Resolves the pairs of a hash, whose keys and values then stand by turns.
 #[cycle(resolving)]
 #[tactic(auto, using(crate::proofs::Layers::erasing))]
@@ -239,6 +259,8 @@ fn pairs(
     ensures names { OnOk result (frame.new.names.items ≡ frame.old.names.items) }
     ensures rises { frame.old.size ≤ frame.new.size }
 {
+    let count = sources.len().saturating_mul(2);
+    frame.wait(count);
     let mut codes = Items::new(known.alloc);
     'pairs: for pair in sources {
         let key = node(known, names, &pair.0, frame)?;
@@ -246,6 +268,7 @@ fn pairs(
         let value = node(known, names, &pair.1, frame)?;
         codes.push(value)?;
     }
+    frame.pass(count);
     Ok(codes)
 }
 

@@ -21,28 +21,29 @@ use rb_code::{Code, CodeClass, CodeMethod, CodeScript};
 use rb_tree::{Class, Items, Method, NameId, Names, Node, Program};
 use std::alloc::Global;
 
-/// Resolves the statements of a text whose own names are these. Answers the size of its frame too, which is at least this.
+/// Resolves the statements of a text whose own names are these. Answers the size of its frame too, which is at least this, and how many
+/// arguments may wait behind it: an assignment with an operator to an attribute has one beside those that the text counts.
 pub(crate) fn text(
     known: &Known,
     names: &Names,
     own: &[NameId],
     nodes: &[Node],
     least: usize,
-) -> Result<(Items<Code>, u32), ResolveFault>
+) -> Result<(Items<Code>, u32, u32), ResolveFault>
     ensures erases { IfOk result (λ it. map erase it.0 ≡ nodes.now) }
     ensures fits { IfOk result (λ it. (S : Script) → spec.IsKnown known.now names.now S → body_fits S it.0 own.now it.1 ≡ true) }
     ensures room { IfOk result (λ it. length own.now ≤ it.1) }
     ensures least { IfOk result (λ it. least ≤ it.1) }
 {
-    let mut frame = Frame {
-        names: Vec::from_slice(known.alloc, own)?,
-        size: own.len().max(least),
-    };
+    let mut frame = Frame::of(Vec::from_slice(known.alloc, own)?, least);
     let codes = body(known, names, nodes, &mut frame)?;
     let Ok(size) = u32::try_from(frame.size) else {
         return Err(ResolveFault::Memory);
     };
-    Ok((codes, size))
+    let Ok(waits) = u32::try_from(frame.most.saturating_add(1)) else {
+        return Err(ResolveFault::Memory);
+    };
+    Ok((codes, size, waits))
 }
 
 /// Resolves a method whose names are these.
@@ -61,12 +62,13 @@ fn method(
         body: nodes,
         at,
     } = source;
-    let (codes, size) = text(known, names, own, nodes.as_slice(), params.len())?;
+    let (codes, size, waits) = text(known, names, own, nodes.as_slice(), params.len())?;
     let params = Items::from_slice(known.alloc, params.as_slice())?;
     Ok(CodeMethod {
         name: *name,
         params,
         size,
+        waits,
         body: codes,
         at: *at,
     })
@@ -143,7 +145,7 @@ pub fn resolve(alloc: Global, program: &Program) -> Result<CodeScript, ResolveFa
     let functions = methods(&known, names, own, program.functions.as_slice())?;
     let bodies = bodies(&known, names, program.bodies.as_slice())?;
     let own = known.scopes.main.as_slice();
-    let (main, main_size) = text(&known, names, own, program.main.as_slice(), 0)?;
+    let (main, main_size, main_waits) = text(&known, names, own, program.main.as_slice(), 0)?;
     Ok(CodeScript {
         functions,
         classes,
@@ -151,5 +153,6 @@ pub fn resolve(alloc: Global, program: &Program) -> Result<CodeScript, ResolveFa
         dispatch,
         main,
         main_size,
+        main_waits,
     })
 }

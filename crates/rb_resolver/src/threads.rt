@@ -65,13 +65,14 @@ fn body(known: &Known, names: &Names, number: u32, source: &Block) -> Result<Cod
         return Err(ResolveFault::Memory);
     };
     let own = known.threads.frame_of(number);
-    let (codes, size) = text(known, names, own, nodes.as_slice(), least)?;
+    let (codes, size, waits) = text(known, names, own, nodes.as_slice(), least)?;
     let captured = Items::from_slice(known.alloc, captured)?;
     let params = Items::from_slice(known.alloc, params.as_slice())?;
     Ok(CodeBody {
         params,
         captured,
         size,
+        waits,
         body: codes,
         at: *at,
     })

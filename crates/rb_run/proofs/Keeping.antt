@@ -6,6 +6,9 @@ use Rattle.rb_model.specs.Values.{Value as Val}
 use Rattle.rb_model.specs.Acts.{Act}
 use Rattle.rb_model.specs.Things.{Thing}
 use Rattle.rb_model.specs.Private.{Private, Becomes, entered, held}
+use Rattle.rb_model.specs.declared.immediate.Immediate.{Immediate}
+use Rattle.rb_model.specs.declared.immediate.Immediate.TheVariants as immediate
+use Rattle.rb_model.specs.Immediates.{told_answer, value_told}
 
 -- an act on a thing leaves the number of the thread
 by_act : (found : Option Thing) (h h' : Private) (id : Id) (act : Act) → held h id ≡ found → is_some found ≡ true → Becomes h id act h' → h'.thread ≡ h.thread
@@ -39,3 +42,16 @@ pub by_putting : (put : Bool) (v : Option Val) (h h' : Private) (id : Id) (act :
     → (put ≡ true → IfSome v (λ w. Becomes h id (act w) h')) → (put ≡ false → h' ≡ h) → h'.thread ≡ h.thread
 by_putting true v h h' id act there told become kept = by_value v h h' id act (told refl) (there refl) (become refl)
 by_putting false v h h' id act there told become kept = ap (λ (x : Private). x.thread) (kept refl)
+
+-- a thing of which something is told is there
+some_held : (o : Option Thing) (act : Act) (r : Immediate) → r ≡ told_answer o act → (r ≡ immediate.Other → ⊥) → is_some o ≡ true
+some_held None act r told some = absurd (some told)
+some_held (Some thing) act r told some = refl
+
+-- a value that is taken out of a list, where it is told
+pub by_taking : (r : Immediate) (h h' : Private) (id : Id) (act : Act) → r ≡ told_answer (held h id) act → IfSome (value_told r) (λ v. Becomes h id act h') → (r ≡ immediate.Other → h' ≡ h) → h'.thread ≡ h.thread
+by_taking immediate.Other h h' id act told become kept = ap (λ (x : Private). x.thread) (kept refl)
+by_taking immediate.Nil h h' id act told become kept = by_becoming h h' id act (some_held (held h id) act immediate.Nil told (λ e. let w : immediate.Nil ≡ immediate.Other = e in cc)) become
+by_taking immediate.False h h' id act told become kept = by_becoming h h' id act (some_held (held h id) act immediate.False told (λ e. let w : immediate.False ≡ immediate.Other = e in cc)) become
+by_taking immediate.True h h' id act told become kept = by_becoming h h' id act (some_held (held h id) act immediate.True told (λ e. let w : immediate.True ≡ immediate.Other = e in cc)) become
+by_taking (immediate.Int n) h h' id act told become kept = by_becoming h h' id act (some_held (held h id) act (immediate.Int n) told (λ e. let w : immediate.Int n ≡ immediate.Other = e in cc)) become

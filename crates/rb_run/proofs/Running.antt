@@ -43,6 +43,7 @@ is_run program steps old new log how shapes store shaped main own written follow
       store = store;
       follows = follows;
       main = main;
+      own = own;
       shaped = shaped;
       written = written;
       alone = does_as_alone (script_of program) steps log how store follows main apart;

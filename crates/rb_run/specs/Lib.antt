@@ -1,4 +1,3 @@
 pub mod Going
 pub mod Last
-pub mod Row
 pub mod Run

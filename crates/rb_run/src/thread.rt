@@ -2,10 +2,10 @@
 
 ghost use Rattle.std.specs.Prelude.{◌≡◌, ◌-ℤ◌, None, is_some, IsSome, IfSome, IfOk, OnOk, OnErr, true, false};
 ghost use Rattle.rb_model.specs.Values.{Int, plain};
-ghost use Rattle.rb_model.specs.Acts.{At, GetField, KGet, Put, SetField};
+ghost use Rattle.rb_model.specs.Acts.{At, GetField, KGet, Push, Put, SetField};
 ghost use Rattle.rb_model.specs.Acts as answer;
 ghost use Rattle.rb_model.specs.Doing.{doing, said, made, sort_of};
-ghost use Rattle.rb_model.specs.Immediates.{list_answered, reference, told_answer, value_told};
+ghost use Rattle.rb_model.specs.Immediates.{list_answered, reference, taking, told_answer, value_told};
 ghost use Rattle.std.specs.Option.{option_map};
 ghost use Rattle.rb_model.specs.Private.{Gives, Becomes, held, entered, next_id};
 ghost use Rattle.rb_model.specs.Log.{Answers, Print};
@@ -13,7 +13,8 @@ ghost use Rattle.rb_run.specs.Going.{GoesOn};
 
 use local_heap::LocalHeap;
 use rb_model::{
-    Act, Answer, Call, Id, Immediate, Make, OneStore, Ref, Reply, SharedText, ThreadStore, Value,
+    Act, Answer, Call, Id, Immediate, Make, OneStore, Ref, Reply, SharedText, Side, ThreadStore,
+    Value,
 };
 use rb_tree::NameId;
 use shape_tree::ShapeStore;
@@ -119,6 +120,35 @@ impl<O: OneStore, S: ShapeStore> ThreadStore for MainThread<O, S> {
         ensures log { O.log self.new.calls ≡ O.log self.old.calls }
     {
         self.things.put_immediate(id, index, value)
+    }
+
+    #[inline(always)]
+    fn push_immediate(&mut self, id: Id, value: Immediate) -> bool
+        requires live { GoesOn (O.log self.old.calls) self.old.things }
+        ensures live { GoesOn (O.log self.new.calls) self.new.things }
+        ensures there { result ≡ true → is_some (held self.old.things id) ≡ true }
+        ensures gives { result ≡ true → IfSome (value_told value) (λ v. Gives self.old.things id (Push v) answer.Done) }
+        ensures private { result ≡ true → IfSome (value_told value) (λ v. Becomes self.old.things id (Push v) self.new.things) }
+        ensures told { result ≡ true → is_some (value_told value) ≡ true }
+        ensures kept { result ≡ false → self.new.things ≡ self.old.things }
+        ensures log { O.log self.new.calls ≡ O.log self.old.calls }
+    {
+        match self.things.push_immediate(id, value) {
+            Ok(done) => done,
+            Err(_) => false,
+        }
+    }
+
+    #[inline(always)]
+    fn take_immediate(&mut self, id: Id, side: Side) -> Immediate
+        requires live { GoesOn (O.log self.old.calls) self.old.things }
+        ensures live { GoesOn (O.log self.new.calls) self.new.things }
+        ensures told { result ≡ told_answer (held self.old.things id) (taking side) }
+        ensures private { IfSome (value_told result) (λ v. Becomes self.old.things id (taking side) self.new.things) }
+        ensures kept { result ≡ Immediate.Other → self.new.things ≡ self.old.things }
+        ensures log { O.log self.new.calls ≡ O.log self.old.calls }
+    {
+        self.things.take_immediate(id, side)
     }
 
     #[inline(always)]

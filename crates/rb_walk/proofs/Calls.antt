@@ -11,7 +11,7 @@ use Rattle.rb_model.specs.Private.{Private}
 use Rattle.rb_machine.specs.Scopes.{Script, Scope, Text}
 use Rattle.rb_machine.specs.Control.{State, Cont}
 use Rattle.rb_machine.specs.Call.{invoke, invoked, answered, methods_of, texted, raised, params_of}
-use Rattle.rb_machine.specs.Methods.{Answer, Gives, Raises, Loops, LoopsOver, Asks, Reads, EachPairOf, Inspects, deed}
+use Rattle.rb_machine.specs.Methods.{Answer, Gives, Raises, Loops, LoopsOver, Asks, Reads, EachPairOf, Inspects, Synchronizes, deed}
 use Rattle.rb_machine.specs.Move.{left_in}
 use Rattle.rb_machine.specs.Follows.{At}
 use Rattle.rb_builtin.specs.Names.{builtin_of}
@@ -58,6 +58,7 @@ left_answered S (Asks thing act (Some step)) at k sc d n = refl
 left_answered S (Reads thing purpose) at k sc d n = refl
 left_answered S (EachPairOf hash) at k sc d n = refl
 left_answered S (Inspects collection) at k sc d n = refl
+left_answered S (Synchronizes mutex) at k sc d n = refl
 
 module _ (S : Script) (N : ℕ) (start : State) (h : Private) where
   -- what a method without a block answers
@@ -71,6 +72,7 @@ module _ (S : Script) (N : ℕ) (start : State) (h : Private) where
   answers l (Reads thing purpose) at k sc d n a = (_, a, refl)
   answers l (EachPairOf hash) at k sc d n a = a
   answers l (Inspects collection) at k sc d n a = (_, a, refl)
+  answers l (Synchronizes mutex) at k sc d n a = a
 
   -- an outcome, or a cut by memory at a state with as many steps left
   pub or_memory : (l : Log) (k : List Cont) (sc : Scope) (d n : ℕ) (wanted o : Outcome) (s : State) → OrMemory wanted o → At S N start l h s → left_in s ≡ n → Came S N start l h wanted k sc d n → Came S N start l h o k sc d n

@@ -1,6 +1,7 @@
 -- Calls of methods of the script: which method a name finds, and its frame.
-use Rattle.std.proofs.Common.{◌≡◌, ℕ, zero, suc, ◌+◌, ◌<◌, ◌≤◌, Bool, true, false, cond, List, [], ◌∷◌, length, map, drop, take, Option, Some, None, refl, sym, ap, ◌∙◌, subst, eq-eqb, arith}
+use Rattle.std.proofs.Common.{◌≡◌, ℕ, zero, suc, ◌+◌, ◌-◌, ◌<◌, ◌≤◌, Bool, true, false, cond, List, [], ◌∷◌, ◌++◌, length, map, drop, take, replicate, Option, Some, None, refl, sym, ap, ◌∙◌, subst, eq-eqb, arith}
 use Rattle.std.proofs.lemmas.Bool.Decides.{nat_tests}
+use Rattle.std.proofs.lemmas.List.{length-replicate}
 use Rattle.std.specs.List.{position, position_or_len, list_all}
 use Rattle.std.specs.Prelude.{not, nat_eq, nat_lt, slice_get, find}
 use Rattle.rb_tree.specs.declared.span.Span.{Span}
@@ -27,7 +28,7 @@ use Rattle.rb_code.specs.Stands.{StandsFor}
 use Rattle.rb_walk.specs.Carries.{Lies, scope_of}
 use Rattle.rb_walk.specs.Methods.{method_for}
 use Rattle.rb_walk.proofs.Moves.{same}
-use Rattle.rb_walk.proofs.Lists.{fst, snd, le_test, eq_test, len_map, len_args, len_drop, get_map}
+use Rattle.rb_walk.proofs.Lists.{fst, snd, le_test, eq_test, len_map, len_append, len_args, len_drop, get_map}
 use Rattle.rb_walk.proofs.Rooms.{lies, frame_opens}
 
 -- ---- lists
@@ -101,6 +102,18 @@ pub frame_lies : (S : Script) (m : CodeMethod) (end : ℕ) → method_fits S m �
 frame_lies S m end right p =
     lies (every (map (fits S) m.body)) (S.method_names (erase_method m)) m.size m.size end (snd _ _ (snd _ _ right)) (frame_names S m right) (omega arith) p
 
+-- names with the first values in a row that has nil behind them
+opens_apart : (names : List NameId) (vs : List Val) (n : ℕ) → length names ≤ length vs + n → bound names (vs ++ replicate n Nil) ≡ fresh names vs
+opens_apart [] vs n h = refl
+opens_apart (m ∷ ms) [] zero h = absurd (omega (arith, h))
+opens_apart (m ∷ ms) [] (suc n) h = ap (λ ls. (m, Nil) ∷ ls) (opens_apart ms [] n (omega (arith, h)))
+opens_apart (m ∷ ms) (v ∷ vs) n h = ap (λ ls. (m, v) ∷ ls) (opens_apart ms vs n (omega (arith, h)))
+
+-- such a row has as many slots as were asked for
+pub row_long : (args : List Val) (frame : List Held) (slots : ℕ) → map plain frame ≡ args ++ replicate (slots - length args) Nil → slots ≤ length frame
+row_long args frame slots is =
+    omega (arith, len_map plain frame, ap length is, len_append args (replicate (slots - length args) Nil), length-replicate (slots - length args) Nil)
+
 module _ {S : Script} {N : ℕ} {start : State} {h : Private} where
   -- a method is entered with its arguments in its frame
   pub enters : {log : Log} {k : List Cont} {sc : Scope} {d n : ℕ} (m : CodeMethod) (me : Val) (count before : ℕ) (there frame : List Held) (at : Span)
@@ -120,6 +133,17 @@ module _ {S : Script} {N : ℕ} {start : State} {h : Private} where
       let dropped = len_drop there before (omega (arith, long)) in
       let opened : bound names (map plain frame) ≡ fresh names args = frame_opens names rest frame count (omega (arith, dropped, long)) below (λ i p q. within i p (omega (arith, q, size))) in
       same a (ap (λ b. cond b (On (Following Nil (map erase m.body)) (Frame sc ∷ k) (record { me = me; locals = fresh names args }) d n) (raised ArgumentCount at n)) (eq-eqb _ _ same_count)
+      ∙ ap (λ (ls : Locals). On (Following Nil (map erase m.body)) (Frame sc ∷ k) (record { me = me; locals = ls }) d n) (sym opened))
+
+  -- and likewise in a row of its own
+  pub enters_apart : {log : Log} {k : List Cont} {sc : Scope} {d n : ℕ} (m : CodeMethod) (me : Val) (args : List Val) (frame : List Held) (slots : ℕ) (at : Span)
+      → method_fits S m ≡ true → length args ≡ length m.params → m.size ≤ slots → map plain frame ≡ args ++ replicate (slots - length args) Nil
+      → At S N start log h (enter S (erase_method m) me args at k sc d n)
+      → At S N start log h (On (Following Nil (map erase m.body)) (Frame sc ∷ k) (scope_of me (S.method_names (erase_method m)) frame) d n)
+  enters_apart {k = k} {sc = sc} {d = d} {n = n} m me args frame slots at right counts room is a =
+      let names = S.method_names (erase_method m) in
+      let opened : bound names (map plain frame) ≡ fresh names args = ap (bound names) is ∙ opens_apart names args (slots - length args) (omega (arith, frame_names S m right, room)) in
+      same a (ap (λ b. cond b (On (Following Nil (map erase m.body)) (Frame sc ∷ k) (record { me = me; locals = fresh names args }) d n) (raised ArgumentCount at n)) (eq-eqb _ _ counts)
       ∙ ap (λ (ls : Locals). On (Following Nil (map erase m.body)) (Frame sc ∷ k) (record { me = me; locals = ls }) d n) (sym opened))
 
   -- or not, where their count is another

@@ -3,6 +3,7 @@ use Rattle.std.proofs.Common.{◌≡◌, ◌∙◌, ◌<◌, ◌≤◌, ◌+◌,
 use Rattle.std.specs.Prelude.{ℤ, IfSome, is_some}
 use Rattle.rb_tree.specs.declared.span.NameId.{NameId}
 use Rattle.rb_model.specs.declared.immediate.Immediate.{Immediate}
+use Rattle.rb_model.specs.declared.immediate.Immediate.TheVariants as immediate
 use Rattle.rb_model.specs.declared.value.Ref.{Ref}
 use Rattle.rb_model.specs.declared.value.Value.{Value as Held}
 use Rattle.rb_model.specs.Values.{Value as Val, Reference, Nil, False, True, Int, Sym, Str, To}
@@ -130,6 +131,14 @@ computed_small c room (Some n) is_over e h = λ own. given_held c room own (Int 
 pub told_value : (r : Option Val) → is_some r ≡ true → (v : Val) × (r ≡ Some v)
 told_value None h = absurd (cc)
 told_value (Some v) h = (v, refl)
+
+-- what is not told is none
+pub not_told : (r : Immediate) → is_some (value_told r) ≡ false → r ≡ immediate.Other
+not_told immediate.Nil none = absurd (let wrong : true ≡ false = none in cc)
+not_told immediate.False none = absurd (let wrong : true ≡ false = none in cc)
+not_told immediate.True none = absurd (let wrong : true ≡ false = none in cc)
+not_told (immediate.Int n) none = absurd (let wrong : true ≡ false = none in cc)
+not_told immediate.Other none = refl
 
 -- a list that an act answers with is there
 list_of_reply : (y : Reply) (r : Reference) → list_replied y ≡ Some r → (y ≡ reply.Value (To r)) × (r.sort ≡ Sort.List)

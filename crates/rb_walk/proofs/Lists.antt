@@ -1,5 +1,6 @@
 -- Lists by their places, and rooms of slots.
 use Rattle.std.proofs.Common.{◌≡◌, ℕ, zero, suc, ◌+◌, ◌-◌, ◌<◌, ◌≤◌, Bool, true, false, List, [], ◌∷◌, ◌++◌, length, map, drop, take, get_or, Option, Some, None, refl, sym, ap, ◌∙◌, add-one, arith}
+use Rattle.std.proofs.lemmas.List.{map-append, take_more}
 use Rattle.std.proofs.Math.Seq.{drop-cons}
 use Rattle.std.proofs.lemmas.Bool.Decides.{nat_tests}
 use Rattle.std.specs.Prelude.{◌&&◌, slice_index_or, slice_get, slice_set, nat_le, ◌==◌}
@@ -195,3 +196,10 @@ two_items xs [] a b e p q f g = absurd (omega (arith, p))
 two_items xs (x ∷ []) a b e p q f g = absurd (omega (arith, p))
 two_items xs (x ∷ y ∷ []) a b e p q f g = sym e ∙ (ap (λ z. z ∷ y ∷ []) (sym f) ∙ ap (λ z. a ∷ z ∷ []) (sym g))
 two_items xs (x ∷ y ∷ z ∷ zs) a b e p q f g = absurd (omega (arith, q))
+
+-- a list with one element more, of whose elements is made what is made of those of another
+pub map_more : {A B : Type 0} (f : A → B) (xs new : List A) (x : A) (ys : List A) (y : A) (i : ℕ) → new ≡ xs ++ x ∷ [] → map f xs ≡ map f (take i ys) → f x ≡ f y → i < length ys → y ≡ get_or ys i y
+    → map f new ≡ map f (take (i + 1) ys)
+map_more f xs new x ys y i is old e h at =
+    ap (map f) is ∙ map-append f xs (x ∷ []) ∙ ap (λ zs. zs ++ f x ∷ []) old ∙ ap (λ z. map f (take i ys) ++ z ∷ []) (e ∙ ap f at) ∙ sym (map-append f (take i ys) (get_or ys i y ∷ []))
+    ∙ sym (ap (map f) (take_more ys i y h))

@@ -16,7 +16,7 @@ use Rattle.rb_machine.specs.Control.{State, On, Cont, Turn, Give, Following, Tur
 use Rattle.rb_machine.specs.Call.{answered, params_of, texted, methods_of}
 use Rattle.rb_machine.specs.Give.{back}
 use Rattle.rb_machine.specs.Turns.{turned}
-use Rattle.rb_machine.specs.Methods.{Answer, Gives, Raises, Loops, LoopsOver, Asks, Reads, EachPairOf, Inspects, deed}
+use Rattle.rb_machine.specs.Methods.{Answer, Gives, Raises, Loops, LoopsOver, Asks, Reads, EachPairOf, Inspects, Synchronizes, deed}
 use Rattle.rb_machine.specs.Follows.{At}
 use Rattle.rb_code.specs.declared.code.CodeBlock.{CodeBlock}
 use Rattle.rb_code.specs.Layout.{bound}
@@ -176,6 +176,7 @@ left_block S (Asks thing act (Some step)) b at k sc d n = refl
 left_block S (Reads thing purpose) b at k sc d n = refl
 left_block S (EachPairOf hash) b at k sc d n = refl
 left_block S (Inspects collection) b at k sc d n = refl
+left_block S (Synchronizes mutex) b at k sc d n = refl
 
 module _ (S : Script) (N : ℕ) (start : State) (h : Private) where
   -- the iterations of a call with a block

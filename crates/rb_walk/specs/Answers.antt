@@ -16,7 +16,7 @@ use Rattle.rb_tree.specs.declared.node.Block.{Block}
 use Rattle.rb_machine.specs.Scopes.{Script, Scope}
 use Rattle.rb_machine.specs.Control.{State, Cont, On, Eval, Give, Turns, Counting}
 use Rattle.rb_machine.specs.Call.{answered}
-use Rattle.rb_machine.specs.Methods.{Answer, Gives, Raises, Loops, LoopsOver, EachPairOf, deed}
+use Rattle.rb_machine.specs.Methods.{Answer, Gives, Raises, Loops, LoopsOver, EachPairOf, Synchronizes, deed}
 use Rattle.rb_machine.specs.Follows.{At}
 use Rattle.rb_machine.specs.Texts.{max_bytes}
 use Rattle.rb_builtin.specs.declared.builtin.Builtin.{Builtin}
@@ -47,6 +47,7 @@ outcome_of (Raises fault) at = Over (Raised fault at)
 outcome_of (Loops turns) at = Over (Raised ArgumentCount at)
 outcome_of (LoopsOver array walk) at = Over (Raised ArgumentCount at)
 outcome_of (EachPairOf hash) at = Over (Raised ArgumentCount at)
+outcome_of (Synchronizes mutex) at = Over (Raised ArgumentCount at)
 outcome_of other at = Over Memory
 
 -- a value is written into a slot and given on, or memory is wanted and nothing is written

@@ -4,13 +4,13 @@ use Rattle.std.specs.Prelude.{◌≡◌, ◌≤◌, ◌+◌, ℕ, true, List, []
 use Rattle.rb_tree.specs.declared.span.Span.{Span}
 use Rattle.rb_tree.specs.declared.span.NameId.{NameId}
 use Rattle.rb_tree.specs.declared.node.Method.{Method}
-use Rattle.rb_model.specs.Values.{Value as Val, plain}
+use Rattle.rb_model.specs.Values.{Value as Val, Nil, plain}
 use Rattle.rb_model.specs.declared.value.Ref.{Ref}
 use Rattle.rb_model.specs.declared.value.Value.{Value as Held}
 use Rattle.rb_model.specs.Log.{Log}
 use Rattle.rb_model.specs.Private.{Private}
-use Rattle.rb_machine.specs.Scopes.{Script, Text, text_of}
-use Rattle.rb_machine.specs.Control.{State, Cont, Then, Instead, OfAttribute}
+use Rattle.rb_machine.specs.Scopes.{Script, Scope, Text, text_of}
+use Rattle.rb_machine.specs.Control.{State, Cont, On, Following, Frame, Then, Instead, OfAttribute}
 use Rattle.rb_machine.specs.Call.{invoke, enter, texted, methods_of, last_value, write_place}
 use Rattle.rb_machine.specs.Follows.{At}
 use Rattle.rb_machine.specs.Methods.{Answer, equal}
@@ -20,7 +20,7 @@ use Rattle.rb_builtin.specs.Names.{builtin_of}
 use Rattle.rb_code.specs.declared.code.Code.{Code}
 use Rattle.rb_code.specs.declared.scripted.CodeMethod.{CodeMethod}
 use Rattle.rb_code.specs.declared.scripted.CodeScript.{CodeScript}
-use Rattle.rb_code.specs.Erase.{erase_method}
+use Rattle.rb_code.specs.Erase.{erase, erase_method}
 use Rattle.rb_code.specs.Resolved.{method_fits, is_free}
 use Rattle.rb_code.specs.Dispatch.{is_writer}
 use Rattle.rb_code.specs.Stands.{StandsFor}
@@ -59,6 +59,22 @@ Enters script program N me to method count at base depth left left' room room' l
     → StandsFor script S → S.program ≡ program → method_fits S method ≡ true → length names ≤ base → base + count ≤ length room
     → At S N start log own (enter S (erase_method method) to (map plain (take count (drop base room))) at k (scope_of me names room) depth left)
     → Came S N start log' own' o k (scope_of me names room') depth left'
+
+-- The same with these arguments, of which there are as many as parameters, wherever they stand.
+abbrev pub EntersApart : CodeScript → Program → ℕ → Val → CodeMethod → List Val → (depth left left' : ℕ) → (log log' : Log) → (own own' : Private) → Outcome → Type 0
+EntersApart script program N to method args depth left left' log log' own own' o =
+    (S : Script) (start : State) (k : List Cont) (sc : Scope) (at : Span)
+    → StandsFor script S → S.program ≡ program → method_fits S method ≡ true → length args ≡ length method.params
+    → At S N start log own (enter S (erase_method method) to args at k sc depth left)
+    → Came S N start log' own' o k sc depth left'
+
+-- From where the statements of a method stand, with its locals in this frame, the machine comes to the outcome of the call.
+abbrev pub RunsIn : CodeScript → Program → ℕ → Val → CodeMethod → (frame : List Held) → (depth left left' : ℕ) → (log log' : Log) → (own own' : Private) → Outcome → Type 0
+RunsIn script program N to method frame depth left left' log log' own own' o =
+    (S : Script) (start : State) (k : List Cont) (sc : Scope)
+    → StandsFor script S → S.program ≡ program → method_fits S method ≡ true → method.size ≤ length frame
+    → At S N start log own (On (Following Nil (map erase method.body)) (Frame sc ∷ k) (scope_of to (S.method_names (erase_method method)) frame) depth left)
+    → Came S N start log' own' o k sc depth left'
 
 -- and from where it begins with one argument
 abbrev pub EntersWith : CodeScript → Program → ℕ → Val → Val → CodeMethod → Val → Span → (base depth left left' : ℕ) → (room room' : List Held) → (log log' : Log) → (own own' : Private) → Outcome → Type 0

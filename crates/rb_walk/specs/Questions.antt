@@ -2,10 +2,12 @@
 use Rattle.std.specs.Prelude.{◌≡◌, ℕ, ℤ, List, [], ◌∷◌, Option, None}
 use Rattle.rb_tree.specs.declared.node.Program.{Program}
 use Rattle.rb_model.specs.Values.{Value as Val, Int, To}
-use Rattle.rb_model.specs.Acts.{Act, At, Put, KPut}
+use Rattle.rb_model.specs.declared.act.Side.{Side}
+use Rattle.rb_model.specs.Acts.{Act, At, Push, Put, KPut}
+use Rattle.rb_model.specs.Immediates.{taking}
 use Rattle.rb_model.specs.declared.value.Ref.{Ref}
 use Rattle.rb_model.specs.Doing.{doing}
-use Rattle.rb_machine.specs.Methods.{Answer, Asks, deed}
+use Rattle.rb_machine.specs.Methods.{Answer, Asks, changes, deed}
 use Rattle.rb_builtin.specs.declared.builtin.Builtin.{Builtin}
 use Rattle.rb_builtin.specs.Names.{builtin_of}
 use Rattle.rb_builtin.specs.Deeds.{thing_of, step_of}
@@ -27,6 +29,16 @@ IsAsking thing method arg act =
 -- a method asks an array for its element at an index
 abbrev pub IsElement : Ref → Option Builtin → Type 0
 IsElement array method = (index : ℤ) → IsAsking array method (Int index) (At index)
+
+-- a method without arguments takes an element out at an end of an array
+abbrev pub IsTaking : Ref → Option Builtin → Side → Type 0
+IsTaking array method side =
+    (program : Program) (name : List ℕ) → builtin_of name ≡ method → deed program (To (thing_of array)) name [] None ≡ Asks (thing_of array) (taking side) None
+
+-- a method puts its argument behind the elements of an array, and answers with the array
+abbrev pub IsPush : Ref → Option Builtin → Type 0
+IsPush array method =
+    (program : Program) (name : List ℕ) (w : Val) → builtin_of name ≡ method → deed program (To (thing_of array)) name (w ∷ []) None ≡ changes (Push w) (thing_of array)
 
 -- a method gives a hash's key a value
 abbrev pub IsKeyPut : Ref → Option Builtin → Val → Type 0

@@ -17,5 +17,6 @@ pub mod rounds;
 pub mod slots;
 pub mod target;
 
-/// How many nodes may be under evaluation at once.
+/// How many nodes may be under evaluation at once. A recursion to this depth takes up to some 1,300 KiB of the machine's stack, so what
+/// runs a script needs 2 MiB of it: the main thread's has more.
 pub const MAX_DEPTH: u32 = 1000;

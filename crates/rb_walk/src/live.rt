@@ -3,14 +3,16 @@
 ghost use Rattle.std.specs.Prelude.{◌≡◌, ◌-ℤ◌, None, true, false, is_some, IsSome, IfSome, IfOk, OnOk, OnErr};
 ghost use Rattle.std.specs.Option.{option_map};
 ghost use Rattle.rb_model.specs.Values.{Int, plain};
-ghost use Rattle.rb_model.specs.Acts.{At, GetField, KGet, Put, SetField};
+ghost use Rattle.rb_model.specs.Acts.{At, GetField, KGet, Push, Put, SetField};
 ghost use Rattle.rb_model.specs.Acts as answer;
 ghost use Rattle.rb_model.specs.Doing.{doing, said, made, sort_of};
-ghost use Rattle.rb_model.specs.Immediates.{told_answer, list_answered, reference, value_told};
+ghost use Rattle.rb_model.specs.Immediates.{told_answer, list_answered, reference, taking, value_told};
 ghost use Rattle.rb_model.specs.Private.{Gives, Becomes, held, entered, next_id};
 ghost use Rattle.rb_model.specs.Log.{Answers, Print};
 
-use rb_model::{Act, Answer, Id, Immediate, Make, Ref, Reply, SharedText, ThreadStore, Value};
+use rb_model::{
+    Act, Answer, Id, Immediate, Make, Ref, Reply, SharedText, Side, ThreadStore, Value,
+};
 use rb_tree::NameId;
 use std::alloc::AllocError;
 use std::marker::Model;
@@ -134,6 +136,31 @@ impl<O: ThreadStore + Drop> Live<O> {
         ensures log { O.log self.new ≡ O.log self.old }
     {
         self.store.put_immediate(id, index, value)
+    }
+
+    /// Puts an immediate value behind the last element of a list that is private here, where it fits to the others. Else, and where memory is
+    /// wanted, nothing is done.
+    #[inline(always)]
+    pub fn push_immediate(&mut self, id: Id, value: Immediate) -> bool
+        ensures there { result ≡ true → is_some (held (O.private self.old) id) ≡ true }
+        ensures gives { result ≡ true → IfSome (value_told value) (λ v. Gives (O.private self.old) id (Push v) answer.Done) }
+        ensures private { result ≡ true → IfSome (value_told value) (λ v. Becomes (O.private self.old) id (Push v) (O.private self.new)) }
+        ensures told { result ≡ true → is_some (value_told value) ≡ true }
+        ensures kept { result ≡ false → O.private self.new ≡ O.private self.old }
+        ensures log { O.log self.new ≡ O.log self.old }
+    {
+        self.store.push_immediate(id, value)
+    }
+
+    /// Takes an element that is an immediate value out at an end of a list that is private here. Of any other nothing is done.
+    #[inline(always)]
+    pub fn take_immediate(&mut self, id: Id, side: Side) -> Immediate
+        ensures told { result ≡ told_answer (held (O.private self.old) id) (taking side) }
+        ensures private { IfSome (value_told result) (λ v. Becomes (O.private self.old) id (taking side) (O.private self.new)) }
+        ensures kept { result ≡ Immediate.Other → O.private self.new ≡ O.private self.old }
+        ensures log { O.log self.new ≡ O.log self.old }
+    {
+        self.store.take_immediate(id, side)
     }
 
     /// Adds an integer to a field of an object that is private here, where its place holds integers alone and the sum is one. Else nothing is

@@ -4,11 +4,11 @@ ghost use Rattle.std.specs.Prelude.{◌≡◌, true, IfSome, Some, None, [], ◌
 ghost use Rattle.rb_model.specs.Values.{Value as Val, Int, To, plain};
 ghost use Rattle.rb_builtin.specs.Deeds.{thing_of, walk_answer, hash_answer, thing_answer};
 ghost use Rattle.rb_model.specs.Acts.{KGet};
-ghost use Rattle.rb_walk.specs.Questions.{IsAskedBy, IsAsking, IsElement, IsKeyPut, IsPut, answer_by};
+ghost use Rattle.rb_walk.specs.Questions.{IsAskedBy, IsAsking, IsElement, IsKeyPut, IsPush, IsPut, IsTaking, answer_by};
 
 use crate::gathering::is_collection;
 use rb_builtin::{Behind, Builtin};
-use rb_model::{Act, Ref, Sort, Value};
+use rb_model::{Act, Ref, Side, Sort, Value};
 
 /// What a thing is asked, and what is answered behind its reply.
 #[derive(Drop)]
@@ -132,6 +132,30 @@ pub fn index_for(thing: Ref, method: Option<Builtin>, arg: &Value) -> Option<i64
         Some(*index)
     } else {
         None
+    }
+}
+
+/// Whether a method puts its one argument behind the elements of an array, and answers with the array.
+#[inline(always)]
+pub fn is_push(thing: Ref, method: Option<Builtin>) -> bool
+    ensures { result ≡ true → IsPush thing method }
+{
+    match (thing.sort, method) {
+        (Sort::List, Some(Builtin::Append)) => true,
+        (Sort::List, Some(Builtin::Push)) => true,
+        _ => false,
+    }
+}
+
+/// The end at which a method without arguments takes an element out of an array.
+#[inline(always)]
+pub fn side_for(thing: Ref, method: Option<Builtin>) -> Option<Side>
+    ensures { IfSome result (λ side. IsTaking thing method side) }
+{
+    match (thing.sort, method) {
+        (Sort::List, Some(Builtin::Shift)) => Some(Side::First),
+        (Sort::List, Some(Builtin::Pop)) => Some(Side::Last),
+        _ => None,
     }
 }
 

@@ -1,7 +1,7 @@
 // Slots of a frame.
 
-ghost use Rattle.std.specs.Prelude.{◌≡◌, ◌≤◌, ◌<◌, ◌+◌, ℕ, [], ◌∷◌, Some, IfOk, IfSome, map, length, take, drop, slice_get, slice_set};
-ghost use Rattle.rb_model.specs.Values.{Int, plain};
+ghost use Rattle.std.specs.Prelude.{◌≡◌, ◌≤◌, ◌<◌, ◌+◌, ◌-◌, ◌++◌, ℕ, [], ◌∷◌, Some, IfOk, IfSome, OnOk, map, length, take, drop, replicate, slice_get, slice_set};
+ghost use Rattle.rb_model.specs.Values.{Int, Nil, plain};
 ghost use Rattle.rb_model.specs.declared.value.Value.TheVariants as held;
 ghost use Rattle.rb_machine.specs.Scopes.{Script};
 ghost use Rattle.rb_machine.specs.Call.{last_value};
@@ -10,7 +10,10 @@ ghost use Rattle.rb_walk.specs.Slots.{first_of_block};
 ghost use Rattle.rb_walk.specs.Walks.{slot_value};
 
 use rb_model::Value;
-use std::alloc::AllocError;
+use std::alloc::{AllocError, Global};
+
+/// How many slots a row has beside those that its first frame needs, where it is made for one call.
+pub const SPARE_SLOTS: usize = 256;
 
 /// Sets slots to nil.
 #[inline(always)]
@@ -24,6 +27,29 @@ pub fn clear(room: &mut [Value], from: usize, to: usize)
     'slots: for slot in from..to {
         room[slot] = Value::Nil;
     }
+}
+
+/// So many slots more, with nil in them.
+pub fn add_slots(row: &mut Vec<Value>, count: usize) -> Result<(), AllocError>
+    ensures { OnOk result (map plain row.new.items ≡ map plain row.old.items ++ replicate count Nil) }
+{
+    row.reserve(count)?;
+    'slots: for _ in 0..count {
+        row.push(Value::Nil)?;
+    }
+    Ok(())
+}
+
+/// A row of its own with so many slots at least: these values first, nil behind them.
+pub fn row_behind(alloc: Global, values: &[Value], slots: usize) -> Result<Vec<Value>, AllocError>
+    ensures { IfOk result (λ row. map plain row.items ≡ map plain values.now ++ replicate (slots - length values.now) Nil) }
+{
+    let mut row = Vec::with_capacity(alloc, values.len())?;
+    'values: for value in values {
+        row.push(value.share()?)?;
+    }
+    add_slots(&mut row, slots.saturating_sub(values.len()))?;
+    Ok(row)
 }
 
 /// Writes an integer into a slot.

@@ -6,7 +6,7 @@ ghost use Rattle.rb_walk.specs.Outcome.{IsOver, fetched, outcome};
 use super::Walker;
 use rb_builtin::Builtin;
 use rb_code::Code;
-use rb_model::{Act, Fault, ThreadStore, Value};
+use rb_model::{Act, ThreadStore, Value};
 use rb_tree::{NameId, Span};
 use rb_walk::MAX_DEPTH;
 use rb_walk::came::{Came, Cut, Leave, is_left};
@@ -320,7 +320,8 @@ impl<'p, O: ThreadStore + Drop> Walker<'p, O> {
         Some(self.fetch(reader.object, Act::GetField(reader.field), reader.at))
     }
 
-    /// What comes of a method that is sent without arguments, where the receiver is a local that holds no thing. Else nothing is done.
+    /// What comes of a method that is sent without arguments, where the receiver is a local that holds no thing, or an array or a hash. Else
+    /// nothing is done.
     #[inline(always)]
     fn sent(
         &mut self,
@@ -345,6 +346,10 @@ impl<'p, O: ThreadStore + Drop> Walker<'p, O> {
         }
         if self.left < 2 || depth >= MAX_DEPTH {
             return None;
+        }
+        if let Some(thing) = local_collection(receiver, room) {
+            self.left -= 1;
+            return Some(self.asked_alone(thing, method, at, depth));
         }
         let held = answering(self.context.script, method, name, receiver, room)?;
         self.left -= 1;
@@ -704,7 +709,7 @@ impl<'p, O: ThreadStore + Drop> Walker<'p, O> {
                 self.create_builtin(*class, *name, args.as_slice(), *at, depth, room)
             }
             // No accepted script starts a thread yet.
-            Code::Start(_, _, _, at) => self.raise(Fault::NoMethod, *at),
+            Code::Start(_, _, _, _) => self.over(Cut::Memory),
             Code::While(condition, body, _) => {
                 self.repeat(condition.get(), body.as_slice(), depth, room)
             }

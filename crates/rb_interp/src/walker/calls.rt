@@ -223,6 +223,11 @@ impl<'p, O: ThreadStore + Drop> Walker<'p, O> {
                 return self.send_target(target, name, args, at, depth, room);
             }
         }
+        if args.is_empty() {
+            if let Some(thing) = self.collection_now(came) {
+                return self.asked_alone(thing, method, at, depth);
+            }
+        }
         let receiver = self.take(came);
         let before = self.base;
         let came = self.arguments(args, depth, room);

@@ -21,7 +21,9 @@ use rb_model::{Act, Fault, Make, Ref, Reply, Sort, ThreadStore, Value};
 use rb_tree::Span;
 use rb_walk::came::{Came, Cut, immediate, immediate_of, is_left, is_told};
 use rb_walk::gathering::{collection_of, copies, has_bad_key, pairs_in, parts_of};
-use rb_walk::questions::{index_for, is_element, is_key_put, place_for, put_of, question_of};
+use rb_walk::questions::{
+    index_for, is_element, is_key_put, is_push, place_for, put_of, question_of, side_for,
+};
 use rb_walk::ready::ready_answer;
 use rb_walk::slots::last_of;
 
@@ -199,9 +201,8 @@ impl<'p, O: ThreadStore + Drop> Walker<'p, O> {
         match deed {
             Deed::Give(value) => self.give(value),
             Deed::Raise(fault) => self.raise(fault, at),
-            Deed::Walk(_) | Deed::WalkOver(_, _) | Deed::WalkPairs(_) => {
-                self.raise(Fault::ArgumentCount, at)
-            }
+            Deed::Walk(_) | Deed::WalkOver(_, _) | Deed::WalkPairs(_) | Deed::Synchronize(_) =>
+                self.raise(Fault::ArgumentCount, at),
             Deed::Ask(thing, act, behind) => self.ask_behind(thing, act, behind, at),
             Deed::Read(thing, purpose) => self.read_hash(thing, purpose, at),
             Deed::Inspect(thing) => self.inspected(thing, at, depth),
@@ -345,7 +346,32 @@ impl<'p, O: ThreadStore + Drop> Walker<'p, O> {
         }
     }
 
-    /// The same with any value that came.
+    /// The call of a built-in method of an array or a hash without arguments. An immediate value is taken out of an array at once.
+    #[inline(never)]
+    pub(super) fn asked_alone(
+        &mut self,
+        thing: Ref,
+        method: Option<Builtin>,
+        at: Span,
+        depth: u32,
+    ) -> Came
+        ensures base { self.new.base ≡ self.old.base }
+        ensures less { self.new.left ≤ self.old.left }
+        ensures context { self.new.context ≡ self.old.context }
+        ensures log { O.log self.new.store ≡ O.log self.old.store }
+        ensures came { CallsBuiltin method (To (thing_of thing)) [] at self.old self.new depth result }
+    {
+        let Some(side) = side_for(thing, method) else {
+            return self.call_any(&Value::Ref(thing), method, &[], at, depth);
+        };
+        let told = self.store.take_immediate(thing.id, side);
+        if is_told(told) {
+            return immediate(told);
+        }
+        self.call_any(&Value::Ref(thing), method, &[], at, depth)
+    }
+
+    /// The same with any value that came. An immediate one is put behind the elements of an array at once.
     #[inline(never)]
     fn asked_any(
         &mut self,
@@ -362,6 +388,9 @@ impl<'p, O: ThreadStore + Drop> Walker<'p, O> {
         ensures log { O.log self.new.store ≡ O.log self.old.store }
         ensures came { CallsBuiltin method (To (thing_of thing)) (value_of came self.old.value ∷ []) at self.old self.new depth result }
     {
+        if is_push(thing, method) && self.store.push_immediate(thing.id, immediate_of(came)) {
+            return self.give_thing(thing);
+        }
         let arg = self.take(came);
         self.asked_value(thing, method, arg, at, depth)
     }

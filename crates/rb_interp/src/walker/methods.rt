@@ -18,14 +18,14 @@ use rb_model::{Act, Fault, Ref, ThreadStore, Value};
 use rb_tree::{NameId, Span};
 use rb_walk::MAX_DEPTH;
 use rb_walk::came::{Came, Cut, is_left};
-use rb_walk::slots::{clear, only_integer, passed};
+use rb_walk::slots::{SPARE_SLOTS, clear, only_integer, passed, row_behind};
 use rb_walk::target::{
     Assignment, Target, added_by, assigned_by, only_assigns, read_by, target_of, written_by,
 };
 
 impl<'p, O: ThreadStore + Drop> Walker<'p, O> {
     ghost use Rattle.rb_interp.specs.Answers.{AsksTo};
-    ghost use Rattle.rb_interp.specs.Calls.{AssignsAtOnce, Enters, EntersAtOnce, EntersUnread, EntersWith, Invokes};
+    ghost use Rattle.rb_interp.specs.Calls.{AssignsAtOnce, Enters, EntersApart, EntersAtOnce, EntersUnread, EntersWith, Invokes, RunsIn};
     ghost use Rattle.rb_interp.specs.Walks.{Walks, nodes_fit};
 
     /// The method of the class of `self` that a name finds.
@@ -54,6 +54,55 @@ impl<'p, O: ThreadStore + Drop> Walker<'p, O> {
         Some(target)
     }
 
+    /// Runs a method in a frame that its arguments lie in.
+    #[cycle(walk)]
+    #[inline(always)]
+    fn run_in(
+        &mut self,
+        method: &'p CodeMethod,
+        me: Option<Ref>,
+        depth: u32,
+        frame: &mut [Value],
+    ) -> Came
+        ensures base { self.new.base ≡ self.old.base }
+        ensures context { self.new.context ≡ self.old.context }
+        ensures room { length frame.new ≡ length frame.old }
+        ensures less { self.new.left ≤ self.old.left }
+        ensures came { RunsIn (me_of me) method.now frame.old self.old self.new depth result }
+    {
+        let before = self.base;
+        let caller = self.context.me;
+        self.context.me = me;
+        self.base = method.size as usize;
+        let came = self.body(method.body.as_slice(), depth, frame);
+        self.base = before;
+        self.context.me = caller;
+        self.out_of_call(came)
+    }
+
+    /// Enters a method in a row of its own, where the row of its caller is too short for it. The new row has slots for the frames of many
+    /// calls behind it, so that it is seldom that one is made.
+    #[cycle(walk)]
+    #[inline(never)]
+    fn enter_apart(
+        &mut self,
+        method: &'p CodeMethod,
+        me: Option<Ref>,
+        args: &[Value],
+        depth: u32,
+    ) -> Came
+        ensures base { self.new.base ≡ self.old.base }
+        ensures context { self.new.context ≡ self.old.context }
+        ensures less { self.new.left ≤ self.old.left }
+        ensures came { EntersApart (me_of me) method.now (map plain args.now) self.old self.new depth result }
+    {
+        let slots = method.size as usize + method.waits as usize + SPARE_SLOTS;
+        let Ok(mut row) = row_behind(self.context.alloc, args, slots) else {
+            return self.over(Cut::Memory);
+        };
+        self.run_in(method, me, depth, row.as_mut_slice())
+    }
+
     /// Enters a method with arguments, of which there are so many behind the frame.
     #[cycle(walk)]
     #[inline(always)]
@@ -78,18 +127,12 @@ impl<'p, O: ThreadStore + Drop> Walker<'p, O> {
         }
         let before = self.base;
         let size = method.size as usize;
-        if room.len() < before || room.len() - before < size {
-            return self.over(Cut::Memory);
+        if room.len() < before || room.len() - before < size + method.waits as usize {
+            return self.enter_apart(method, me, passed(room, before, count), depth);
         }
         let frame = room.split_at_mut(before).1;
         clear(frame, count, size);
-        let caller = self.context.me;
-        self.context.me = me;
-        self.base = size;
-        let came = self.body(method.body.as_slice(), depth, frame);
-        self.base = before;
-        self.context.me = caller;
-        self.out_of_call(came)
+        self.run_in(method, me, depth, frame)
     }
 
     /// Enters a method that was found with one argument.

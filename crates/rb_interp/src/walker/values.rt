@@ -323,9 +323,8 @@ impl<'p, O: ThreadStore + Drop> Walker<'p, O> {
         ) {
             Ok(Deed::Give(value)) => self.give(value),
             Ok(Deed::Raise(fault)) => self.raise(fault, at),
-            Ok(Deed::Walk(_) | Deed::WalkOver(_, _) | Deed::WalkPairs(_)) => {
-                self.raise(Fault::ArgumentCount, at)
-            }
+            Ok(Deed::Walk(_) | Deed::WalkOver(_, _) | Deed::WalkPairs(_) | Deed::Synchronize(_)) =>
+                self.raise(Fault::ArgumentCount, at),
             // Only arrays and hashes answer so, and they are called by `call_any`.
             Ok(Deed::Ask(_, _, _) | Deed::Read(_, _) | Deed::Inspect(_)) => {
                 self.over(Cut::Memory)

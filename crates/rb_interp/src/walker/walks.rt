@@ -83,10 +83,9 @@ impl<'p, O: ThreadStore + Drop> Walker<'p, O> {
             Deed::Walk(turns) => iterations_of(turns),
             Deed::WalkOver(array, pass) => Iterations::Elements(array, pass),
             Deed::WalkPairs(hash) => Iterations::Pairs(hash),
-            // No method with a block is answered so.
-            Deed::Ask(_, _, _) | Deed::Read(_, _) | Deed::Inspect(_) => {
-                Iterations::Done(self.over(Cut::Memory))
-            }
+            // No method with a block is answered so, but for `synchronize`, and no script that is accepted has a mutex yet.
+            Deed::Ask(_, _, _) | Deed::Read(_, _) | Deed::Inspect(_) | Deed::Synchronize(_) =>
+                Iterations::Done(self.over(Cut::Memory)),
         }
     }
 

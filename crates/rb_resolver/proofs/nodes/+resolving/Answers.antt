@@ -153,8 +153,8 @@ pairs-pairs-init t c = record {
   erases = ap (λ xs. paired (map erase xs)) c.new-codes.ensures;
   even = ap is_even c.new-codes.ensures;
   fits = λ S k size h. ap (λ xs. every (map (fits S) xs) c.args.frame.now.names.items size) c.new-codes.ensures;
-  names = refl;
-  rises = omega arith;
+  names = ap (λ v. v.items) c.wait.ensures.names;
+  rises = omega (arith, c.wait.ensures.size);
 }
 
 pub pairs-returns-clause-erases : goal.pairs-returns-clause-erases

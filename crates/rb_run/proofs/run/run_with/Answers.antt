@@ -1,8 +1,16 @@
-use Rattle.std.proofs.Common.{◌≡◌, ◌∙◌, true, sym, subst}
+use Rattle.std.proofs.Common.{◌≡◌, ◌∙◌, true, sym, subst, ap, arith, length}
+use Rattle.std.proofs.lemmas.List.{length-replicate}
 use Rattle.rb_model.specs.Log.{Log}
+use Rattle.rb_model.specs.Values.{Nil, plain}
+use Rattle.rb_walk.proofs.Lists.{len_map}
 use Rattle.rb_store.specs.Written.{only_prints}
 use Rattle.rb_run.proofs.Closing.{closed_by, told_refusals, told_full}
 use Rattle.rb_run.proofs.run.run_with.Goals as goal
+
+pub run_main-store-requires-clause-room : goal.run_main-store-requires-clause-room
+run_main-store-requires-clause-room g c =
+    let long = ap length c.in-Ok.ensures ∙ length-replicate _ Nil in
+    omega (arith, len_map plain c.in-Ok.row.items, long, ap length c.as_mut_slice.ensures.value)
 
 pub returns-clause-follows : goal.returns-clause-follows
 returns-clause-follows g c = λ S st e.

@@ -4,19 +4,20 @@ use Rattle.rb_tree.specs.declared.node.Node.{out-Node}
 use Rattle.rb_walk.specs.Answers.{OrMemory, outcome_of}
 use Rattle.rb_walk.specs.Carries.{numbered, goes_on, plainly, updating, scope_of, written_by, printing, me_of}
 use Rattle.rb_code.proofs.Slots.{slot_within}
-use Rattle.std.proofs.Common.{rules, to_z, of_z, w64, ◌≡◌, ap, sym, ◌∙◌, refl, [], ◌∷◌, ◌++◌, take, drop, map, length, ◌+◌, ◌-◌, ◌<◌, ◌≤◌, Some, None, true, false, arith}
+use Rattle.std.proofs.Common.{rules, to_z, of_z, w64, ◌≡◌, ap, sym, ◌∙◌, refl, [], ◌∷◌, ◌++◌, take, drop, map, length, replicate, ◌+◌, ◌-◌, ◌<◌, ◌≤◌, Some, None, true, false, arith}
 use Rattle.std.proofs.lemmas.List.{drop_all}
 use Rattle.std.specs.Prelude.{codes, pos, ◌+ℤ◌, ◌≤ℤ◌, slice_get, slice_set}
 use Rattle.rb_model.specs.Values.{Nil, Int, plain}
 use Rattle.rb_machine.specs.Control.{Lines, LinesBehind, LineOf, Listing, Pairing, Then, Under, Rest, AssignTo, ReturnOf, Test, Again, RightOfAnd, RightOfOr, Negate, Choose, Argument, OnReceiver, IndexedBy, IndexOf, MemberOf, ReadOf, RightOf, WriteTo, ReceiverOf, Instead, OfLocal, OfField, OfElement, OfAttribute, Creating, FieldTo, On, Eval, Storing, ByName, ReceiverToStore, PieceOf, Counting, Turn, Frame, JoinTo, TextOf, WriteBehind}
 use Rattle.rb_code.specs.Erase.{erase, erase_piece, erase_block, erase_method}
 use Rattle.rb_code.specs.Resolved.{fits, every, if_some, block_fits}
-use Rattle.rb_code.proofs.Showing.{shows-array, shows-hash, shows-new_builtin, shows-nil, shows-false, shows-true, shows-self_ref, shows-field, shows-set_field, shows-update_field, shows-new, shows-start, shows-own, shows-int, shows-sym, shows-local, shows-and, shows-or, shows-not, shows-if, shows-break, shows-next, shows-set_local, shows-while, shows-return, shows-str, shows-update_local, shows-update_element, shows-update_attribute, shows-store, shows-operate, shows-send, shows-walk, shows-function, shows-print}
+use Rattle.rb_code.proofs.Showing.{shows-array, shows-hash, shows-new_builtin, shows-nil, shows-false, shows-true, shows-self_ref, shows-field, shows-set_field, shows-update_field, shows-new, shows-own, shows-int, shows-sym, shows-local, shows-and, shows-or, shows-not, shows-if, shows-break, shows-next, shows-set_local, shows-while, shows-return, shows-str, shows-update_local, shows-update_element, shows-update_attribute, shows-store, shows-operate, shows-send, shows-walk, shows-function, shows-print}
 use Rattle.rb_code.proofs.Fitting.{fits-array, fits-hash, fits-new_builtin, fits-local, fits-set_field, fits-update_field, fits-new, fits-own, fits-and, fits-or, fits-not, fits-if, fits-set_local, fits-while, fits-return, fits-str, fits-update_local, fits-update_element, fits-update_attribute, fits-store, fits-operate, fits-send, fits-walk, fits-function, fits-print}
 use Rattle.rb_walk.specs.Outcome.{Gave, is_left, value_of, outcome}
 use Rattle.rb_walk.proofs.Moves.{gives, test_true, test_false, on, same, begins, follows, counts, too_many, too_deep, left}
 use Rattle.rb_walk.proofs.Immediates.{reads_element, told_value}
 use Rattle.rb_walk.specs.Answers.{wrote}
+use Rattle.rb_interp.proofs.Lists.{is_nothing}
 use Rattle.rb_walk.proofs.Lists.{at_end, in_front, two_items, no_items, none_behind, never, two, fst, snd, next_item, len_set, len_map, len_args, get_set, nothing, front, there}
 use Rattle.rb_walk.proofs.Rooms.{args_fit, sub, moved, every_item, lies, frame_back, read_room, room_beyond}
 use Rattle.rb_walk.proofs.Outcomes.{stored, stopped_left, again_unread, statements_end, gave, given, comes, passes, gone, again_out, tested_again, tested_out, called, turn_too_many, turns_end}
@@ -54,7 +55,7 @@ use Rattle.rb_walk.proofs.Elements.{calls_builtin, stores_builtin, writes_elemen
 use Rattle.rb_builtin.specs.declared.builtin.Builtin.TheVariants as builtin
 use Rattle.rb_code.specs.Resolved.{form_text}
 use Rattle.rb_walk.proofs.Named.{unnamed_is, found_nowhere}
-use Rattle.rb_walk.proofs.Frames.{enters, other_count, frame_lies, enter_left, by_receiver, blocked, by_own, by_number, function_right}
+use Rattle.rb_walk.proofs.Frames.{enters, other_count, frame_lies, enter_left, by_receiver, blocked, by_own, by_number, function_right, enters_apart, row_long}
 use Rattle.rb_walk.proofs.Targets.{operator_none, update_none, writer_some, writer_right, writer_none, writer_me}
 use Rattle.rb_walk.proofs.Objects.{fielded_by, created, created_from, initialize_left, initializes, first_right, takes_none, is_ready}
 use Rattle.rb_walk.specs.Objects.{plainly as fielded, updating as field_updated}
@@ -1573,7 +1574,7 @@ pub begin_other-returns-in_default-clause-came : goal.begin_other-returns-in_def
 begin_other-returns-in_default-clause-came g m c = λ S names size st e l. (
   λ i p q. refl,
   λ start k a.
-      let o = c.over.ensures in
+      let o = c.over-in_default.ensures in
       rw (o.gives, o.left, o.store) (_, a, begin_left S (out-Node (erase c.args.code.now)) k (scope_of (me_of c.args.self.now.context.me) names c.args.room.now) c.args.depth c.args.self.now.left),
 )
 
@@ -2475,17 +2476,49 @@ enter-returns-then-count-len-clause-came g m c = λ S start k names st e right l
     let o = c.raise.ensures in
     rw (o.gives, o.left, o.store) (other_count c.args.method.now (me_of c.args.me) c.args.count c.args.self.now.base c.args.room.now c.args.at k _ _ _ (λ z. omega (arith, z, c.if-count-len.true, c.len.ensures)) long a)
 
+pub run_in-returns-clause-came : goal.run_in-returns-clause-came
+run_in-returns-clause-came g m c = λ S start k sc st e right long a.
+    let meth = c.args.method.now in
+    let inside = frame_lies S meth (length c.args.frame.now) right long in
+    let g1 = rw c.as_slice.ensures at c.body-came.ensures.came in
+    let done = (g1 S (S.method_names (erase_method meth)) meth.size st e inside).1 start (Frame sc ∷ k) a in
+    let o = c.out_of_call.ensures in
+    rw (o.gives, o.left, o.store) (called S _ start _ _ _ sc k _ _ _ done)
+
+pub enter_apart-returns-in_default-clause-came : goal.enter_apart-returns-in_default-clause-came
+enter_apart-returns-in_default-clause-came g m c = λ S start k sc at st e right counts a.
+    let o = c.over.ensures in
+    rw (o.left, o.store) (cut S _ start _ _ _ k _ _ _ _ o.gives a (enter_left S (erase_method c.args.method.now) (me_of c.args.me) (map plain c.args.args.now) at k sc c.args.depth c.args.self.now.left))
+
+pub enter_apart-returns-clause-came : goal.enter_apart-returns-clause-came
+enter_apart-returns-clause-came g m c = λ S start k sc at st e right counts a.
+    let meth = c.args.method.now in
+    let args = map plain c.args.args.now in
+    let frame = c.as_mut_slice.result.now in
+    let row : map plain frame ≡ map plain c.in-Ok.row.items = ap (map plain) c.as_mut_slice.ensures.value in
+    let slots = meth.size + meth.waits + 256 in
+    let is = row ∙ c.in-Ok.ensures ∙ ap (λ n. args ++ replicate (slots - n) Nil) (sym (len_map plain c.args.args.now)) in
+    let long = row_long args frame slots is in
+    c.run_in.ensures.came S start k sc st e right (omega (arith, long)) (enters_apart meth (me_of c.args.me) args frame slots at right counts (omega arith) is a)
+
 pub enter-returns-then-room-before-clause-came : goal.enter-returns-then-room-before-clause-came
 enter-returns-then-room-before-clause-came g m c = λ S start k names st e right le long a.
-    let o = c.over.ensures in
-    rw (o.left, o.store) (cut S _ start _ _ _ k _ _ _ _ o.gives a (enter_left S (erase_method c.args.method.now) (me_of c.args.me) (map plain (take c.args.count (drop c.args.self.now.base c.args.room.now))) c.args.at k (scope_of (me_of c.args.self.now.context.me) names c.args.room.now) c.args.depth c.args.self.now.left))
+    let there = c.args.room.now in
+    let before = c.args.self.now.base in
+    let me = me_of c.args.me in
+    let sc = scope_of (me_of c.args.self.now.context.me) names there in
+    let passed = ap (map plain) (c.passed.ensures long) in
+    let counts : length (map plain c.passed.result.now) ≡ length c.args.method.now.params =
+    omega (arith, ap length passed, len_map plain (take c.args.count (drop before there)), len_args there before c.args.count long, c.if-count-len.false, c.len.ensures) in
+    c.enter_apart.ensures.came S start k sc c.args.at st e right counts
+    (same a (ap (λ vs. enter S (erase_method c.args.method.now) me vs c.args.at k sc c.args.depth c.args.self.now.left) (sym passed)))
 
 pub enter-returns-clause-kept : goal.enter-returns-clause-kept
 enter-returns-clause-kept g m c = λ i q.
     let before = c.args.self.now.base in
     let there = c.args.room.now in
     let short : before ≤ length there = omega (arith, c.if-room-before.false) in
-    ap (λ xs. slice_get (xs ++ c.body-came.new.room) i) c.split_at_mut-frame.ensures.front ∙ front there c.body-came.new.room before i short q
+    ap (λ xs. slice_get (xs ++ c.run_in.new.frame) i) c.split_at_mut-frame.ensures.front ∙ front there c.run_in.new.frame before i short q
 
 pub enter-returns-clause-came : goal.enter-returns-clause-came
 enter-returns-clause-came g m c = λ S start k names st e right le long a.
@@ -2498,13 +2531,9 @@ enter-returns-clause-came g m c = λ S start k names st e right le long a.
     let counts : c.args.count ≡ length meth.params = omega (arith, c.if-count-len.false, c.len.ensures) in
     let f = enters meth (me_of c.args.me) c.args.count before there frame c.args.at right counts long (λ i q. c.clear.ensures.below i q ∙ ap (λ xs. slice_get xs i) split.back) c.clear.ensures.within a in
     let sizes : meth.size ≤ length frame = omega (arith, c.clear.ensures.room, split.back_len, c.if-room-before.false, c.if-room-before-2.false) in
-    let inside = frame_lies S meth (length frame) right sizes in
-    let g1 = rw c.as_slice.ensures at c.body-came.ensures.came in
-    let done = (g1 S (S.method_names (erase_method meth)) meth.size st e inside).1 start (Frame (scope_of me names there) ∷ k) f in
-    let out = called S _ start _ _ _ (scope_of me names there) k _ _ _ done in
-    let scope : bound names (map plain (c.split_at_mut-frame.result.0.now ++ c.body-came.new.room)) ≡ bound names (map plain there) = ap (λ xs. bound names (map plain (xs ++ c.body-came.new.room))) split.front ∙ frame_back names there c.body-came.new.room before le (omega (arith, long)) in
-    let o = c.out_of_call.ensures in
-    rw (o.gives, o.left, o.store, scope) out
+    let out = c.run_in.ensures.came S start k (scope_of me names there) st e right sizes f in
+    let scope : bound names (map plain (c.split_at_mut-frame.result.0.now ++ c.run_in.new.frame)) ≡ bound names (map plain there) = ap (λ xs. bound names (map plain (xs ++ c.run_in.new.frame))) split.front ∙ frame_back names there c.run_in.new.frame before le (omega (arith, long)) in
+    rw scope out
 
 pub enter_with-returns-then-self-room-clause-came : goal.enter_with-returns-then-self-room-clause-came
 enter_with-returns-then-self-room-clause-came g m c = λ S start k names st e right le long a.
@@ -3067,8 +3096,8 @@ pub begin_other-returns-in-Start-clause-came : goal.begin_other-returns-in-Start
 begin_other-returns-in-Start-clause-came g m c = λ S names size st e l. (
   λ i p q. refl,
   λ start k a.
-      let o = c.raise.ensures in
-      rw (o.gives, o.left, o.store) (begins _ _ k _ _ _ (shows-start c.args.code.now _ _ _ c.in-Start.at c.in-Start.is) a),
+      let o = c.over.ensures in
+      rw (o.gives, o.left, o.store) (_, a, begin_left S (out-Node (erase c.args.code.now)) k (scope_of (me_of c.args.self.now.context.me) names c.args.room.now) c.args.depth c.args.self.now.left),
 )
 
 pub begin-returns-in-Field-clause-came : goal.begin-returns-in-Field-clause-came
@@ -5183,6 +5212,25 @@ send-returns-in-Some-entered_reader-clause-came g m c = λ S names size st e l. 
       let entered = same (on _ g3 refl) (by_receiver S to to text (erase_method c.in-Some.target.method.now) [] c.args.at k _ _ _ (target.finds S st) refl) in
       let f = rw w.ensures.context at c.in-Some-entered_reader.ensures.came in
       f S start k sc c.args.at (target.right S st) entered,
+)
+
+pub send-returns-in-Some-collection_now-clause-came : goal.send-returns-in-Some-collection_now-clause-came
+send-returns-in-Some-collection_now-clause-came g m c = λ S names size st e l. (
+  λ i p q. (c.walk_here-came.ensures.came S names size st e (sub (fits S c.args.receiver.now) l (fst _ _ (snd _ _ l.fits)))).0 i p q,
+  λ start k a.
+      let w = c.walk_here-came in
+      let text = text_of S c.args.name in
+      let step = ReceiverOf text (map erase c.args.args.now) None c.args.at in
+      let come = (w.ensures.came S names size st e (sub (fits S c.args.receiver.now) l (fst _ _ (snd _ _ l.fits)))).1 start (Then step ∷ k) a in
+      let g1 = given w.result w.new.self.value w.new.self.leave (sym c.is_left.ensures ∙ c.if-is_left.false) come in
+      let to = me_of (Some c.in-Some-collection_now.thing) in
+      let g2 = on _ (gives to c.in-Some-collection_now.ensures.value g1) refl in
+      let sc = scope_of (me_of c.args.self.now.context.me) names w.new.room in
+      let g3 = same g2 (ap (λ args. On (Passing (OnReceiver to text None) [] (map erase args) c.args.at) k sc c.args.depth w.new.self.left) (is_nothing c.args.args.now c.if-is_empty.ensures)) in
+      let none = (rw w.ensures.context at c.in-Some-collection_now.ensures.alone) c.args.name S st in
+      let o = c.asked_alone.ensures in
+      let f1 = rw w.ensures.context at o.came in
+      rw o.log (calls_builtin S _ start _ _ _ _ _ _ _ _ _ c.args.self.now.context.program.now c.args.method to text [] c.args.at none (same_is _ _ (fst _ _ l.fits)) e f1 (on _ g3 refl)),
 )
 
 pub send-returns-in-Some-clause-came : goal.send-returns-in-Some-clause-came

@@ -19,268 +19,274 @@ use Rattle.rb_interp.specs.Walks.{Kept, Reached}
 use Rattle.rb_interp.proofs.walker.Walker.+walk.Given as goal
 
 abbrev pub decreases-walk : goal.decreases-walk
-decreases-walk g l = 24 * (1001 - l.depth) + 1
+decreases-walk g l = 72 * (1001 - l.depth) + 3
 
 abbrev pub decreases-walk_here : goal.decreases-walk_here
-decreases-walk_here g l = 24 * (1001 - l.depth)
+decreases-walk_here g l = 72 * (1001 - l.depth)
 
 abbrev pub decreases-evaluate_call : goal.decreases-evaluate_call
-decreases-evaluate_call g l = 24 * (1001 - l.depth) + 3
+decreases-evaluate_call g l = 72 * (1001 - l.depth) + 9
 
 abbrev pub decreases-begin : goal.decreases-begin
-decreases-begin g l = 24 * (1001 - l.depth) + 23
+decreases-begin g l = 72 * (1001 - l.depth) + 69
 
 abbrev pub decreases-set_local : goal.decreases-set_local
-decreases-set_local g l = 24 * (1001 - l.depth) + 4
+decreases-set_local g l = 72 * (1001 - l.depth) + 12
 
 abbrev pub decreases-update_local : goal.decreases-update_local
-decreases-update_local g l = 24 * (1001 - l.depth) + 7
+decreases-update_local g l = 72 * (1001 - l.depth) + 21
 
 abbrev pub decreases-operate : goal.decreases-operate
-decreases-operate g l = 24 * (1001 - l.depth) + 8
+decreases-operate g l = 72 * (1001 - l.depth) + 24
 
 abbrev pub decreases-send : goal.decreases-send
-decreases-send g l = 24 * (1001 - l.depth) + 7
+decreases-send g l = 72 * (1001 - l.depth) + 21
 
 abbrev pub decreases-store_by : goal.decreases-store_by
-decreases-store_by g l = 24 * (1001 - l.depth) + 9
+decreases-store_by g l = 72 * (1001 - l.depth) + 27
 
 abbrev pub decreases-send_block : goal.decreases-send_block
-decreases-send_block g l = 24 * (1001 - l.depth) + 8
+decreases-send_block g l = 72 * (1001 - l.depth) + 24
 
 abbrev pub decreases-turns : goal.decreases-turns
-decreases-turns g l = 24 * (1001 - l.depth) + 6
+decreases-turns g l = 72 * (1001 - l.depth) + 18
 
 abbrev pub decreases-iteration : goal.decreases-iteration
-decreases-iteration g l = 24 * (1001 - l.depth) + 5
+decreases-iteration g l = 72 * (1001 - l.depth) + 15
 
 abbrev pub decreases-walk_elements : goal.decreases-walk_elements
-decreases-walk_elements g l = 24 * (1001 - l.depth) + 6
+decreases-walk_elements g l = 72 * (1001 - l.depth) + 18
 
 abbrev pub decreases-pair_turns : goal.decreases-pair_turns
-decreases-pair_turns g l = 24 * (1001 - l.depth) + 6
+decreases-pair_turns g l = 72 * (1001 - l.depth) + 18
 
 abbrev pub decreases-walk_pairs : goal.decreases-walk_pairs
-decreases-walk_pairs g l = 24 * (1001 - l.depth) + 7
+decreases-walk_pairs g l = 72 * (1001 - l.depth) + 21
 
 abbrev pub decreases-function : goal.decreases-function
-decreases-function g l = 24 * (1001 - l.depth) + 6
+decreases-function g l = 72 * (1001 - l.depth) + 18
 
 abbrev pub decreases-print : goal.decreases-print
-decreases-print g l = 24 * (1001 - l.depth) + 14
+decreases-print g l = 72 * (1001 - l.depth) + 42
 
 abbrev pub decreases-told : goal.decreases-told
-decreases-told g l = 24 * (1001 - l.depth) + 6
+decreases-told g l = 72 * (1001 - l.depth) + 18
 
 abbrev pub decreases-told_at : goal.decreases-told_at
-decreases-told_at g l = 24 * (1001 - l.depth) + 7
+decreases-told_at g l = 72 * (1001 - l.depth) + 21
 
 abbrev pub decreases-line : goal.decreases-line
-decreases-line g l = 24 * (1001 - l.depth) + 7
+decreases-line g l = 72 * (1001 - l.depth) + 21
 
 abbrev pub decreases-advance_line : goal.decreases-advance_line
-decreases-advance_line g l = 24 * (1001 - l.depth) + 8
+decreases-advance_line g l = 72 * (1001 - l.depth) + 24
 
 abbrev pub decreases-lines : goal.decreases-lines
-decreases-lines g l = 24 * (1001 - l.depth) + 9
+decreases-lines g l = 72 * (1001 - l.depth) + 27
 
 abbrev pub decreases-write_array : goal.decreases-write_array
-decreases-write_array g l = 24 * (1001 - l.depth) + 10
+decreases-write_array g l = 72 * (1001 - l.depth) + 30
 
 abbrev pub decreases-write_one : goal.decreases-write_one
-decreases-write_one g l = 24 * (1001 - l.depth) + 11
+decreases-write_one g l = 72 * (1001 - l.depth) + 33
 
 abbrev pub decreases-print_from : goal.decreases-print_from
-decreases-print_from g l = 24 * (1001 - l.depth) + 12
+decreases-print_from g l = 72 * (1001 - l.depth) + 36
 
 abbrev pub decreases-print_texts : goal.decreases-print_texts
-decreases-print_texts g l = 24 * (1001 - l.depth) + 13
+decreases-print_texts g l = 72 * (1001 - l.depth) + 39
 
 abbrev pub decreases-array : goal.decreases-array
-decreases-array g l = 24 * (1001 - l.depth) + 7
+decreases-array g l = 72 * (1001 - l.depth) + 21
 
 abbrev pub decreases-hash : goal.decreases-hash
-decreases-hash g l = 24 * (1001 - l.depth) + 7
+decreases-hash g l = 72 * (1001 - l.depth) + 21
 
 abbrev pub decreases-create_builtin : goal.decreases-create_builtin
-decreases-create_builtin g l = 24 * (1001 - l.depth) + 7
+decreases-create_builtin g l = 72 * (1001 - l.depth) + 21
 
 abbrev pub decreases-set_element : goal.decreases-set_element
-decreases-set_element g l = 24 * (1001 - l.depth) + 4
+decreases-set_element g l = 72 * (1001 - l.depth) + 12
 
 abbrev pub decreases-update_at : goal.decreases-update_at
-decreases-update_at g l = 24 * (1001 - l.depth) + 7
+decreases-update_at g l = 72 * (1001 - l.depth) + 21
 
 abbrev pub decreases-update_element : goal.decreases-update_element
-decreases-update_element g l = 24 * (1001 - l.depth) + 8
+decreases-update_element g l = 72 * (1001 - l.depth) + 24
 
 abbrev pub decreases-combine : goal.decreases-combine
-decreases-combine g l = 24 * (1001 - l.depth) + 6
+decreases-combine g l = 72 * (1001 - l.depth) + 18
 
 abbrev pub decreases-update_attribute : goal.decreases-update_attribute
-decreases-update_attribute g l = 24 * (1001 - l.depth) + 11
+decreases-update_attribute g l = 72 * (1001 - l.depth) + 33
 
 abbrev pub decreases-arguments : goal.decreases-arguments
-decreases-arguments g l = 24 * (1001 - l.depth) + 5
+decreases-arguments g l = 72 * (1001 - l.depth) + 15
 
 abbrev pub decreases-literal : goal.decreases-literal
-decreases-literal g l = 24 * (1001 - l.depth) + 8
+decreases-literal g l = 72 * (1001 - l.depth) + 24
 
 abbrev pub decreases-text : goal.decreases-text
-decreases-text g l = 24 * (1001 - l.depth) + 7
+decreases-text g l = 72 * (1001 - l.depth) + 21
 
 abbrev pub decreases-both : goal.decreases-both
-decreases-both g l = 24 * (1001 - l.depth) + 4
+decreases-both g l = 72 * (1001 - l.depth) + 12
 
 abbrev pub decreases-either : goal.decreases-either
-decreases-either g l = 24 * (1001 - l.depth) + 4
+decreases-either g l = 72 * (1001 - l.depth) + 12
 
 abbrev pub decreases-negate : goal.decreases-negate
-decreases-negate g l = 24 * (1001 - l.depth) + 4
+decreases-negate g l = 72 * (1001 - l.depth) + 12
 
 abbrev pub decreases-choose : goal.decreases-choose
-decreases-choose g l = 24 * (1001 - l.depth) + 5
+decreases-choose g l = 72 * (1001 - l.depth) + 15
 
 abbrev pub decreases-body : goal.decreases-body
-decreases-body g l = 24 * (1001 - l.depth) + 4
+decreases-body g l = 72 * (1001 - l.depth) + 12
 
 abbrev pub decreases-repeat : goal.decreases-repeat
-decreases-repeat g l = 24 * (1001 - l.depth) + 5
+decreases-repeat g l = 72 * (1001 - l.depth) + 15
 
 abbrev pub decreases-leave_method : goal.decreases-leave_method
-decreases-leave_method g l = 24 * (1001 - l.depth) + 5
+decreases-leave_method g l = 72 * (1001 - l.depth) + 15
 
 abbrev pub decreases-leave_with : goal.decreases-leave_with
-decreases-leave_with g l = 24 * (1001 - l.depth) + 4
+decreases-leave_with g l = 72 * (1001 - l.depth) + 12
 
 abbrev pub decreases-begin_set : goal.decreases-begin_set
-decreases-begin_set g l = 24 * (1001 - l.depth) + 6
+decreases-begin_set g l = 72 * (1001 - l.depth) + 18
 
 abbrev pub decreases-begin_update : goal.decreases-begin_update
-decreases-begin_update g l = 24 * (1001 - l.depth) + 14
+decreases-begin_update g l = 72 * (1001 - l.depth) + 42
 
 abbrev pub decreases-begin_slow_update : goal.decreases-begin_slow_update
-decreases-begin_slow_update g l = 24 * (1001 - l.depth) + 12
+decreases-begin_slow_update g l = 72 * (1001 - l.depth) + 36
 
 abbrev pub decreases-begin_operate : goal.decreases-begin_operate
-decreases-begin_operate g l = 24 * (1001 - l.depth) + 14
+decreases-begin_operate g l = 72 * (1001 - l.depth) + 42
 
 abbrev pub decreases-begin_slow_operate : goal.decreases-begin_slow_operate
-decreases-begin_slow_operate g l = 24 * (1001 - l.depth) + 12
+decreases-begin_slow_operate g l = 72 * (1001 - l.depth) + 36
 
 abbrev pub decreases-begin_send : goal.decreases-begin_send
-decreases-begin_send g l = 24 * (1001 - l.depth) + 12
+decreases-begin_send g l = 72 * (1001 - l.depth) + 36
 
 abbrev pub decreases-begin_function : goal.decreases-begin_function
-decreases-begin_function g l = 24 * (1001 - l.depth) + 8
+decreases-begin_function g l = 72 * (1001 - l.depth) + 24
 
 abbrev pub decreases-begin_choice : goal.decreases-begin_choice
-decreases-begin_choice g l = 24 * (1001 - l.depth) + 8
+decreases-begin_choice g l = 72 * (1001 - l.depth) + 24
 
 abbrev pub decreases-begin_set_field : goal.decreases-begin_set_field
-decreases-begin_set_field g l = 24 * (1001 - l.depth) + 12
+decreases-begin_set_field g l = 72 * (1001 - l.depth) + 36
 
 abbrev pub decreases-begin_update_field : goal.decreases-begin_update_field
-decreases-begin_update_field g l = 24 * (1001 - l.depth) + 12
+decreases-begin_update_field g l = 72 * (1001 - l.depth) + 36
 
 abbrev pub decreases-begin_new : goal.decreases-begin_new
-decreases-begin_new g l = 24 * (1001 - l.depth) + 12
+decreases-begin_new g l = 72 * (1001 - l.depth) + 36
 
 abbrev pub decreases-operate_target : goal.decreases-operate_target
-decreases-operate_target g l = 24 * (1001 - l.depth) + 6
+decreases-operate_target g l = 72 * (1001 - l.depth) + 18
 
 abbrev pub decreases-begin_update_over : goal.decreases-begin_update_over
-decreases-begin_update_over g l = 24 * (1001 - l.depth) + 13
+decreases-begin_update_over g l = 72 * (1001 - l.depth) + 39
 
 abbrev pub decreases-begin_update_sent : goal.decreases-begin_update_sent
-decreases-begin_update_sent g l = 24 * (1001 - l.depth) + 13
+decreases-begin_update_sent g l = 72 * (1001 - l.depth) + 39
 
 abbrev pub decreases-evaluate_operand : goal.decreases-evaluate_operand
-decreases-evaluate_operand g l = 24 * (1001 - l.depth) + 2
+decreases-evaluate_operand g l = 72 * (1001 - l.depth) + 6
 
 abbrev pub decreases-evaluate_sent : goal.decreases-evaluate_sent
-decreases-evaluate_sent g l = 24 * (1001 - l.depth) + 2
+decreases-evaluate_sent g l = 72 * (1001 - l.depth) + 6
 
 abbrev pub decreases-begin_operand : goal.decreases-begin_operand
-decreases-begin_operand g l = 24 * (1001 - l.depth) + 13
+decreases-begin_operand g l = 72 * (1001 - l.depth) + 39
 
 abbrev pub decreases-begin_other : goal.decreases-begin_other
-decreases-begin_other g l = 24 * (1001 - l.depth) + 16
+decreases-begin_other g l = 72 * (1001 - l.depth) + 48
 
 abbrev pub decreases-operate_integer : goal.decreases-operate_integer
-decreases-operate_integer g l = 24 * (1001 - l.depth) + 5
+decreases-operate_integer g l = 72 * (1001 - l.depth) + 15
 
 abbrev pub decreases-operate_value : goal.decreases-operate_value
-decreases-operate_value g l = 24 * (1001 - l.depth) + 7
+decreases-operate_value g l = 72 * (1001 - l.depth) + 21
 
 abbrev pub decreases-combine_integer : goal.decreases-combine_integer
-decreases-combine_integer g l = 24 * (1001 - l.depth) + 5
+decreases-combine_integer g l = 72 * (1001 - l.depth) + 15
 
 abbrev pub decreases-combine_value : goal.decreases-combine_value
-decreases-combine_value g l = 24 * (1001 - l.depth) + 5
+decreases-combine_value g l = 72 * (1001 - l.depth) + 15
 
 abbrev pub decreases-evaluate : goal.decreases-evaluate
-decreases-evaluate g l = 24 * (1001 - l.depth) + 4
+decreases-evaluate g l = 72 * (1001 - l.depth) + 12
 
 abbrev pub decreases-test : goal.decreases-test
-decreases-test g l = 24 * (1001 - l.depth) + 4
+decreases-test g l = 72 * (1001 - l.depth) + 12
 
 abbrev pub decreases-evaluate_leaf : goal.decreases-evaluate_leaf
-decreases-evaluate_leaf g l = 24 * (1001 - l.depth) + 5
+decreases-evaluate_leaf g l = 72 * (1001 - l.depth) + 15
 
 abbrev pub decreases-evaluate_apart : goal.decreases-evaluate_apart
-decreases-evaluate_apart g l = 24 * (1001 - l.depth) + 4
+decreases-evaluate_apart g l = 72 * (1001 - l.depth) + 12
+
+abbrev pub decreases-run_in : goal.decreases-run_in
+decreases-run_in g l = 72 * (1001 - l.depth) + 13
+
+abbrev pub decreases-enter_apart : goal.decreases-enter_apart
+decreases-enter_apart g l = 72 * (1001 - l.depth) + 14
 
 abbrev pub decreases-enter : goal.decreases-enter
-decreases-enter g l = 24 * (1001 - l.depth) + 5
+decreases-enter g l = 72 * (1001 - l.depth) + 15
 
 abbrev pub decreases-enter_storing : goal.decreases-enter_storing
-decreases-enter_storing g l = 24 * (1001 - l.depth) + 6
+decreases-enter_storing g l = 72 * (1001 - l.depth) + 18
 
 abbrev pub decreases-enter_with : goal.decreases-enter_with
-decreases-enter_with g l = 24 * (1001 - l.depth) + 6
+decreases-enter_with g l = 72 * (1001 - l.depth) + 18
 
 abbrev pub decreases-enter_storing_with : goal.decreases-enter_storing_with
-decreases-enter_storing_with g l = 24 * (1001 - l.depth) + 7
+decreases-enter_storing_with g l = 72 * (1001 - l.depth) + 21
 
 abbrev pub decreases-invoke : goal.decreases-invoke
-decreases-invoke g l = 24 * (1001 - l.depth) + 6
+decreases-invoke g l = 72 * (1001 - l.depth) + 18
 
 abbrev pub decreases-own : goal.decreases-own
-decreases-own g l = 24 * (1001 - l.depth) + 6
+decreases-own g l = 72 * (1001 - l.depth) + 18
 
 abbrev pub decreases-store_with : goal.decreases-store_with
-decreases-store_with g l = 24 * (1001 - l.depth) + 7
+decreases-store_with g l = 72 * (1001 - l.depth) + 21
 
 abbrev pub decreases-begin_print : goal.decreases-begin_print
-decreases-begin_print g l = 24 * (1001 - l.depth) + 15
+decreases-begin_print g l = 72 * (1001 - l.depth) + 45
 
 abbrev pub decreases-set_field : goal.decreases-set_field
-decreases-set_field g l = 24 * (1001 - l.depth) + 6
+decreases-set_field g l = 72 * (1001 - l.depth) + 18
 
 abbrev pub decreases-update_field : goal.decreases-update_field
-decreases-update_field g l = 24 * (1001 - l.depth) + 7
+decreases-update_field g l = 72 * (1001 - l.depth) + 21
 
 abbrev pub decreases-enter_first : goal.decreases-enter_first
-decreases-enter_first g l = 24 * (1001 - l.depth) + 6
+decreases-enter_first g l = 72 * (1001 - l.depth) + 18
 
 abbrev pub decreases-initialize : goal.decreases-initialize
-decreases-initialize g l = 24 * (1001 - l.depth) + 7
+decreases-initialize g l = 72 * (1001 - l.depth) + 21
 
 abbrev pub decreases-create : goal.decreases-create
-decreases-create g l = 24 * (1001 - l.depth) + 8
+decreases-create g l = 72 * (1001 - l.depth) + 24
 
 abbrev pub decreases-write_member : goal.decreases-write_member
-decreases-write_member g l = 24 * (1001 - l.depth) + 8
+decreases-write_member g l = 72 * (1001 - l.depth) + 24
 
 abbrev pub decreases-set_member : goal.decreases-set_member
-decreases-set_member g l = 24 * (1001 - l.depth) + 9
+decreases-set_member g l = 72 * (1001 - l.depth) + 27
 
 abbrev pub decreases-update_member : goal.decreases-update_member
-decreases-update_member g l = 24 * (1001 - l.depth) + 10
+decreases-update_member g l = 72 * (1001 - l.depth) + 30
 
 abbrev pub decreases-begin_own : goal.decreases-begin_own
-decreases-begin_own g l = 24 * (1001 - l.depth) + 7
+decreases-begin_own g l = 72 * (1001 - l.depth) + 21
 
 abbrev pub invariant-body-nodes : goal.invariant-body-nodes
 invariant-body-nodes g l =
@@ -410,55 +416,55 @@ invariant-pair_turns-pairs g l =
     }
 
 abbrev pub decreases-operate_collection : goal.decreases-operate_collection
-decreases-operate_collection g l = 24 * (1001 - l.depth) + 6
+decreases-operate_collection g l = 72 * (1001 - l.depth) + 18
 
 abbrev pub decreases-begin_store : goal.decreases-begin_store
-decreases-begin_store g l = 24 * (1001 - l.depth) + 10
+decreases-begin_store g l = 72 * (1001 - l.depth) + 30
 
 abbrev pub decreases-statement : goal.decreases-statement
-decreases-statement g l = 24 * (1001 - l.depth) + 2
+decreases-statement g l = 72 * (1001 - l.depth) + 6
 
 abbrev pub decreases-keep_local : goal.decreases-keep_local
-decreases-keep_local g l = 24 * (1001 - l.depth) + 6
+decreases-keep_local g l = 72 * (1001 - l.depth) + 18
 
 abbrev pub decreases-keep_any : goal.decreases-keep_any
-decreases-keep_any g l = 24 * (1001 - l.depth) + 4
+decreases-keep_any g l = 72 * (1001 - l.depth) + 12
 
 abbrev pub decreases-store_element : goal.decreases-store_element
-decreases-store_element g l = 24 * (1001 - l.depth) + 5
+decreases-store_element g l = 72 * (1001 - l.depth) + 15
 
 abbrev pub decreases-evaluate_logic : goal.decreases-evaluate_logic
-decreases-evaluate_logic g l = 24 * (1001 - l.depth) + 2
+decreases-evaluate_logic g l = 72 * (1001 - l.depth) + 6
 
 abbrev pub decreases-begin_logic : goal.decreases-begin_logic
-decreases-begin_logic g l = 24 * (1001 - l.depth) + 6
+decreases-begin_logic g l = 72 * (1001 - l.depth) + 18
 
 abbrev pub decreases-begin_object_operate : goal.decreases-begin_object_operate
-decreases-begin_object_operate g l = 24 * (1001 - l.depth) + 13
+decreases-begin_object_operate g l = 72 * (1001 - l.depth) + 39
 
 abbrev pub decreases-begin_read_operate : goal.decreases-begin_read_operate
-decreases-begin_read_operate g l = 24 * (1001 - l.depth) + 13
+decreases-begin_read_operate g l = 72 * (1001 - l.depth) + 39
 
 abbrev pub decreases-begin_far_send : goal.decreases-begin_far_send
-decreases-begin_far_send g l = 24 * (1001 - l.depth) + 8
+decreases-begin_far_send g l = 72 * (1001 - l.depth) + 24
 
 abbrev pub decreases-store_target : goal.decreases-store_target
-decreases-store_target g l = 24 * (1001 - l.depth) + 8
+decreases-store_target g l = 72 * (1001 - l.depth) + 24
 
 abbrev pub decreases-begin_slow_send : goal.decreases-begin_slow_send
-decreases-begin_slow_send g l = 24 * (1001 - l.depth) + 9
+decreases-begin_slow_send g l = 72 * (1001 - l.depth) + 27
 
 abbrev pub decreases-begin_read : goal.decreases-begin_read
-decreases-begin_read g l = 24 * (1001 - l.depth) + 11
+decreases-begin_read g l = 72 * (1001 - l.depth) + 33
 
 abbrev pub decreases-read_attribute : goal.decreases-read_attribute
-decreases-read_attribute g l = 24 * (1001 - l.depth) + 10
+decreases-read_attribute g l = 72 * (1001 - l.depth) + 30
 
 abbrev pub decreases-passage : goal.decreases-passage
-decreases-passage g l = 24 * (1001 - l.depth) + 4
+decreases-passage g l = 72 * (1001 - l.depth) + 12
 
 abbrev pub decreases-keep_copy : goal.decreases-keep_copy
-decreases-keep_copy g l = 24 * (1001 - l.depth) + 5
+decreases-keep_copy g l = 72 * (1001 - l.depth) + 15
 
 abbrev pub decreases-send_target : goal.decreases-send_target
-decreases-send_target g l = 24 * (1001 - l.depth) + 6
+decreases-send_target g l = 72 * (1001 - l.depth) + 18

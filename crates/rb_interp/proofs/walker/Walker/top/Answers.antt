@@ -18,10 +18,9 @@ returns-clause-came g c = λ S start k st e a.
     let right = main_fits script S st.fits in
     let kept = c.script-script.ensures in
     let clear = rw kept at c.clear.ensures.within in
-    let short = rw kept at c.if-size-room.false in
     let opens = main_opens S.main_names room size right.0 clear in
     let b = same a (ap (λ ns. On (Following Nil ns) k (record { me = Nil; locals = fresh S.main_names [] }) 0 left) (sym st.main)
     ∙ ap (λ ls. On (Following Nil (map erase script.main)) k (record { me = Nil; locals = ls }) 0 left) (sym opens)) in
-    let under = lies (every (map (fits S) script.main)) S.main_names size c.args.self.now.base (length room) right.1 right.0 (omega (arith, c.requires.base)) (omega (arith, c.requires.base, short, c.clear.ensures.room)) in
+    let under = lies (every (map (fits S) script.main)) S.main_names size c.args.self.now.base (length room) right.1 right.0 (omega (arith, c.requires.base)) (omega (arith, c.requires.room, c.clear.ensures.room)) in
     let f = rw (c.as_slice.ensures, kept, c.requires.me) at c.body.ensures.came in
     (f S S.main_names size st e under).1 start k b
