@@ -350,8 +350,8 @@ impl<'p, O: ThreadStore + Drop> Walker<'p, O> {
     }
 }
 
-/// Runs the top level of a script, in this row of slots, which has those of its frame. Answers the store, how many steps were begun, and how the work went out: its end
-/// entry is still to be made.
+/// Runs the top level of a script, in this row of slots, which has those of its frame. Answers the store, how many steps were begun, and how
+/// the work went out: its end entry is still to be made.
 pub fn run_main<'p, O: ThreadStore + Drop>(
     context: Context<'p>,
     store: O,
