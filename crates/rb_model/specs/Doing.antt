@@ -1,5 +1,5 @@
 -- Acts, replies, makes and things of the code, as the definitions know them.
-use Rattle.std.specs.Prelude.{[], map, replicate, Option}
+use Rattle.std.specs.Prelude.{[], map, replicate, Option, None}
 use Rattle.std.specs.Option.{option_map}
 use Rattle.rb_model.specs.declared.act.Act.{Act as Asked}
 use Rattle.rb_model.specs.declared.act.Act.TheVariants as asked
@@ -63,6 +63,7 @@ made (make.Object class) = Object class []
 made (make.Elements values) = Elements (map plain values.items)
 made (make.Filled count value) = Elements (replicate count (plain value))
 made (make.Pairs pairs) = Pairs (gathered (map pair pairs.items))
+made make.Mutex = Mutex None
 
 -- and what a reference to it says that it is
 abbrev pub sort_of : Make → Sort
@@ -70,6 +71,7 @@ sort_of (make.Object class) = sort.Object class
 sort_of (make.Elements values) = sort.List
 sort_of (make.Filled count value) = sort.List
 sort_of (make.Pairs pairs) = sort.Pairs
+sort_of make.Mutex = sort.Mutex
 
 -- what a field of the code is
 abbrev pub slot : Told → Field

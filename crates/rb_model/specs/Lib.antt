@@ -14,4 +14,5 @@ pub mod Paths
 pub mod Private
 pub mod Log
 pub mod Started
+pub mod Outside
 pub mod Moving

@@ -80,4 +80,6 @@ pub enum Make {
     Filled(usize, Value),
     /// A hash of these pairs. A key that stands twice keeps its first place and has its last value.
     Pairs(Vec<(Value, Value)>),
+    /// A mutex that no thread owns.
+    Mutex,
 }

@@ -1,6 +1,6 @@
 // What a thread asks of the outside, and how it ends.
 
-use crate::act::Act;
+use crate::act::{Act, Reply};
 use crate::fault::Fault;
 use crate::shared_text::SharedText;
 use crate::value::{Id, Ref, Value};
@@ -45,6 +45,17 @@ pub enum Answer {
     Done,
     /// The sink failed. There is no entry.
     SinkFailed,
+    /// Want of memory. There is no entry.
+    Memory,
+}
+
+/// How the outside served what a thread asked of a thing that is not its own, or the start of a thread.
+#[derive(Drop)]
+pub enum Served {
+    /// It is an entry of the history, with this reply. A reply that is a fault is one as well.
+    Done(Reply),
+    /// The shared heap had no room: the words in use, and those that were asked for. There is no entry.
+    Full { used: u64, asked: u64 },
     /// Want of memory. There is no entry.
     Memory,
 }

@@ -16,7 +16,7 @@ mod thing;
 mod value;
 
 pub use act::{Act, Make, Reply, Side};
-pub use call::{Answer, Call, End};
+pub use call::{Answer, Call, End, Served};
 pub use fault::Fault;
 pub use immediate::Immediate;
 pub use moved::{Moved, MovedItem};

@@ -8,10 +8,11 @@ ghost use Rattle.rb_model.specs.Doing.{doing, said, made, sort_of};
 ghost use Rattle.rb_model.specs.Immediates.{told_answer, list_answered, reference, taking, value_told};
 ghost use Rattle.std.specs.Option.{option_map};
 ghost use Rattle.rb_model.specs.Private.{Private, Gives, Becomes, held, entered, next_id};
-ghost use Rattle.rb_model.specs.Log.{Log as Calls, Answers, Print, is_sure, has_end, asked};
+ghost use Rattle.rb_model.specs.Log.{Log as Calls, Answers, On, Print, is_sure, has_end, asked};
+ghost use Rattle.rb_model.specs.Outside.{IsServed, starting};
 
 use crate::act::{Act, Make, Reply, Side};
-use crate::call::{Answer, Call};
+use crate::call::{Answer, Call, Served};
 use crate::immediate::Immediate;
 use crate::shared_text::SharedText;
 use crate::value::{Id, Ref, Value};
@@ -52,6 +53,26 @@ pub trait ThreadStore {
         ensures live { live self.new }
         ensures private { private self.new ≡ private self.old }
         ensures answers { Answers result step (Print text) (log self.old) (log self.new) };
+
+    /// Asks something of a thing that is not private here: one entry at this step, exactly where it answers `Done`.
+    fn ask(&mut self, step: u64, thing: Ref, act: Act) -> Served
+        requires live { live self.old }
+        requires shared { held (private self.old) thing.id ≡ None }
+        ensures live { live self.new }
+        ensures served { IsServed result step (On (reference thing) (doing act)) (log self.old) (log self.new) (private self.old) (private self.new) };
+
+    /// Starts a thread that runs the body of this number with these values: one entry at this step, exactly where it answers `Done`.
+    fn start(&mut self, step: u64, body: u32, values: Vec<Value>) -> Served
+        requires live { live self.old }
+        ensures live { live self.new }
+        ensures served { IsServed result step (starting (private self.old) (log self.old) body values.items) (log self.old) (log self.new) (private self.old) (private self.new) };
+
+    /// Lets others change what is fixed while a thread runs. May wait; makes no entry.
+    fn poll(&mut self)
+        requires live { live self.old }
+        ensures live { live self.new }
+        ensures log { log self.new ≡ log self.old }
+        ensures private { private self.new ≡ private self.old };
 
     /// Makes a thing, under the next number.
     fn make(&mut self, make: Make) -> Result<Ref, AllocError>
