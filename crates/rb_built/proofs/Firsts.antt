@@ -54,3 +54,20 @@ pub first_finished : {A : Type 0} (f : A → Found) (xs : List A) (i : ℕ) (all
     → earlier found (first_of (map f (drop i xs))) ≡ all → found ≡ all
 first_finished f xs i all found le h =
     sym (none_behind found) ∙ sym (at_drop_all (λ ys. earlier found (first_of (map f ys))) xs i le) ∙ h
+
+-- what a function answers, at the same argument
+pub at_same : {A B : Type 0} (f : A → B) (x y : A) (answer : B) → answer ≡ f x → x ≡ y → answer ≡ f y
+at_same f x y answer h e = h ∙ ap f e
+
+-- four parts, put together from the last one on
+pub of_four : (h r a b behind inside all first second third fourth whole : Found) → h ≡ first → r ≡ second → a ≡ third → b ≡ fourth
+    → behind ≡ earlier a b → inside ≡ earlier r behind → all ≡ earlier h inside → whole ≡ earlier first (earlier second (earlier third fourth)) → all ≡ whole
+of_four h r a b behind inside all first second third fourth whole eh er ea eb p q s w =
+    s
+    ∙ ap (λ o. earlier o inside) eh
+    ∙ ap (earlier first) (q
+    ∙ ap (λ o. earlier o behind) er
+    ∙ ap (earlier second) (p
+    ∙ ap (λ o. earlier o b) ea
+    ∙ ap (earlier third) eb))
+    ∙ sym w

@@ -1,6 +1,7 @@
--- What of each node is not run yet, from its parts.
-use Rattle.std.proofs.Common.{◌≡◌, ◌∙◌, ap, ℕ, List, [], ◌∷◌, Option, Some, None, map, refl, rules}
-use Rattle.std.specs.Prelude.{ℤ, not, is_some}
+-- What is found in each node, from its parts.
+use Rattle.std.proofs.Common.{◌≡◌, ◌∙◌, ap, ℕ, List, [], ◌∷◌, Option, Some, None, map, length, refl, rules}
+use Rattle.std.proofs.lemmas.List.{length-map}
+use Rattle.std.specs.Prelude.{ℤ, is_some}
 use Rattle.std.specs.Option.{option_map}
 use Rattle.rb_tree.specs.declared.span.Span.{Span}
 use Rattle.rb_tree.specs.declared.span.NameId.{NameId}
@@ -13,178 +14,186 @@ use Rattle.rb_tree.specs.declared.node.Target.{Target}
 use Rattle.rb_tree.specs.declared.node.Target.TheVariants as target
 use Rattle.rb_tree.specs.declared.node.Block.{Block, out-Block}
 use Rattle.rb_tree.specs.declared.node.Class.{Class}
-use Rattle.rb_built.specs.Unbuilt.{Found, earlier, first_of, in_any, in_pair, here, is_built_class, is_unbuilt_call, unbuilt_in, unbuilt_in_pair, unbuilt_in_piece, unbuilt_in_target, unbuilt_in_block, unbuilt_in_all}
-
-pub unbuilt-nil : (names : List (List ℕ)) (ks : List Class) (at : Span) → unbuilt_in names ks (node.Nil at) ≡ None
-unfolding unbuilt_in
-unbuilt-nil names ks at = search (rules, the_lemmas)
-
-pub unbuilt-false : (names : List (List ℕ)) (ks : List Class) (at : Span) → unbuilt_in names ks (node.False at) ≡ None
-unfolding unbuilt_in
-unbuilt-false names ks at = search (rules, the_lemmas)
-
-pub unbuilt-true : (names : List (List ℕ)) (ks : List Class) (at : Span) → unbuilt_in names ks (node.True at) ≡ None
-unfolding unbuilt_in
-unbuilt-true names ks at = search (rules, the_lemmas)
-
-pub unbuilt-self_ref : (names : List (List ℕ)) (ks : List Class) (at : Span) → unbuilt_in names ks (node.SelfRef at) ≡ None
-unfolding unbuilt_in
-unbuilt-self_ref names ks at = search (rules, the_lemmas)
-
-pub unbuilt-int : (names : List (List ℕ)) (ks : List Class) (n : ℤ) (at : Span) → unbuilt_in names ks (node.Int n at) ≡ None
-unfolding unbuilt_in
-unbuilt-int names ks n at = search (rules, the_lemmas)
-
-pub unbuilt-sym : (names : List (List ℕ)) (ks : List Class) (name : NameId) (at : Span) → unbuilt_in names ks (node.Sym name at) ≡ None
-unfolding unbuilt_in
-unbuilt-sym names ks name at = search (rules, the_lemmas)
-
-pub unbuilt-str : (names : List (List ℕ)) (ks : List Class) (pieces : List Piece) (at : Span) → unbuilt_in names ks (node.Str pieces at) ≡ first_of (map (unbuilt_in_piece names ks) pieces)
-unfolding unbuilt_in unbuilt_in_piece
-unbuilt-str names ks pieces at = search (rules, the_lemmas)
-
-pub unbuilt-array : (names : List (List ℕ)) (ks : List Class) (items : List Node) (at : Span) → unbuilt_in names ks (node.Array items at) ≡ unbuilt_in_all names ks items
-unfolding unbuilt_in
-unbuilt-array names ks items at = search (rules, the_lemmas)
+use Rattle.rb_tree.specs.declared.node.Method.{Method}
+use Rattle.rb_built.specs.declared.look.Look.{Look}
+use Rattle.rb_built.specs.Unbuilt.{Found, earlier, first_of, in_any, in_pair, here, text_of, has_method, is_shared, is_made, is_call, is_new, is_built_class, found_in, found_in_pair, found_in_piece, found_in_target, found_in_block, found_in_all}
 
 -- pairs, with what is found in their parts, and then in them
 of_pairs : (f : Node → Found) (pairs : List (Node × Node)) → first_of (map in_pair (map (λ (p : Node × Node). (f p.0, f p.1)) pairs)) ≡ first_of (map (λ (p : Node × Node). earlier (f p.0) (f p.1)) pairs)
 of_pairs f [] = refl
 of_pairs f (p ∷ ps) = ap (earlier (earlier (f p.0) (f p.1))) (of_pairs f ps)
 
-raw_hash : (names : List (List ℕ)) (ks : List Class) (pairs : List (Node × Node)) (at : Span)
-    → unbuilt_in names ks (node.Hash pairs at) ≡ first_of (map in_pair (map (λ (p : Node × Node). (unbuilt_in names ks p.0, unbuilt_in names ks p.1)) pairs))
-unfolding unbuilt_in
-raw_hash names ks pairs at = search (rules, the_lemmas)
-
-pub unbuilt-hash : (names : List (List ℕ)) (ks : List Class) (pairs : List (Node × Node)) (at : Span) → unbuilt_in names ks (node.Hash pairs at) ≡ first_of (map (unbuilt_in_pair names ks) pairs)
-unbuilt-hash names ks pairs at = raw_hash names ks pairs at ∙ of_pairs (unbuilt_in names ks) pairs
-
-pub unbuilt-local : (names : List (List ℕ)) (ks : List Class) (name : NameId) (at : Span) → unbuilt_in names ks (node.Local name at) ≡ None
-unfolding unbuilt_in
-unbuilt-local names ks name at = search (rules, the_lemmas)
-
-pub unbuilt-field : (names : List (List ℕ)) (ks : List Class) (name : NameId) (at : Span) → unbuilt_in names ks (node.Field name at) ≡ None
-unfolding unbuilt_in
-unbuilt-field names ks name at = search (rules, the_lemmas)
-
-pub unbuilt-global : (names : List (List ℕ)) (ks : List Class) (name : NameId) (at : Span) → unbuilt_in names ks (node.Global name at) ≡ Some at
-unfolding unbuilt_in
-unbuilt-global names ks name at = search (rules, the_lemmas)
-
-pub unbuilt-set_local : (names : List (List ℕ)) (ks : List Class) (name : NameId) (value : Node) (at : Span) → unbuilt_in names ks (node.SetLocal name value at) ≡ unbuilt_in names ks value
-unfolding unbuilt_in
-unbuilt-set_local names ks name value at = search (rules, the_lemmas)
-
-pub unbuilt-set_field : (names : List (List ℕ)) (ks : List Class) (name : NameId) (value : Node) (at : Span) → unbuilt_in names ks (node.SetField name value at) ≡ unbuilt_in names ks value
-unfolding unbuilt_in
-unbuilt-set_field names ks name value at = search (rules, the_lemmas)
-
-pub unbuilt-set_global : (names : List (List ℕ)) (ks : List Class) (name : NameId) (value : Node) (at : Span) → unbuilt_in names ks (node.SetGlobal name value at) ≡ earlier (Some at) (unbuilt_in names ks value)
-unfolding unbuilt_in
-unbuilt-set_global names ks name value at = search (rules, the_lemmas)
-
-pub unbuilt-store : (names : List (List ℕ)) (ks : List Class) (receiver : Node) (name : NameId) (args : List Node) (at : Span) → unbuilt_in names ks (node.Store receiver name args at) ≡ earlier (unbuilt_in names ks receiver) (unbuilt_in_all names ks args)
-unfolding unbuilt_in
-unbuilt-store names ks receiver name args at = search (rules, the_lemmas)
-
-pub unbuilt-op_assign : (names : List (List ℕ)) (ks : List Class) (written : Target) (op : AssignOp) (value : Node) (at : Span) → unbuilt_in names ks (node.OpAssign written op value at) ≡ earlier (unbuilt_in_target names ks written at) (unbuilt_in names ks value)
-unfolding unbuilt_in unbuilt_in_target
-unbuilt-op_assign names ks written op value at = search (rules, the_lemmas)
-
-pub unbuilt-new : (names : List (List ℕ)) (ks : List Class) (class : NameId) (args : List Node) (at : Span) → unbuilt_in names ks (node.New class args at) ≡ earlier (here (not (is_built_class names ks class)) at) (unbuilt_in_all names ks args)
-unfolding unbuilt_in
-unbuilt-new names ks class args at = search (rules, the_lemmas)
-
-pub unbuilt-thread_new : (names : List (List ℕ)) (ks : List Class) (args : List Node) (body : ℕ) (at : Span) → unbuilt_in names ks (node.ThreadNew args body at) ≡ Some at
-unfolding unbuilt_in
-unbuilt-thread_new names ks args body at = search (rules, the_lemmas)
-
-pub unbuilt-and : (names : List (List ℕ)) (ks : List Class) (first second : Node) (at : Span) → unbuilt_in names ks (node.And first second at) ≡ earlier (unbuilt_in names ks first) (unbuilt_in names ks second)
-unfolding unbuilt_in
-unbuilt-and names ks first second at = search (rules, the_lemmas)
-
-pub unbuilt-or : (names : List (List ℕ)) (ks : List Class) (first second : Node) (at : Span) → unbuilt_in names ks (node.Or first second at) ≡ earlier (unbuilt_in names ks first) (unbuilt_in names ks second)
-unfolding unbuilt_in
-unbuilt-or names ks first second at = search (rules, the_lemmas)
-
-pub unbuilt-not : (names : List (List ℕ)) (ks : List Class) (value : Node) (at : Span) → unbuilt_in names ks (node.Not value at) ≡ unbuilt_in names ks value
-unfolding unbuilt_in
-unbuilt-not names ks value at = search (rules, the_lemmas)
-
-pub unbuilt-if : (names : List (List ℕ)) (ks : List Class) (condition : Node) (first second : List Node) (at : Span) → unbuilt_in names ks (node.If condition first second at) ≡ earlier (unbuilt_in names ks condition) (earlier (unbuilt_in_all names ks first) (unbuilt_in_all names ks second))
-unfolding unbuilt_in
-unbuilt-if names ks condition first second at = search (rules, the_lemmas)
-
-pub unbuilt-while : (names : List (List ℕ)) (ks : List Class) (condition : Node) (body : List Node) (at : Span) → unbuilt_in names ks (node.While condition body at) ≡ earlier (unbuilt_in names ks condition) (unbuilt_in_all names ks body)
-unfolding unbuilt_in
-unbuilt-while names ks condition body at = search (rules, the_lemmas)
-
-pub unbuilt-return : (names : List (List ℕ)) (ks : List Class) (value : Option Node) (at : Span) → unbuilt_in names ks (node.Return value at) ≡ in_any (option_map (unbuilt_in names ks) value)
-unfolding unbuilt_in
-unbuilt-return names ks value at = search (rules, the_lemmas)
-
-pub unbuilt-break : (names : List (List ℕ)) (ks : List Class) (at : Span) → unbuilt_in names ks (node.Break at) ≡ None
-unfolding unbuilt_in
-unbuilt-break names ks at = search (rules, the_lemmas)
-
-pub unbuilt-next : (names : List (List ℕ)) (ks : List Class) (at : Span) → unbuilt_in names ks (node.Next at) ≡ None
-unfolding unbuilt_in
-unbuilt-next names ks at = search (rules, the_lemmas)
-
 -- whether something is there is the same of what is found in it
 some_of : {A B : Type 0} (f : A → B) (o : Option A) → is_some (option_map f o) ≡ is_some o
 some_of f None = refl
 some_of f (Some x) = refl
 
-raw_call : (names : List (List ℕ)) (ks : List Class) (receiver : Option Node) (name : NameId) (args : List Node) (block : Option Block) (at : Span)
-    → unbuilt_in names ks (node.Call receiver name args block at)
-    ≡ earlier (here (is_unbuilt_call (is_some (option_map (unbuilt_in names ks) receiver)) (is_some (option_map (unbuilt_in_block names ks) block))) at)
-    (earlier (in_any (option_map (unbuilt_in names ks) receiver)) (earlier (unbuilt_in_all names ks args) (in_any (option_map (unbuilt_in_block names ks) block))))
-unfolding unbuilt_in unbuilt_in_block
-raw_call names ks receiver name args block at = search (rules, the_lemmas)
+module _ (what : Look) (names : List (List ℕ)) (classes : List Class) (functions : List Method) where
+  pub found-nil : (at : Span) → found_in what names classes functions (node.Nil at) ≡ None
+  unfolding found_in
+  found-nil at = search (rules, the_lemmas)
 
-pub unbuilt-call : (names : List (List ℕ)) (ks : List Class) (receiver : Option Node) (name : NameId) (args : List Node) (block : Option Block) (at : Span)
-    → unbuilt_in names ks (node.Call receiver name args block at)
-    ≡ earlier (here (is_unbuilt_call (is_some receiver) (is_some block)) at)
-    (earlier (in_any (option_map (unbuilt_in names ks) receiver)) (earlier (unbuilt_in_all names ks args) (in_any (option_map (unbuilt_in_block names ks) block))))
-unbuilt-call names ks receiver name args block at =
-    let inside = earlier (in_any (option_map (unbuilt_in names ks) receiver)) (earlier (unbuilt_in_all names ks args) (in_any (option_map (unbuilt_in_block names ks) block))) in
-    let block_found = is_some (option_map (unbuilt_in_block names ks) block) in
-    raw_call names ks receiver name args block at
-    ∙ ap (λ r. earlier (here (is_unbuilt_call r block_found) at) inside) (some_of (unbuilt_in names ks) receiver)
-    ∙ ap (λ b. earlier (here (is_unbuilt_call (is_some receiver) b) at) inside) (some_of (unbuilt_in_block names ks) block)
+  pub found-false : (at : Span) → found_in what names classes functions (node.False at) ≡ None
+  unfolding found_in
+  found-false at = search (rules, the_lemmas)
 
-pub piece-text : (names : List (List ℕ)) (ks : List Class) (text : List ℕ) → unbuilt_in_piece names ks (piece.Text text) ≡ None
-unfolding unbuilt_in_piece
-piece-text names ks text = search (rules, the_lemmas)
+  pub found-true : (at : Span) → found_in what names classes functions (node.True at) ≡ None
+  unfolding found_in
+  found-true at = search (rules, the_lemmas)
 
-pub piece-code : (names : List (List ℕ)) (ks : List Class) (code : Node) → unbuilt_in_piece names ks (piece.Code code) ≡ unbuilt_in names ks code
-unfolding unbuilt_in unbuilt_in_piece
-piece-code names ks code = search (rules, the_lemmas)
+  pub found-self_ref : (at : Span) → found_in what names classes functions (node.SelfRef at) ≡ None
+  unfolding found_in
+  found-self_ref at = search (rules, the_lemmas)
 
-pub target-local : (names : List (List ℕ)) (ks : List Class) (name : NameId) (at : Span) → unbuilt_in_target names ks (target.Local name) at ≡ None
-unfolding unbuilt_in_target
-target-local names ks name at = search (rules, the_lemmas)
+  pub found-int : (n : ℤ) (at : Span) → found_in what names classes functions (node.Int n at) ≡ None
+  unfolding found_in
+  found-int n at = search (rules, the_lemmas)
 
-pub target-field : (names : List (List ℕ)) (ks : List Class) (name : NameId) (at : Span) → unbuilt_in_target names ks (target.Field name) at ≡ None
-unfolding unbuilt_in_target
-target-field names ks name at = search (rules, the_lemmas)
+  pub found-sym : (name : NameId) (at : Span) → found_in what names classes functions (node.Sym name at) ≡ None
+  unfolding found_in
+  found-sym name at = search (rules, the_lemmas)
 
-pub target-global : (names : List (List ℕ)) (ks : List Class) (name : NameId) (at : Span) → unbuilt_in_target names ks (target.Global name) at ≡ Some at
-unfolding unbuilt_in_target
-target-global names ks name at = search (rules, the_lemmas)
+  pub found-str : (pieces : List Piece) (at : Span) → found_in what names classes functions (node.Str pieces at) ≡ first_of (map (found_in_piece what names classes functions) pieces)
+  unfolding found_in found_in_piece
+  found-str pieces at = search (rules, the_lemmas)
 
-pub target-index : (names : List (List ℕ)) (ks : List Class) (receiver index : Node) (at : Span) → unbuilt_in_target names ks (target.Index receiver index) at ≡ earlier (unbuilt_in names ks receiver) (unbuilt_in names ks index)
-unfolding unbuilt_in unbuilt_in_target
-target-index names ks receiver index at = search (rules, the_lemmas)
+  pub found-array : (items : List Node) (at : Span) → found_in what names classes functions (node.Array items at) ≡ earlier (here (is_made what) at) (found_in_all what names classes functions items)
+  unfolding found_in
+  found-array items at = search (rules, the_lemmas)
 
-pub target-attribute : (names : List (List ℕ)) (ks : List Class) (receiver : Node) (name : NameId) (at : Span) → unbuilt_in_target names ks (target.Attribute receiver name) at ≡ unbuilt_in names ks receiver
-unfolding unbuilt_in unbuilt_in_target
-target-attribute names ks receiver name at = search (rules, the_lemmas)
+  raw_hash : (pairs : List (Node × Node)) (at : Span)
+      → found_in what names classes functions (node.Hash pairs at)
+      ≡ earlier (here (is_made what) at) (first_of (map in_pair (map (λ (p : Node × Node). (found_in what names classes functions p.0, found_in what names classes functions p.1)) pairs)))
+  unfolding found_in
+  raw_hash pairs at = search (rules, the_lemmas)
 
-pub block-body : (names : List (List ℕ)) (ks : List Class) (block : Block) → unbuilt_in_block names ks block ≡ unbuilt_in_all names ks (out-Block block).body
-unfolding unbuilt_in unbuilt_in_block
-block-body names ks block = search (rules, the_lemmas)
+  pub found-hash : (pairs : List (Node × Node)) (at : Span) → found_in what names classes functions (node.Hash pairs at) ≡ earlier (here (is_made what) at) (first_of (map (found_in_pair what names classes functions) pairs))
+  found-hash pairs at = raw_hash pairs at ∙ ap (earlier (here (is_made what) at)) (of_pairs (found_in what names classes functions) pairs)
 
-pub ruleset layers = (unbuilt-nil, unbuilt-false, unbuilt-true, unbuilt-self_ref, unbuilt-int, unbuilt-sym, unbuilt-str, unbuilt-array, unbuilt-hash, unbuilt-local, unbuilt-field, unbuilt-global, unbuilt-set_local, unbuilt-set_field, unbuilt-set_global, unbuilt-store, unbuilt-op_assign, unbuilt-new, unbuilt-thread_new, unbuilt-and, unbuilt-or, unbuilt-not, unbuilt-if, unbuilt-while, unbuilt-return, unbuilt-break, unbuilt-next, unbuilt-call, piece-text, piece-code, target-local, target-field, target-global, target-index, target-attribute, block-body)
+  pub found-local : (name : NameId) (at : Span) → found_in what names classes functions (node.Local name at) ≡ None
+  unfolding found_in
+  found-local name at = search (rules, the_lemmas)
+
+  pub found-field : (name : NameId) (at : Span) → found_in what names classes functions (node.Field name at) ≡ None
+  unfolding found_in
+  found-field name at = search (rules, the_lemmas)
+
+  pub found-global : (name : NameId) (at : Span) → found_in what names classes functions (node.Global name at) ≡ here (is_shared what) at
+  unfolding found_in
+  found-global name at = search (rules, the_lemmas)
+
+  pub found-set_local : (name : NameId) (value : Node) (at : Span) → found_in what names classes functions (node.SetLocal name value at) ≡ found_in what names classes functions value
+  unfolding found_in
+  found-set_local name value at = search (rules, the_lemmas)
+
+  pub found-set_field : (name : NameId) (value : Node) (at : Span) → found_in what names classes functions (node.SetField name value at) ≡ found_in what names classes functions value
+  unfolding found_in
+  found-set_field name value at = search (rules, the_lemmas)
+
+  pub found-set_global : (name : NameId) (value : Node) (at : Span) → found_in what names classes functions (node.SetGlobal name value at) ≡ earlier (here (is_shared what) at) (found_in what names classes functions value)
+  unfolding found_in
+  found-set_global name value at = search (rules, the_lemmas)
+
+  pub found-store : (receiver : Node) (name : NameId) (args : List Node) (at : Span) → found_in what names classes functions (node.Store receiver name args at) ≡ earlier (found_in what names classes functions receiver) (found_in_all what names classes functions args)
+  unfolding found_in
+  found-store receiver name args at = search (rules, the_lemmas)
+
+  pub found-op_assign : (written : Target) (op : AssignOp) (value : Node) (at : Span) → found_in what names classes functions (node.OpAssign written op value at) ≡ earlier (found_in_target what names classes functions written at) (found_in what names classes functions value)
+  unfolding found_in found_in_target
+  found-op_assign written op value at = search (rules, the_lemmas)
+
+  pub found-new : (class : NameId) (args : List Node) (at : Span) → found_in what names classes functions (node.New class args at) ≡ earlier (here (is_new what (is_built_class what names classes functions class)) at) (found_in_all what names classes functions args)
+  unfolding found_in
+  found-new class args at = search (rules, the_lemmas)
+
+  pub found-thread_new : (args : List Node) (body : ℕ) (at : Span) → found_in what names classes functions (node.ThreadNew args body at) ≡ earlier (here (is_shared what) at) (found_in_all what names classes functions args)
+  unfolding found_in
+  found-thread_new args body at = search (rules, the_lemmas)
+
+  pub found-and : (first second : Node) (at : Span) → found_in what names classes functions (node.And first second at) ≡ earlier (found_in what names classes functions first) (found_in what names classes functions second)
+  unfolding found_in
+  found-and first second at = search (rules, the_lemmas)
+
+  pub found-or : (first second : Node) (at : Span) → found_in what names classes functions (node.Or first second at) ≡ earlier (found_in what names classes functions first) (found_in what names classes functions second)
+  unfolding found_in
+  found-or first second at = search (rules, the_lemmas)
+
+  pub found-not : (value : Node) (at : Span) → found_in what names classes functions (node.Not value at) ≡ found_in what names classes functions value
+  unfolding found_in
+  found-not value at = search (rules, the_lemmas)
+
+  pub found-if : (condition : Node) (first second : List Node) (at : Span) → found_in what names classes functions (node.If condition first second at) ≡ earlier (found_in what names classes functions condition) (earlier (found_in_all what names classes functions first) (found_in_all what names classes functions second))
+  unfolding found_in
+  found-if condition first second at = search (rules, the_lemmas)
+
+  pub found-while : (condition : Node) (body : List Node) (at : Span) → found_in what names classes functions (node.While condition body at) ≡ earlier (found_in what names classes functions condition) (found_in_all what names classes functions body)
+  unfolding found_in
+  found-while condition body at = search (rules, the_lemmas)
+
+  pub found-return : (value : Option Node) (at : Span) → found_in what names classes functions (node.Return value at) ≡ in_any (option_map (found_in what names classes functions) value)
+  unfolding found_in
+  found-return value at = search (rules, the_lemmas)
+
+  pub found-break : (at : Span) → found_in what names classes functions (node.Break at) ≡ None
+  unfolding found_in
+  found-break at = search (rules, the_lemmas)
+
+  pub found-next : (at : Span) → found_in what names classes functions (node.Next at) ≡ None
+  unfolding found_in
+  found-next at = search (rules, the_lemmas)
+
+  raw_call : (receiver : Option Node) (name : NameId) (args : List Node) (block : Option Block) (at : Span)
+      → found_in what names classes functions (node.Call receiver name args block at)
+      ≡ earlier (here (is_call what (text_of names name) (is_some (option_map (found_in what names classes functions) receiver)) (is_some (option_map (found_in_block what names classes functions) block)) (has_method functions name) (length (map (found_in what names classes functions) args))) at)
+      (earlier (in_any (option_map (found_in what names classes functions) receiver)) (earlier (found_in_all what names classes functions args) (in_any (option_map (found_in_block what names classes functions) block))))
+  unfolding found_in found_in_block
+  raw_call receiver name args block at = search (rules, the_lemmas)
+
+  pub found-call : (receiver : Option Node) (name : NameId) (args : List Node) (block : Option Block) (at : Span)
+      → found_in what names classes functions (node.Call receiver name args block at)
+      ≡ earlier (here (is_call what (text_of names name) (is_some receiver) (is_some block) (has_method functions name) (length args)) at)
+      (earlier (in_any (option_map (found_in what names classes functions) receiver)) (earlier (found_in_all what names classes functions args) (in_any (option_map (found_in_block what names classes functions) block))))
+  found-call receiver name args block at =
+      let inside = earlier (in_any (option_map (found_in what names classes functions) receiver)) (earlier (found_in_all what names classes functions args) (in_any (option_map (found_in_block what names classes functions) block))) in
+      let block_found = is_some (option_map (found_in_block what names classes functions) block) in
+      let own = has_method functions name in
+      let text = text_of names name in
+      let count = length (map (found_in what names classes functions) args) in
+      raw_call receiver name args block at
+      ∙ ap (λ r. earlier (here (is_call what text r block_found own count) at) inside) (some_of (found_in what names classes functions) receiver)
+      ∙ ap (λ b. earlier (here (is_call what text (is_some receiver) b own count) at) inside) (some_of (found_in_block what names classes functions) block)
+      ∙ ap (λ n. earlier (here (is_call what text (is_some receiver) (is_some block) own n) at) inside) (length-map args (found_in what names classes functions))
+
+  pub piece-text : (text : List ℕ) → found_in_piece what names classes functions (piece.Text text) ≡ None
+  unfolding found_in_piece
+  piece-text text = search (rules, the_lemmas)
+
+  pub piece-code : (code : Node) → found_in_piece what names classes functions (piece.Code code) ≡ found_in what names classes functions code
+  unfolding found_in found_in_piece
+  piece-code code = search (rules, the_lemmas)
+
+  pub target-local : (name : NameId) (at : Span) → found_in_target what names classes functions (target.Local name) at ≡ None
+  unfolding found_in_target
+  target-local name at = search (rules, the_lemmas)
+
+  pub target-field : (name : NameId) (at : Span) → found_in_target what names classes functions (target.Field name) at ≡ None
+  unfolding found_in_target
+  target-field name at = search (rules, the_lemmas)
+
+  pub target-global : (name : NameId) (at : Span) → found_in_target what names classes functions (target.Global name) at ≡ here (is_shared what) at
+  unfolding found_in_target
+  target-global name at = search (rules, the_lemmas)
+
+  pub target-index : (receiver index : Node) (at : Span) → found_in_target what names classes functions (target.Index receiver index) at ≡ earlier (found_in what names classes functions receiver) (found_in what names classes functions index)
+  unfolding found_in found_in_target
+  target-index receiver index at = search (rules, the_lemmas)
+
+  pub target-attribute : (receiver : Node) (name : NameId) (at : Span) → found_in_target what names classes functions (target.Attribute receiver name) at ≡ found_in what names classes functions receiver
+  unfolding found_in found_in_target
+  target-attribute receiver name at = search (rules, the_lemmas)
+
+  pub block-body : (block : Block) → found_in_block what names classes functions block ≡ found_in_all what names classes functions (out-Block block).body
+  unfolding found_in found_in_block
+  block-body block = search (rules, the_lemmas)
+
+pub ruleset layers = (found-nil, found-false, found-true, found-self_ref, found-int, found-sym, found-str, found-array, found-hash, found-local, found-field, found-global, found-set_local, found-set_field, found-set_global, found-store, found-op_assign, found-new, found-thread_new, found-and, found-or, found-not, found-if, found-while, found-return, found-break, found-next, found-call, piece-text, piece-code, target-local, target-field, target-global, target-index, target-attribute, block-body)

@@ -1,5 +1,5 @@
 -- What of a program is not run yet, and what of that stands first in its text.
-use Rattle.std.specs.Prelude.{ℕ, Bool, true, false, not, ◌&&◌, ◌||◌, ◌==◌, nat_lt, is_some, List, [], ◌∷◌, map, Option, Some, None, if◌then◌else◌, slice_get, unwrap_or, codes}
+use Rattle.std.specs.Prelude.{ℕ, Bool, true, false, not, ◌&&◌, ◌||◌, ◌==◌, nat_lt, nat_le, length, is_some, List, [], ◌∷◌, map, Option, Some, None, if◌then◌else◌, slice_get, unwrap_or, codes}
 use Rattle.std.specs.List.{list_any}
 use Rattle.std.specs.Str.{bytes_eq}
 use Rattle.rb_tree.specs.declared.span.NameId.{NameId}
@@ -13,6 +13,8 @@ use Rattle.rb_tree.specs.declared.node.Node.TheOpen as node
 use Rattle.rb_tree.specs.declared.node.Program.{Program}
 use Rattle.rb_tree.specs.declared.node.Class.{Class}
 use Rattle.rb_tree.specs.declared.node.Method.{Method}
+use Rattle.rb_built.specs.declared.look.Look.{Look}
+use Rattle.rb_built.specs.declared.look.Look.TheVariants as look
 
 -- a place, where there is something that is not run yet
 abbrev pub Found : Type 0
@@ -44,20 +46,34 @@ abbrev pub text_of : List (List ℕ) → NameId → List ℕ
 text_of names name = unwrap_or (slice_get names name.0) []
 
 -- whether a class of this name is built in and has `new`
-abbrev pub is_collection : List ℕ → Bool
-is_collection text = bytes_eq text (codes "Array") || bytes_eq text (codes "Hash")
+abbrev pub is_builtin : List ℕ → Bool
+is_builtin text = bytes_eq text (codes "Array") || bytes_eq text (codes "Hash") || bytes_eq text (codes "Mutex")
 
 -- whether one of the classes has this name
 abbrev pub has_class : List Class → NameId → Bool
 has_class classes name = list_any (λ (k : Class). k.name.0 == name.0) classes
 
--- a target, by the place of its assignment: global variables are not run yet
-abbrev pub target_step : Target-F Found Found (Span → Found) Found → Span → Found
-target_step (node.«Target::Local» name) at = None
-target_step (node.«Target::Field» name) at = None
-target_step (node.«Target::Global» name) at = Some at
-target_step (node.Index receiver index) at = earlier receiver index
-target_step (node.Attribute receiver name) at = receiver
+-- whether one of the methods has this name
+abbrev pub has_method : List Method → NameId → Bool
+has_method methods name = list_any (λ (m : Method). m.name.0 == name.0) methods
+
+-- what threads share is looked for: threads and global variables
+abbrev pub is_shared : Look → Bool
+is_shared look.Shared = true
+is_shared other = false
+
+-- what makes a thing, which threads could come to share, is looked for
+abbrev pub is_made : Look → Bool
+is_made look.Made = true
+is_made other = false
+
+-- a target, by the place of its assignment
+abbrev pub target_step : Look → Target-F Found Found (Span → Found) Found → Span → Found
+target_step what (node.«Target::Local» name) at = None
+target_step what (node.«Target::Field» name) at = None
+target_step what (node.«Target::Global» name) at = here (is_shared what) at
+target_step what (node.Index receiver index) at = earlier receiver index
+target_step what (node.Attribute receiver name) at = receiver
 
 abbrev pub piece_step : Piece-F Found Found (Span → Found) Found → Found
 piece_step (node.Text text) = None
@@ -67,34 +83,55 @@ abbrev pub block_step : Block-F Found Found (Span → Found) Found → Found
 block_step block = first_of block.body
 
 -- a call with a block that has no receiver, which no text spells
-abbrev pub is_unbuilt_call : (receiver block : Bool) → Bool
-is_unbuilt_call receiver block = not receiver && block
+abbrev pub is_unspelled : (receiver block : Bool) → Bool
+is_unspelled receiver block = not receiver && block
+
+-- a method of this name answers a new array
+abbrev pub is_maker : List ℕ → Bool
+is_maker text = bytes_eq text (codes "map") || bytes_eq text (codes "select") || bytes_eq text (codes "keys") || bytes_eq text (codes "values")
+
+-- `p` of two values or more, where it is built in, answers an array of them
+abbrev pub prints_several : List ℕ → (receiver own : Bool) → (args : ℕ) → Bool
+prints_several text receiver own args = bytes_eq text (codes "p") && not receiver && not own && nat_le 2 args
+
+-- A call: of a block with no receiver; or one that answers a new thing. `own` says whether a method of the top level has the name.
+abbrev pub is_call : Look → List ℕ → (receiver block own : Bool) → (args : ℕ) → Bool
+is_call look.Missing text receiver block own args = is_unspelled receiver block
+is_call look.Shared text receiver block own args = false
+is_call look.Made text receiver block own args = is_maker text || prints_several text receiver own args
+
+-- a new thing: of a class that is not there, or any
+abbrev pub is_new : Look → (built : Bool) → Bool
+is_new look.Missing built = not built
+is_new look.Shared built = false
+is_new look.Made built = true
 
 -- of a pair of a hash
 abbrev pub in_pair : Found × Found → Found
 in_pair pair = earlier pair.0 pair.1
 
--- In a script with these texts of names and these classes.
-module _ (names : List (List ℕ)) (classes : List Class) where
+-- What is looked for, in a script with these texts of names, these classes, and these methods of its top level.
+module _ (what : Look) (names : List (List ℕ)) (classes : List Class) (functions : List Method) where
   -- a class that the script has, or one that is built in
   abbrev pub is_built_class : NameId → Bool
-  is_built_class name = has_class classes name || is_collection (text_of names name)
+  is_built_class name = has_class classes name || is_builtin (text_of names name)
 
   -- one layer of a node, with what is found in its parts
   abbrev pub node_step : Node-F Found Found (Span → Found) Found → Found
   node_step (node.Str pieces at) = first_of pieces
-  node_step (node.Array items at) = first_of items
-  node_step (node.Hash pairs at) = first_of (map in_pair pairs)
-  node_step (node.«Node::Global» name at) = Some at
+  node_step (node.Array items at) = earlier (here (is_made what) at) (first_of items)
+  node_step (node.Hash pairs at) = earlier (here (is_made what) at) (first_of (map in_pair pairs))
+  node_step (node.«Node::Global» name at) = here (is_shared what) at
   node_step (node.SetLocal name value at) = value
   node_step (node.SetField name value at) = value
-  node_step (node.SetGlobal name value at) = earlier (Some at) value
+  node_step (node.SetGlobal name value at) = earlier (here (is_shared what) at) value
   node_step (node.Store receiver name args at) = earlier receiver (first_of args)
   node_step (node.OpAssign target op value at) = earlier (target at) value
   node_step (node.Call receiver name args block at) =
-      earlier (here (is_unbuilt_call (is_some receiver) (is_some block)) at) (earlier (in_any receiver) (earlier (first_of args) (in_any block)))
-  node_step (node.New class args at) = earlier (here (not (is_built_class class)) at) (first_of args)
-  node_step (node.ThreadNew args body at) = Some at
+      earlier (here (is_call what (text_of names name) (is_some receiver) (is_some block) (has_method functions name) (length args)) at)
+      (earlier (in_any receiver) (earlier (first_of args) (in_any block)))
+  node_step (node.New class args at) = earlier (here (is_new what (is_built_class class)) at) (first_of args)
+  node_step (node.ThreadNew args body at) = earlier (here (is_shared what) at) (first_of args)
   node_step (node.And first second at) = earlier first second
   node_step (node.Or first second at) = earlier first second
   node_step (node.Not value at) = value
@@ -103,36 +140,49 @@ module _ (names : List (List ℕ)) (classes : List Class) where
   node_step (node.Return value at) = in_any value
   node_step leaf = None
 
-  -- what of a node is not run yet and stands first
-  unfoldable pub unbuilt_in : Node → Found
-  unbuilt_in = fold-Node Found Found (Span → Found) Found node_step piece_step target_step block_step
+  -- what of a node is found and stands first
+  unfoldable pub found_in : Node → Found
+  found_in = fold-Node Found Found (Span → Found) Found node_step piece_step (target_step what) block_step
 
   -- what of a piece of a text, of a target by the place of its assignment, and of a block
-  unfoldable pub unbuilt_in_piece : Piece → Found
-  unbuilt_in_piece = fold-Piece Found Found (Span → Found) Found node_step piece_step target_step block_step
+  unfoldable pub found_in_piece : Piece → Found
+  found_in_piece = fold-Piece Found Found (Span → Found) Found node_step piece_step (target_step what) block_step
 
-  unfoldable pub unbuilt_in_target : Target → Span → Found
-  unbuilt_in_target = fold-Target Found Found (Span → Found) Found node_step piece_step target_step block_step
+  unfoldable pub found_in_target : Target → Span → Found
+  found_in_target = fold-Target Found Found (Span → Found) Found node_step piece_step (target_step what) block_step
 
-  unfoldable pub unbuilt_in_block : Block → Found
-  unbuilt_in_block = fold-Block Found Found (Span → Found) Found node_step piece_step target_step block_step
+  unfoldable pub found_in_block : Block → Found
+  found_in_block = fold-Block Found Found (Span → Found) Found node_step piece_step (target_step what) block_step
 
-  -- what of a pair of a hash, of statements, and of methods
-  abbrev pub unbuilt_in_pair : Node × Node → Found
-  unbuilt_in_pair pair = earlier (unbuilt_in pair.0) (unbuilt_in pair.1)
+  -- what of a pair of a hash, of statements, of methods, and of the bodies of threads
+  abbrev pub found_in_pair : Node × Node → Found
+  found_in_pair pair = earlier (found_in pair.0) (found_in pair.1)
 
-  abbrev pub unbuilt_in_all : List Node → Found
-  unbuilt_in_all nodes = first_of (map unbuilt_in nodes)
+  abbrev pub found_in_all : List Node → Found
+  found_in_all nodes = first_of (map found_in nodes)
 
-  abbrev pub unbuilt_in_methods : List Method → Found
-  unbuilt_in_methods methods = first_of (map (λ (m : Method). unbuilt_in_all m.body) methods)
+  abbrev pub found_in_methods : List Method → Found
+  found_in_methods methods = first_of (map (λ (m : Method). found_in_all m.body) methods)
+
+  abbrev pub found_in_bodies : List Block → Found
+  found_in_bodies bodies = first_of (map found_in_block bodies)
 
   -- what of the methods of classes
-  abbrev pub unbuilt_in_classes : List Class → Found
-  unbuilt_in_classes all = first_of (map (λ (k : Class). unbuilt_in_methods k.methods) all)
+  abbrev pub found_in_classes : List Class → Found
+  found_in_classes all = first_of (map (λ (k : Class). found_in_methods k.methods) all)
 
--- what stands first of a program that is not run yet, in its classes, in the methods of its top level, or in the top level itself
+-- what stands first of a program: in its classes, in the methods of its top level, in the top level itself, or in the bodies of its threads
+abbrev pub first_found : Look → Program → Found
+first_found what program =
+    earlier (found_in_classes what program.names program.classes program.functions program.classes)
+    (earlier (found_in_methods what program.names program.classes program.functions program.functions)
+    (earlier (found_in_all what program.names program.classes program.functions program.main) (found_in_bodies what program.names program.classes program.functions program.bodies)))
+
+-- whether a program starts threads or has global variables
+abbrev pub shares : Program → Bool
+shares program = is_some (first_found look.Shared program)
+
+-- What is not run yet, and stands first: what is missing; or, in a program with threads or global variables, what makes a thing, since no thing
+-- moves to other threads yet.
 abbrev pub first_unbuilt : Program → Found
-first_unbuilt program =
-    earlier (unbuilt_in_classes program.names program.classes program.classes)
-    (earlier (unbuilt_in_methods program.names program.classes program.functions) (unbuilt_in_all program.names program.classes program.main))
+first_unbuilt program = earlier (first_found look.Missing program) (if shares program then first_found look.Made program else None)

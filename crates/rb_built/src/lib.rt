@@ -3,7 +3,8 @@
 
 mod call;
 mod earlier;
+mod look;
 mod nodes;
 mod program;
 
-pub use program::first_unbuilt;
+pub use program::{first_unbuilt, shares};

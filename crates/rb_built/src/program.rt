@@ -1,41 +1,78 @@
 // What of a program is not run yet and stands first.
 
-ghost use Rattle.std.specs.Prelude.{◌≡◌};
+ghost use Rattle.std.specs.Prelude.{◌≡◌, if◌then◌else◌};
 ghost use Rattle.rb_built.specs.Unbuilt as spec;
 
 use crate::earlier::earlier;
+use crate::look::Look;
 use crate::nodes::in_all;
-use rb_tree::{Class, Method, Names, Program, Span};
+use rb_tree::{Block, Class, Method, Program, Span};
 
 /// In methods, one behind the other.
-fn in_methods(names: &Names, classes: &[Class], methods: &[Method]) -> Option<Span>
-    ensures { result ≡ spec.unbuilt_in_methods names.now classes.now methods.now }
+fn in_methods(what: Look, program: &Program, methods: &[Method]) -> Option<Span>
+    ensures { result ≡ spec.found_in_methods what program.now.names program.now.classes program.now.functions methods.now }
 {
     let mut first = None;
     'methods: for method in methods {
-        first = earlier(first, in_all(names, classes, method.body.as_slice()));
+        first = earlier(first, in_all(what, program, method.body.as_slice()));
     }
     first
 }
 
 /// In the methods of classes.
-fn in_classes(names: &Names, classes: &[Class]) -> Option<Span>
-    ensures { result ≡ spec.unbuilt_in_classes names.now classes.now classes.now }
+fn in_classes(what: Look, program: &Program, classes: &[Class]) -> Option<Span>
+    ensures { result ≡ spec.found_in_classes what program.now.names program.now.classes program.now.functions classes.now }
 {
     let mut first = None;
     'classes: for class in classes {
-        first = earlier(first, in_methods(names, classes, class.methods.as_slice()));
+        first = earlier(first, in_methods(what, program, class.methods.as_slice()));
     }
     first
+}
+
+/// In the bodies of threads.
+fn in_bodies(what: Look, program: &Program, bodies: &[Block]) -> Option<Span>
+    ensures { result ≡ spec.found_in_bodies what program.now.names program.now.classes program.now.functions bodies.now }
+{
+    let mut first = None;
+    'bodies: for block in bodies {
+        first = earlier(first, in_all(what, program, block.body.as_slice()));
+    }
+    first
+}
+
+/// The first place of a program where there is what is looked for.
+fn first_found(what: Look, program: &Program) -> Option<Span>
+    ensures { result ≡ spec.first_found what program.now }
+{
+    let inside = in_classes(what, program, program.classes.as_slice());
+    let methods = in_methods(what, program, program.functions.as_slice());
+    let main = in_all(what, program, program.main.as_slice());
+    let bodies = in_bodies(what, program, program.bodies.as_slice());
+    earlier(inside, earlier(methods, earlier(main, bodies)))
+}
+
+/// Whether a program starts threads or has global variables.
+pub fn shares(program: &Program) -> bool
+    ensures { result ≡ spec.shares program.now }
+{
+    first_found(Look::Shared, program).is_some()
+}
+
+/// The first place that makes a thing, where the program starts threads or has global variables.
+fn first_made(program: &Program) -> Option<Span>
+    ensures { result ≡ (if spec.shares program.now then spec.first_found Look.Made program.now else None) }
+{
+    if shares(program) {
+        first_found(Look::Made, program)
+    } else {
+        None
+    }
 }
 
 /// The first place of a program that is not run yet, where there is one.
 pub fn first_unbuilt(program: &Program) -> Option<Span>
     ensures { result ≡ spec.first_unbuilt program.now }
 {
-    let classes = program.classes.as_slice();
-    let inside = in_classes(&program.names, classes);
-    let methods = in_methods(&program.names, classes, program.functions.as_slice());
-    let main = in_all(&program.names, classes, program.main.as_slice());
-    earlier(inside, earlier(methods, main))
+    earlier(first_found(Look::Missing, program), first_made(program))
 }

@@ -58,9 +58,17 @@ pub erase-field : (name : NameId) (at : Span) → erase (is.Field name at) ≡ t
 unfolding erase erase_piece erase_block
 erase-field name at = search (rules, the_lemmas)
 
+pub erase-global : (name : NameId) (at : Span) → erase (is.Global name at) ≡ tree.Global name at
+unfolding erase erase_piece erase_block
+erase-global name at = search (rules, the_lemmas)
+
 pub erase-set_field : (name : NameId) (value : Code) (at : Span) → erase (is.SetField name value at) ≡ tree.SetField name (erase value) at
 unfolding erase erase_piece erase_block
 erase-set_field name value at = search (rules, the_lemmas)
+
+pub erase-set_global : (name : NameId) (value : Code) (at : Span) → erase (is.SetGlobal name value at) ≡ tree.SetGlobal name (erase value) at
+unfolding erase erase_piece erase_block
+erase-set_global name value at = search (rules, the_lemmas)
 
 pub erase-update_local : (slot : ℕ) (name : NameId) (op : AssignOp) (value : Code) (at : Span) → erase (is.UpdateLocal slot name op value at) ≡ tree.OpAssign (target.Local name) op (erase value) at
 unfolding erase erase_piece erase_block
@@ -69,6 +77,10 @@ erase-update_local slot name op value at = search (rules, the_lemmas)
 pub erase-update_field : (name : NameId) (op : AssignOp) (value : Code) (at : Span) → erase (is.UpdateField name op value at) ≡ tree.OpAssign (target.Field name) op (erase value) at
 unfolding erase erase_piece erase_block
 erase-update_field name op value at = search (rules, the_lemmas)
+
+pub erase-update_global : (name : NameId) (op : AssignOp) (value : Code) (at : Span) → erase (is.UpdateGlobal name op value at) ≡ tree.OpAssign (target.Global name) op (erase value) at
+unfolding erase erase_piece erase_block
+erase-update_global name op value at = search (rules, the_lemmas)
 
 pub erase-update_element : (receiver : Code) (index : Code) (op : AssignOp) (value : Code) (at : Span) → erase (is.UpdateElement receiver index op value at) ≡ tree.OpAssign (target.Index (erase receiver) (erase index)) op (erase value) at
 unfolding erase erase_piece erase_block

@@ -60,9 +60,17 @@ pub fits-field : (S : Script) (names : List NameId) (size : ℕ) (name : NameId)
 unfolding fits piece_fits block_fits
 fits-field S names size name at = search (rules, the_lemmas)
 
+pub fits-global : (S : Script) (names : List NameId) (size : ℕ) (name : NameId) (at : Span) → fits S (is.Global name at) names size ≡ (true)
+unfolding fits piece_fits block_fits
+fits-global S names size name at = search (rules, the_lemmas)
+
 pub fits-set_field : (S : Script) (names : List NameId) (size : ℕ) (name : NameId) (value : Code) (at : Span) → fits S (is.SetField name value at) names size ≡ (fits S value names size)
 unfolding fits piece_fits block_fits
 fits-set_field S names size name value at = search (rules, the_lemmas)
+
+pub fits-set_global : (S : Script) (names : List NameId) (size : ℕ) (name : NameId) (value : Code) (at : Span) → fits S (is.SetGlobal name value at) names size ≡ (fits S value names size)
+unfolding fits piece_fits block_fits
+fits-set_global S names size name value at = search (rules, the_lemmas)
 
 pub fits-update_local : (S : Script) (names : List NameId) (size : ℕ) (slot : ℕ) (name : NameId) (op : AssignOp) (value : Code) (at : Span) → fits S (is.UpdateLocal slot name op value at) names size ≡ (has_slot name names slot && fits S value names size)
 unfolding fits piece_fits block_fits
@@ -71,6 +79,10 @@ fits-update_local S names size slot name op value at = search (rules, the_lemmas
 pub fits-update_field : (S : Script) (names : List NameId) (size : ℕ) (name : NameId) (op : AssignOp) (value : Code) (at : Span) → fits S (is.UpdateField name op value at) names size ≡ (fits S value names size)
 unfolding fits piece_fits block_fits
 fits-update_field S names size name op value at = search (rules, the_lemmas)
+
+pub fits-update_global : (S : Script) (names : List NameId) (size : ℕ) (name : NameId) (op : AssignOp) (value : Code) (at : Span) → fits S (is.UpdateGlobal name op value at) names size ≡ (fits S value names size)
+unfolding fits piece_fits block_fits
+fits-update_global S names size name op value at = search (rules, the_lemmas)
 
 pub fits-update_element : (S : Script) (names : List NameId) (size : ℕ) (receiver : Code) (index : Code) (op : AssignOp) (value : Code) (at : Span) → fits S (is.UpdateElement receiver index op value at) names size ≡ (fits S receiver names size && (fits S index names size && fits S value names size))
 unfolding fits piece_fits block_fits

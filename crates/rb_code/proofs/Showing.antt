@@ -17,7 +17,7 @@ use Rattle.rb_code.specs.declared.code.Code.TheVariants as is
 use Rattle.rb_code.specs.declared.code.CodePiece.{CodePiece}
 use Rattle.rb_code.specs.declared.code.CodeBlock.{CodeBlock}
 use Rattle.rb_code.specs.Erase.{erase, erase_piece, erase_block, paired}
-use Rattle.rb_code.proofs.Erasing.{erase-nil, erase-false, erase-true, erase-self_ref, erase-int, erase-sym, erase-str, erase-local, erase-set_local, erase-field, erase-set_field, erase-update_local, erase-update_field, erase-update_element, erase-update_attribute, erase-store, erase-array, erase-hash, erase-new_builtin, erase-operate, erase-send, erase-walk, erase-function, erase-own, erase-new, erase-start, erase-print, erase-and, erase-or, erase-not, erase-if, erase-while, erase-return, erase-break, erase-next}
+use Rattle.rb_code.proofs.Erasing.{erase-nil, erase-false, erase-true, erase-self_ref, erase-int, erase-sym, erase-str, erase-local, erase-set_local, erase-field, erase-set_field, erase-global, erase-set_global, erase-update_global, erase-update_local, erase-update_field, erase-update_element, erase-update_attribute, erase-store, erase-array, erase-hash, erase-new_builtin, erase-operate, erase-send, erase-walk, erase-function, erase-own, erase-new, erase-start, erase-print, erase-and, erase-or, erase-not, erase-if, erase-while, erase-return, erase-break, erase-next}
 
 pub shows-nil : (c : Code) (at : Span) → c ≡ is.Nil at → out-Node (erase c) ≡ node.Nil at
 shows-nil c at e = ap (λ c. out-Node (erase c)) e ∙ (ap out-Node (erase-nil at) ∙ search (rules, the_lemmas))
@@ -49,14 +49,23 @@ shows-set_local c slot name value at e = ap (λ c. out-Node (erase c)) e ∙ (ap
 pub shows-field : (c : Code) (name : NameId) (at : Span) → c ≡ is.Field name at → out-Node (erase c) ≡ node.«Node::Field» name at
 shows-field c name at e = ap (λ c. out-Node (erase c)) e ∙ (ap out-Node (erase-field name at) ∙ search (rules, the_lemmas))
 
+pub shows-global : (c : Code) (name : NameId) (at : Span) → c ≡ is.Global name at → out-Node (erase c) ≡ node.«Node::Global» name at
+shows-global c name at e = ap (λ c. out-Node (erase c)) e ∙ (ap out-Node (erase-global name at) ∙ search (rules, the_lemmas))
+
 pub shows-set_field : (c : Code) (name : NameId) (value : Code) (at : Span) → c ≡ is.SetField name value at → out-Node (erase c) ≡ node.SetField name (erase value) at
 shows-set_field c name value at e = ap (λ c. out-Node (erase c)) e ∙ (ap out-Node (erase-set_field name value at) ∙ search (rules, the_lemmas))
+
+pub shows-set_global : (c : Code) (name : NameId) (value : Code) (at : Span) → c ≡ is.SetGlobal name value at → out-Node (erase c) ≡ node.SetGlobal name (erase value) at
+shows-set_global c name value at e = ap (λ c. out-Node (erase c)) e ∙ (ap out-Node (erase-set_global name value at) ∙ search (rules, the_lemmas))
 
 pub shows-update_local : (c : Code) (slot : ℕ) (name : NameId) (op : AssignOp) (value : Code) (at : Span) → c ≡ is.UpdateLocal slot name op value at → out-Node (erase c) ≡ node.OpAssign (target.Local name) op (erase value) at
 shows-update_local c slot name op value at e = ap (λ c. out-Node (erase c)) e ∙ (ap out-Node (erase-update_local slot name op value at) ∙ search (rules, the_lemmas))
 
 pub shows-update_field : (c : Code) (name : NameId) (op : AssignOp) (value : Code) (at : Span) → c ≡ is.UpdateField name op value at → out-Node (erase c) ≡ node.OpAssign (target.Field name) op (erase value) at
 shows-update_field c name op value at e = ap (λ c. out-Node (erase c)) e ∙ (ap out-Node (erase-update_field name op value at) ∙ search (rules, the_lemmas))
+
+pub shows-update_global : (c : Code) (name : NameId) (op : AssignOp) (value : Code) (at : Span) → c ≡ is.UpdateGlobal name op value at → out-Node (erase c) ≡ node.OpAssign (target.Global name) op (erase value) at
+shows-update_global c name op value at e = ap (λ c. out-Node (erase c)) e ∙ (ap out-Node (erase-update_global name op value at) ∙ search (rules, the_lemmas))
 
 pub shows-update_element : (c : Code) (receiver : Code) (index : Code) (op : AssignOp) (value : Code) (at : Span) → c ≡ is.UpdateElement receiver index op value at → out-Node (erase c) ≡ node.OpAssign (target.Index (erase receiver) (erase index)) op (erase value) at
 shows-update_element c receiver index op value at e = ap (λ c. out-Node (erase c)) e ∙ (ap out-Node (erase-update_element receiver index op value at) ∙ search (rules, the_lemmas))

@@ -50,6 +50,7 @@ prints text = bytes_eq text (codes "puts") || (bytes_eq text (codes "print") || 
 abbrev pub class_text : BuiltinClass → List ℕ
 class_text builtin_class.Array = codes "Array"
 class_text builtin_class.Hash = codes "Hash"
+class_text builtin_class.Mutex = codes "Mutex"
 
 -- whether keys and values stand by turns
 abbrev pub is_even : {X : Type 0} → List X → Bool
@@ -104,6 +105,8 @@ module _ (S : Script) where
   node_step (code.UpdateLocal slot name op value at) names size = has_slot name names slot && value names size
   node_step (code.SetField name value at) names size = value names size
   node_step (code.UpdateField name op value at) names size = value names size
+  node_step (code.SetGlobal name value at) names size = value names size
+  node_step (code.UpdateGlobal name op value at) names size = value names size
   node_step (code.UpdateElement receiver index op value at) names size = receiver names size && (index names size && value names size)
   node_step (code.UpdateAttribute number writer name receiver op value at) names size =
       has_number number name && (is_writer S writer name && (is_free (text_of S name ++ codes "=") && (receiver names size && value names size)))

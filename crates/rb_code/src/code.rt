@@ -10,6 +10,7 @@ use rb_tree::{AssignOp, Boxed, Items, NameId, Param, Span};
 pub enum BuiltinClass {
     Array,
     Hash,
+    Mutex,
 }
 
 /// The block of a call. Its own locals lie in the slots from `from` on, its parameters first, within the frame of the method round it.
@@ -55,10 +56,13 @@ pub enum Code {
     /// An instance variable of `self` that is read, and one that is written.
     Field(NameId, Span),
     SetField(NameId, Boxed<Code>, Span),
+    Global(NameId, Span),
+    SetGlobal(NameId, Boxed<Code>, Span),
     /// An assignment with an operator to a local, to an instance variable, to an element, and to an attribute. That to an attribute has
     /// the number of the built-in method that reads it, and the name of the methods that write it, where there is such a name.
     UpdateLocal(u32, NameId, AssignOp, Boxed<Code>, Span),
     UpdateField(NameId, AssignOp, Boxed<Code>, Span),
+    UpdateGlobal(NameId, AssignOp, Boxed<Code>, Span),
     UpdateElement(Boxed<Code>, Boxed<Code>, AssignOp, Boxed<Code>, Span),
     UpdateAttribute(
         Option<Builtin>,
@@ -83,7 +87,7 @@ pub enum Code {
     Own(NameId, Items<Code>, Span),
     /// A new object of the class of this number, whose method `initialize`, where it has one, is the one of this number among its methods.
     New(u32, Option<u32>, NameId, Items<Code>, Span),
-    /// A new array or a new hash.
+    /// A new array, hash or mutex.
     NewBuiltin(BuiltinClass, NameId, Items<Code>, Span),
     /// The start of a thread whose body has this number, with the slots of the locals that the body captures, in the order of their first use.
     Start(Items<Code>, u32, Items<u32>, Span),

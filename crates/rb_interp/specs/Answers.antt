@@ -38,7 +38,7 @@ module _ {O : Type 0} {g : Ghosts O} where
   -- the call of a built-in method of a value comes to what came
   abbrev pub CallsBuiltin : Option Builtin → Val → List Val → Span → (old new : Walker O g) → (depth : ℕ) → Registers → Type 0
   CallsBuiltin method receiver args at old new depth r =
-      collections.CallsBuiltin old.context.steps old.context.program.now method receiver args at depth old.left new.left (g.log old.store) (g.private old.store) (g.private new.store) (outcome r new.value new.leave)
+      collections.CallsBuiltin old.context.steps old.context.program.now method receiver args at depth old.left new.left (g.log old.store) (g.log new.store) (g.private old.store) (g.private new.store) (outcome r new.value new.leave)
 
   -- and as an assignment, whose value is the last of the arguments
   abbrev pub StoresBy : Option Builtin → Val → List Val → Span → (old new : Walker O g) → (depth : ℕ) → Registers → Type 0
@@ -48,8 +48,8 @@ module _ {O : Type 0} {g : Ghosts O} where
 
   -- from where a thing is asked, the machine comes to what came
   abbrev pub AsksTo : Val → Act → Span → (old new : Walker O g) → Registers → Type 0
-  AsksTo thing act at old new r = objects.Asks old.context.steps thing act at old.left (g.log old.store) (g.private old.store) (g.private new.store) (outcome r new.value new.leave)
+  AsksTo thing act at old new r = objects.Asks old.context.steps thing act at old.left (g.log old.store) (g.log new.store) (g.private old.store) (g.private new.store) (outcome r new.value new.leave)
 
   -- from where a value is written to a field of an object
   abbrev pub WritesField : Val → NameId → Val → Span → (old new : Walker O g) → Registers → Type 0
-  WritesField object name value at old new r = objects.WritesField old.context.steps object name value at old.left (g.log old.store) (g.private old.store) (g.private new.store) (outcome r new.value new.leave)
+  WritesField object name value at old new r = objects.WritesField old.context.steps object name value at old.left (g.log old.store) (g.log new.store) (g.private old.store) (g.private new.store) (outcome r new.value new.leave)

@@ -17,6 +17,7 @@ use Rattle.rb_walk.specs.Carries.{Unread, me_of}
 use Rattle.rb_walk.specs.Methods as methods
 use Rattle.rb_walk.specs.Objects as objects
 use Rattle.rb_walk.specs.Readers as readers
+use Rattle.rb_walk.specs.Owning as owning
 use Rattle.rb_walk.specs.Walks as walks
 
 module _ {O : Type 0} {g : Ghosts O} where
@@ -74,6 +75,11 @@ module _ {O : Type 0} {g : Ghosts O} where
   abbrev pub Iterates : CodeBlock → List Val → (old new : Walker O g) → (room room' : List Held) → (depth : ℕ) → Registers → Type 0
   Iterates block elements old new room room' depth r =
       walks.Iterates old.context.script.now old.context.program.now old.context.steps (me_of old.context.me) block elements old.base depth old.left new.left room room' (g.log old.store) (g.log new.store) (g.private old.store) (g.private new.store) (outcome r new.value new.leave)
+
+  -- the body of a block that owns a mutex
+  abbrev pub Owns : CodeBlock → (old new : Walker O g) → (room room' : List Held) → (depth : ℕ) → Registers → Type 0
+  Owns block old new room room' depth r =
+      owning.Owns old.context.script.now old.context.program.now old.context.steps (me_of old.context.me) block old.base depth old.left new.left room room' (g.log old.store) (g.log new.store) (g.private old.store) (g.private new.store) (outcome r new.value new.leave)
 
   -- from where a method without arguments is called on what a node gives, the machine comes to what came; the row stays
   abbrev pub SendsTo : Code → Option Builtin → NameId → Span → (old new : Walker O g) → (room : List Held) → (depth : ℕ) → Registers → Type 0

@@ -3,4 +3,4 @@
 
 mod walker;
 
-pub use walker::{Context, run_main};
+pub use walker::{Context, run_body, run_main};

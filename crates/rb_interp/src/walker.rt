@@ -5,15 +5,14 @@ ghost use Rattle.rb_model.specs.Values.{Nil, Int};
 ghost use Rattle.rb_model.specs.Ends.{over};
 ghost use Rattle.rb_model.specs.Log as log;
 ghost use Rattle.rb_model.specs.Private.{bare};
-ghost use Rattle.rb_machine.specs.Scopes.{Script};
-ghost use Rattle.rb_code.specs.Stands.{StandsFor};
-ghost use Rattle.rb_interp.specs.Going.{GoesOut};
+ghost use Rattle.rb_interp.specs.Going.{MainGoes};
 ghost use Rattle.rb_machine.specs.Begin.{begin};
 ghost use Rattle.rb_walk.specs.Outcome.{outcome};
 ghost use Rattle.rb_walk.specs.Carries.{goes_on};
 
 mod assign;
 mod begin;
+mod bodies;
 mod calls;
 mod collections;
 mod drafts;
@@ -23,10 +22,12 @@ mod lines;
 mod methods;
 mod objects;
 mod operands;
+mod shared;
 mod texts;
 mod values;
 mod walks;
 
+pub use bodies::run_body;
 use rb_builtin::Builtin;
 use rb_code::{Code, CodeScript};
 use rb_model::{End, Fault, Ref, ThreadStore, Value};
@@ -362,7 +363,8 @@ pub fn run_main<'p, O: ThreadStore + Drop>(
     requires made { O.private store ≡ bare 0 }
     requires room { context.script.now.main_size ≤ length room.old }
     ensures live { O.live result.0 }
-    ensures goes { (S : Script) → StandsFor context.entry.script.now S → S.program ≡ context.entry.program.now → GoesOut S context.entry.steps (O.log result.0) (O.private result.0) (over result.2) result.1 }
+    ensures goes { MainGoes context.entry.script.now context.entry.program.now context.entry.steps
+        (O.log result.0) (O.private result.0) (over result.2) result.1 }
 {
     let Context {
         alloc,
@@ -388,7 +390,7 @@ fn run_by<O: ThreadStore + Drop>(
     requires made { O.private store ≡ bare 0 }
     requires room { methods.now.main_size ≤ length room.old }
     ensures live { O.live result.0 }
-    ensures goes { (S : Script) → StandsFor methods.now S → S.program ≡ program.now → GoesOut S steps (O.log result.0) (O.private result.0) (over result.2) result.1 }
+    ensures goes { MainGoes methods.now program.now steps (O.log result.0) (O.private result.0) (over result.2) result.1 }
 {
     let mut walker = Walker {
         context: Running {

@@ -79,22 +79,29 @@ form_is text form.Print h = choose (bytes_eq text (codes "puts")) (bytes_eq text
 form_is text form.Inspect h = choose (bytes_eq text (codes "puts")) (bytes_eq text (codes "print")) (bytes_eq text (codes "p")) form.Inspect h
 
 -- the class of a name is one whose name it is
-chosen_class : BuiltinClass → Bool → Bool → Bool
-chosen_class builtin_class.Array a b = a
-chosen_class builtin_class.Hash a b = b
+chosen_class : BuiltinClass → (is_array is_hash is_mutex : Bool) → Bool
+chosen_class builtin_class.Array a b c = a
+chosen_class builtin_class.Hash a b c = b
+chosen_class builtin_class.Mutex a b c = c
 
-choose_class : (a b : Bool) (class : BuiltinClass) → cond a (Some builtin_class.Array) (cond b (Some builtin_class.Hash) None) ≡ Some class → chosen_class class a b ≡ true
+choose_class : (a b c : Bool) (class : BuiltinClass) → cond a (Some builtin_class.Array) (cond b (Some builtin_class.Hash) (cond c (Some builtin_class.Mutex) None)) ≡ Some class → chosen_class class a b c ≡ true
 unfolding chosen_class
-choose_class true b builtin_class.Array h = refl
-choose_class true b builtin_class.Hash h = absurd (cc)
-choose_class false true builtin_class.Array h = absurd (cc)
-choose_class false true builtin_class.Hash h = refl
-choose_class false false class h = absurd (cc)
+choose_class true b c builtin_class.Array h = refl
+choose_class true b c builtin_class.Hash h = absurd (cc)
+choose_class true b c builtin_class.Mutex h = absurd (cc)
+choose_class false true c builtin_class.Array h = absurd (cc)
+choose_class false true c builtin_class.Hash h = refl
+choose_class false true c builtin_class.Mutex h = absurd (cc)
+choose_class false false true builtin_class.Array h = absurd (cc)
+choose_class false false true builtin_class.Hash h = absurd (cc)
+choose_class false false true builtin_class.Mutex h = refl
+choose_class false false false class h = absurd (cc)
 
 class_is : (name : Text) (class : BuiltinClass) → builtin_class_of name ≡ Some class → bytes_eq name (class_text class) ≡ true
 unfolding chosen_class
-class_is name builtin_class.Array h = choose_class (bytes_eq name (codes "Array")) (bytes_eq name (codes "Hash")) builtin_class.Array h
-class_is name builtin_class.Hash h = choose_class (bytes_eq name (codes "Array")) (bytes_eq name (codes "Hash")) builtin_class.Hash h
+class_is name builtin_class.Array h = choose_class (bytes_eq name (codes "Array")) (bytes_eq name (codes "Hash")) (bytes_eq name (codes "Mutex")) builtin_class.Array h
+class_is name builtin_class.Hash h = choose_class (bytes_eq name (codes "Array")) (bytes_eq name (codes "Hash")) (bytes_eq name (codes "Mutex")) builtin_class.Hash h
+class_is name builtin_class.Mutex h = choose_class (bytes_eq name (codes "Array")) (bytes_eq name (codes "Hash")) (bytes_eq name (codes "Mutex")) builtin_class.Mutex h
 
 -- the texts with `=` behind them that are names of built-in methods
 none_more : (b : Bool) → (b && false) ≡ false

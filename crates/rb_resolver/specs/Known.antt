@@ -49,7 +49,8 @@ abbrev pub builtin_class_of : Text → Option BuiltinClass
 builtin_class_of name =
     if bytes_eq name (class_text builtin_class.Array) then Some builtin_class.Array else (
     if bytes_eq name (class_text builtin_class.Hash) then Some builtin_class.Hash else (
-    None))
+    if bytes_eq name (class_text builtin_class.Mutex) then Some builtin_class.Mutex else (
+    None)))
 
 -- it is known of this script
 pub record IsKnown (known : Known) (names : List Text) (S : Script) : Type 0 where

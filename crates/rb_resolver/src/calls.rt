@@ -44,6 +44,7 @@ fn builtin_class_of(text: &[u8]) -> Option<BuiltinClass>
     match text {
         _ if text == b"Array".as_slice() => Some(BuiltinClass::Array),
         _ if text == b"Hash".as_slice() => Some(BuiltinClass::Hash),
+        _ if text == b"Mutex".as_slice() => Some(BuiltinClass::Mutex),
         _ => None,
     }
 }

@@ -64,6 +64,11 @@ fn node(
             let value = boxed(known, names, value.get(), frame)?;
             Ok(Code::SetField(*name, value, *at))
         }
+        Node::Global(name, at) => Ok(Code::Global(*name, *at)),
+        Node::SetGlobal(name, value, at) => {
+            let value = boxed(known, names, value.get(), frame)?;
+            Ok(Code::SetGlobal(*name, value, *at))
+        }
         Node::Store {
             receiver,
             name,
@@ -100,7 +105,10 @@ fn node(
                 let value = boxed(known, names, value.get(), frame)?;
                 attribute_updated(known, names, *name, receiver, *op, value, *at)
             }
-            Target::Global(_) => Err(ResolveFault::NotBuilt(*at)),
+            Target::Global(name) => {
+                let value = boxed(known, names, value.get(), frame)?;
+                Ok(Code::UpdateGlobal(*name, *op, value, *at))
+            }
         },
         Node::Call {
             receiver,
@@ -157,7 +165,6 @@ fn node(
         }
         Node::Break(at) => Ok(Code::Break(*at)),
         Node::Next(at) => Ok(Code::Next(*at)),
-        Node::Global(_, at) | Node::SetGlobal(_, _, at) => Err(ResolveFault::NotBuilt(*at)),
     }
 }
 

@@ -1,3 +1,4 @@
+pub mod Alone
 pub mod Closing
 pub mod Held
 pub mod Keeping

@@ -8,13 +8,14 @@ ghost use Rattle.rb_model.specs.Doing.{doing, said, made, sort_of};
 ghost use Rattle.rb_model.specs.Immediates.{list_answered, reference, taking, told_answer, value_told};
 ghost use Rattle.std.specs.Option.{option_map};
 ghost use Rattle.rb_model.specs.Private.{Gives, Becomes, held, entered, next_id};
-ghost use Rattle.rb_model.specs.Log.{Answers, Print};
+ghost use Rattle.rb_model.specs.Log.{Answers, On, Print};
+ghost use Rattle.rb_model.specs.Outside.{IsServed, starting};
 ghost use Rattle.rb_run.specs.Going.{GoesOn};
 
 use local_heap::LocalHeap;
 use rb_model::{
-    Act, Answer, Call, Id, Immediate, Make, OneStore, Ref, Reply, SharedText, Side, ThreadStore,
-    Value,
+    Act, Answer, Call, Id, Immediate, Make, OneStore, Ref, Reply, Served, SharedText, Side,
+    ThreadStore, Value,
 };
 use rb_tree::NameId;
 use shape_tree::ShapeStore;
@@ -43,6 +44,33 @@ impl<O: OneStore, S: ShapeStore> ThreadStore for MainThread<O, S> {
     {
         self.calls.call(step, &Call::Print(text))
     }
+
+    /// One thread shares nothing: no script that is run asks this.
+    fn ask(&mut self, step: u64, thing: Ref, act: Act) -> Served
+        requires live { GoesOn (O.log self.old.calls) self.old.things }
+        ensures live { GoesOn (O.log self.new.calls) self.new.things }
+        ensures served { IsServed result step (On (reference thing) (doing act)) (O.log self.old.calls) (O.log self.new.calls) self.old.things self.new.things }
+    {
+        Served::Memory
+    }
+
+    /// And no script that is run starts a thread.
+    fn start(&mut self, step: u64, body: u32, values: Vec<Value>) -> Served
+        requires live { GoesOn (O.log self.old.calls) self.old.things }
+        ensures live { GoesOn (O.log self.new.calls) self.new.things }
+        ensures served { IsServed result step (starting self.old.things (O.log self.old.calls) body values.items) (O.log self.old.calls) (O.log self.new.calls) self.old.things self.new.things }
+    {
+        Served::Memory
+    }
+
+    /// No other thread waits.
+    #[inline(always)]
+    fn poll(&mut self)
+        requires live { GoesOn (O.log self.old.calls) self.old.things }
+        ensures live { GoesOn (O.log self.new.calls) self.new.things }
+        ensures log { O.log self.new.calls ≡ O.log self.old.calls }
+        ensures private { self.new.things ≡ self.old.things }
+    {}
 
     #[inline(always)]
     fn make(&mut self, make: Make) -> Result<Ref, AllocError>

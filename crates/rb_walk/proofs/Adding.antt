@@ -36,7 +36,7 @@ use Rattle.rb_code.proofs.Fitting.{fits-local, fits-update_field}
 use Rattle.rb_walk.specs.Outcome.{Gave}
 use Rattle.rb_walk.specs.Carries.{scope_of, me_of}
 use Rattle.rb_walk.specs.Answers.{IsSmall, outcome_of}
-use Rattle.rb_walk.specs.Objects.{updating}
+use Rattle.rb_walk.specs.Objects.{of_self, updating}
 use Rattle.rb_walk.specs.Readers.{Adds}
 use Rattle.rb_walk.proofs.Assigning.{closes, opens, parameter_is}
 use Rattle.rb_walk.proofs.Lists.{fst, snd}
@@ -79,7 +79,7 @@ module _ (S : Script) (N : ℕ) (start : State) where
       let g3 = is (Then (RightOf (Int m) op.Plus at) ∷ waits) g2 in
       let given = sum_is S.program (operator S op.Plus) n sum long (operator_number S op.Plus) in
       let g4 = calls S N start h l (Int m) (operator S op.Plus) (Int n ∷ []) at waits sc d (left - 1) (Gave (Int sum)) (none_plain S (Int m) (operator S op.Plus) refl) (inl (sym (ap (λ a. outcome_of a at) given))) (on _ g3 refl) in
-      let g5 = fielded_by S N start h name at (WriteTo place at) updating (Int sum) g4 in
+      let g5 = fielded_by S N start h (me_of (Some object)) name at (WriteTo place at) (updating place (of_self refl)) (Int sum) g4 in
       on _ (asked_reply S N start l h h' (record { sort = object.sort; id = object.id }) (SetField name (Int sum)) Done at (Then (Instead (Int sum)) ∷ k) sc d (left - 1) there done put g5) refl
 
   -- the same of what a leaf gives

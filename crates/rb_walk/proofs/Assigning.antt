@@ -92,7 +92,7 @@ module _ (S : Script) (N : ℕ) (start : State) (h : Private) where
       let e1 = begins (erase c) (node.SetField field (erase local) place) behind inner (d + 1) (n - 1) (shows-set_field c field local place r.is) (counts (omega (arith, more)) (omega (arith, deep)) (on _ a refl)) in
       let e2 = begins (erase local) (node.«Node::Local» r.name r.from) (Under (d + 1) ∷ Then (FieldTo field place) ∷ behind) inner (d + 1 + 1) (n - 1 - 1) (shows-local local slot r.name r.from refl) (counts (omega (arith, more)) (omega (arith, deep)) e1) in
       let e3 = gives w (parameter_is r.name names args slot w has held) e2 in
-      rw twice at (fielded_by S N start h field place (FieldTo field place) plainly w (on (On (Give w) (Then (FieldTo field place) ∷ behind) inner (d + 1) (n - 1 - 1)) e3 refl))
+      rw twice at (fielded_by S N start h v field place (FieldTo field place) (plainly refl) w (on (On (Give w) (Then (FieldTo field place) ∷ behind) inner (d + 1) (n - 1 - 1)) e3 refl))
 
   -- the same of the statement at an index
   pub assigning_at : (l : Log) (k : List Cont) (sc : Scope) (d n : ℕ) (v u : Val) (m : CodeMethod) (args : List Held) (i : ℕ) (c : Code) (w : Held) (field : NameId) (slot : ℕ) (place : Span)

@@ -40,6 +40,7 @@ sorts_are (make.Object class) = refl
 sorts_are (make.Elements values) = refl
 sorts_are (make.Filled count value) = refl
 sorts_are (make.Pairs pairs) = refl
+sorts_are make.Mutex = refl
 
 next_is : (thing : Ref) (m : Make) (h : Private) → thing.id ≡ next_id h → thing.sort ≡ doing.sort_of m → To (next_thing h (made m)) ≡ To (thing_of thing)
 next_is thing m h id sort =

@@ -29,25 +29,25 @@ use Rattle.rb_walk.proofs.Calls.{by_table}
 
 module _ (S : Script) (N : ℕ) (start : State) where
   -- the call of a method that is built in, where the class of the receiver has none of the name
-  pub calls_builtin : (l : Log) (h h' : Private) (k : List Cont) (sc : Scope) (d n n' : ℕ) (o : Outcome) (program : Program) (method : Option Builtin) (v : Val) (name : Text) (args : List Val) (at : Span)
-      → texted S name (methods_of S v) ≡ None → builtin_of name ≡ method → S.program ≡ program → CallsBuiltin N program method v args at d n n' l h h' o
-      → At S N start l h (invoke S v name args None at k sc d n) → Came S N start l h' o k sc d n'
-  calls_builtin l h h' k sc d n n' o program method v name args at none number e f a =
+  pub calls_builtin : (l l' : Log) (h h' : Private) (k : List Cont) (sc : Scope) (d n n' : ℕ) (o : Outcome) (program : Program) (method : Option Builtin) (v : Val) (name : Text) (args : List Val) (at : Span)
+      → texted S name (methods_of S v) ≡ None → builtin_of name ≡ method → S.program ≡ program → CallsBuiltin N program method v args at d n n' l l' h h' o
+      → At S N start l h (invoke S v name args None at k sc d n) → Came S N start l' h' o k sc d n'
+  calls_builtin l l' h h' k sc d n n' o program method v name args at none number e f a =
       f name number S start k sc e (same a (by_table S v name args None at k sc d n none ∙ ap (λ P. answered S (deed P v name args None) None at k sc d n) e))
 
   -- and as an assignment
-  pub stores_builtin : (l : Log) (h h' : Private) (k : List Cont) (sc : Scope) (d n n' : ℕ) (o : Outcome) (program : Program) (v : Val) (name : Text) (args : List Val) (at : Span)
-      → texted S name (methods_of S v) ≡ None → S.program ≡ program → Comes N (storing (deed program v name args None) args at) program d n n' l l h h' o
-      → At S N start l h (invoke S v name args None at (Then (Instead (last_value S args)) ∷ k) sc d n) → Came S N start l h' o k sc d n'
-  stores_builtin l h h' k sc d n n' o program v name args at none e f a =
+  pub stores_builtin : (l l' : Log) (h h' : Private) (k : List Cont) (sc : Scope) (d n n' : ℕ) (o : Outcome) (program : Program) (v : Val) (name : Text) (args : List Val) (at : Span)
+      → texted S name (methods_of S v) ≡ None → S.program ≡ program → Comes N (storing (deed program v name args None) args at) program d n n' l l' h h' o
+      → At S N start l h (invoke S v name args None at (Then (Instead (last_value S args)) ∷ k) sc d n) → Came S N start l' h' o k sc d n'
+  stores_builtin l l' h h' k sc d n n' o program v name args at none e f a =
       let behind = Then (Instead (last_value S args)) ∷ k in
       f S start k sc e (same a (by_table S v name args None at behind sc d n none ∙ ap (λ P. answered S (deed P v name args None) None at behind sc d n) e))
 
   -- a value is written to an element
-  pub writes_element : (l : Log) (h h' : Private) (k : List Cont) (sc : Scope) (d n n' : ℕ) (o : Outcome) (program : Program) (v w index : Val) (at : Span)
-      → texted S (codes "[]=") (methods_of S v) ≡ None → S.program ≡ program → Comes N (writing_element w v index at) program d n n' l l h h' o
-      → At S N start l h (write_place S w (OfElement v index) at k sc d n) → Came S N start l h' o k sc d n'
-  writes_element l h h' k sc d n n' o program v w index at none e f a =
+  pub writes_element : (l l' : Log) (h h' : Private) (k : List Cont) (sc : Scope) (d n n' : ℕ) (o : Outcome) (program : Program) (v w index : Val) (at : Span)
+      → texted S (codes "[]=") (methods_of S v) ≡ None → S.program ≡ program → Comes N (writing_element w v index at) program d n n' l l' h h' o
+      → At S N start l h (write_place S w (OfElement v index) at k sc d n) → Came S N start l' h' o k sc d n'
+  writes_element l l' h h' k sc d n n' o program v w index at none e f a =
       f S start k sc e (same a (by_table S v (codes "[]=") (index ∷ w ∷ []) None at (Then (Instead w) ∷ k) sc d n none))
 
 none_is : {A : Type 0} (o : Option A) → is_none o ≡ true → o ≡ None
@@ -58,6 +58,7 @@ module _ (S : Script) where
   named_so : (class : BuiltinClass) (args : List Val) (at : Span) (k : List Cont) (sc : Scope) (d n : ℕ) → create_builtin S (class_text class) args at k sc d n ≡ building class args at S k sc d n
   named_so builtin_class.Array args at k sc d n = refl
   named_so builtin_class.Hash args at k sc d n = refl
+  named_so builtin_class.Mutex args at k sc d n = refl
 
   -- a new thing of a class that is built in
   pub built_from : (class : BuiltinClass) (name : NameId) (args : List Val) (at : Span) (k : List Cont) (sc : Scope) (d n : ℕ) → is_builtin S class name ≡ true

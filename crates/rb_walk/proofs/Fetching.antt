@@ -45,8 +45,8 @@ pub fetches_reader : (script : CodeScript) (me : Val) (c : Code) (room : List He
     → c ≡ code.Send method name receiver args at → args ≡ [] → IsHeld receiver room v → IsReader script v name object field place → HasInteger own object field n
     → Fetches script me 3 c room own n
 fetches_reader script me c room own method name receiver args at v object field place n is none held r has = λ S N names size d left start log k st f len more deep a.
-    let asks : Asks N (me_of (Some object)) (GetField field) place (left - 3) log own own (Gave (Int n)) = λ S' start' k' sc' d' b. asked_reply S' N start' log own own (record { sort = object.sort; id = object.id }) (GetField field) (Value (Int n)) place k' sc' d' (left - 3) has.there has.gives has.stays b in
-    evaluates_reader S N start own own log k me names size d left room c method name receiver args at v (me_of (Some object)) r.method field place (Gave (Int n))
+    let asks : Asks N (me_of (Some object)) (GetField field) place (left - 3) log log own own (Gave (Int n)) = λ S' start' k' sc' d' b. asked_reply S' N start' log own own (record { sort = object.sort; id = object.id }) (GetField field) (Value (Int n)) place k' sc' d' (left - 3) has.there has.gives has.stays b in
+    evaluates_reader S N start own own log log k me names size d left room c method name receiver args at v (me_of (Some object)) r.method field place (Gave (Int n))
     is none r.me (r.finds S st) r.reads f len more deep held asks refl a
 
 -- a leaf, and an operation over two leaves

@@ -202,9 +202,9 @@ module _ (S : Script) (N : ℕ) (start : State) where
       → Stands S N start l own (On (Give arg) (Then (Argument (OnReceiver (me_of (Some thing)) (text_of S name) None) [] [] at) ∷ k) sc d n) → Came S N start l own (Gave v) k sc d n
   asks_thing l own k sc d n method name at thing arg v number unnamed is a =
       let to = me_of (Some thing) in
-      let answers : CallsBuiltin N S.program method to (arg ∷ []) at d n n l own own (Gave v) = λ text e T begun waits s same_program b.
+      let answers : CallsBuiltin N S.program method to (arg ∷ []) at d n n l l own own (Gave v) = λ text e T begun waits s same_program b.
       asked_reply T N begun l own own (thing_of thing) is.act (reply.Value v) at waits s d n is.there is.gives is.stays (rw (is.asked S.program text e) at b) in
-      calls_builtin S N start l own own k sc d n n (Gave v) S.program method to (text_of S name) (arg ∷ []) at (unnamed S (text_of S name)) number refl answers (on _ (on _ a refl) refl)
+      calls_builtin S N start l l own own k sc d n n (Gave v) S.program method to (text_of S name) (arg ∷ []) at (unnamed S (text_of S name)) number refl answers (on _ (on _ a refl) refl)
 
   pub reads_element : (l : Log) (own : Private) (k : List Cont) (me : Val) (names : List NameId) (size d left steps_first steps_second : ℕ) (room : List Held) (method : Option Builtin) (name : NameId) (first second : Code) (at : Span) (v : Val)
       → builtin_of (text_of S name) ≡ method → fits S first names size ≡ true → fits S second names size ≡ true → length names ≤ length room → steps_first ≤ 3 → 5 < left → d < 999

@@ -1,23 +1,25 @@
 -- What is asked of things, and new objects, beside the machine.
-use Rattle.std.proofs.Common.{◌≡◌, ℕ, true, List, [], ◌∷◌, length, Option, Some, None, refl, sym, ap, ◌∙◌, subst, arith}
+use Rattle.std.proofs.Common.{◌≡◌, ℕ, true, false, List, [], ◌∷◌, length, Option, Some, None, refl, sym, ap, ◌∙◌, subst, arith}
 use Rattle.std.specs.Prelude.{is_some, codes}
 use Rattle.std.specs.Option.{option_map, option_and_then}
 use Rattle.rb_tree.specs.declared.span.Span.{Span}
 use Rattle.rb_tree.specs.declared.span.NameId.{NameId}
+use Rattle.rb_tree.specs.declared.node.AssignOp.{AssignOp}
+use Rattle.rb_tree.specs.declared.node.Node.{Node}
 use Rattle.rb_tree.specs.declared.node.Method.{Method}
 use Rattle.rb_model.specs.declared.value.Ref.{Ref}
 use Rattle.rb_model.specs.declared.value.Sort.TheVariants as sort
 use Rattle.rb_model.specs.declared.act.Reply.{Reply as Answered}
 use Rattle.rb_model.specs.declared.fault.Fault.TheVariants.{ArgumentCount}
 use Rattle.rb_model.specs.Values.{Value as Val, To, Reference}
-use Rattle.rb_model.specs.Acts.{Act, Reply, SetField}
+use Rattle.rb_model.specs.Acts.{Act, Reply, GetField, SetField}
 use Rattle.rb_model.specs.Doing.{said}
 use Rattle.rb_model.specs.Things.{Object, gives_to}
 use Rattle.rb_model.specs.Private.{Private, Gives, Becomes, held, entered, next_id}
 use Rattle.rb_model.specs.Log.{Log}
 use Rattle.rb_machine.specs.Scopes.{Script, Scope}
-use Rattle.rb_machine.specs.Control.{State, On, Cont, Then, Give, Step, Instead, Creating}
-use Rattle.rb_machine.specs.Call.{ask, ask_of, initialize, initialized, enter, methods_of, methods_of_sort, texted, raised, perform, create, class_from}
+use Rattle.rb_machine.specs.Control.{State, On, Cont, Then, Give, Step, Instead, Creating, Place, OfField, OfGlobal, ReadOf}
+use Rattle.rb_machine.specs.Call.{ask, ask_of, read_place, initialize, initialized, enter, methods_of, methods_of_sort, texted, raised, perform, create, class_from}
 use Rattle.rb_machine.specs.Move.{answered, left_in}
 use Rattle.rb_machine.specs.Follows.{At, acts, makes}
 use Rattle.rb_code.specs.declared.scripted.CodeMethod.{CodeMethod}
@@ -29,7 +31,7 @@ use Rattle.rb_code.specs.Resolved.{is_made, method_fits}
 use Rattle.rb_code.specs.Stands.{StandsFor}
 use Rattle.rb_code.proofs.Dispatched.{first_is, at_fits}
 use Rattle.rb_walk.specs.Carries.{me_of}
-use Rattle.rb_walk.specs.Objects.{Fields, plainly, updating}
+use Rattle.rb_walk.specs.Objects.{IsVariable, of_self, of_all, Fields, plainly, globally, updating}
 use Rattle.rb_walk.proofs.Lists.{fst, snd, eq_test}
 use Rattle.rb_walk.proofs.Moves.{on, same}
 use Rattle.rb_walk.proofs.Frames.{enter_left}
@@ -38,6 +40,11 @@ use Rattle.rb_walk.proofs.Frames.{enter_left}
 pub there_is : {A : Type 0} (o : Option A) → is_some o ≡ true → (x : A) × (o ≡ Some x)
 there_is None h = absurd (cc)
 there_is (Some x) h = (x, refl)
+
+-- and what is not there where nothing is
+pub none_there : {A : Type 0} (o : Option A) → is_some o ≡ false → o ≡ None
+none_there None h = refl
+none_there (Some x) h = absurd (cc)
 
 module _ (S : Script) (N : ℕ) (start : State) where
   -- a private thing answers, and becomes what the act makes of it
@@ -54,11 +61,19 @@ module _ (S : Script) (N : ℕ) (start : State) where
   asked l h h' r act a at k sc d n there gave become come = asked_reply l h h' r act (said a) at k sc d n there gave become come
 
 module _ (S : Script) (N : ℕ) (start : State) (h : Private) where
-  -- a step that gives its value to an instance variable asks the object of `self`
-  pub fielded_by : {l : Log} {k : List Cont} {sc : Scope} {d n : ℕ} (name : NameId) (at : Span) (step : Step) → Fields name at step → (v : Val)
-      → At S N start l h (On (Give v) (Then step ∷ k) sc d n) → At S N start l h (ask_of sc.me (SetField name v) at (Then (Instead v) ∷ k) sc d n)
-  fielded_by name at step plainly v a = on _ a refl
-  fielded_by name at step updating v a = on _ a refl
+  -- a step that gives its value to a variable asks the thing that has it
+  pub fielded_by : {l : Log} {k : List Cont} {sc : Scope} {d n : ℕ} (owner : Val) (name : NameId) (at : Span) (step : Step) → Fields sc.me owner name at step → (v : Val)
+      → At S N start l h (On (Give v) (Then step ∷ k) sc d n) → At S N start l h (ask_of owner (SetField name v) at (Then (Instead v) ∷ k) sc d n)
+  fielded_by owner name at step (plainly e) v a = rw e (on _ a refl)
+  fielded_by owner name at step (globally e) v a = rw e (on _ a refl)
+  fielded_by owner name at step (updating place (of_self e)) v a = rw e (on _ a refl)
+  fielded_by owner name at step (updating place (of_all e)) v a = rw e (on _ a refl)
+
+-- a variable is read of the thing that has it
+pub read_so : (S : Script) (me owner : Val) (name : NameId) (place : Place) (op : AssignOp) (value : Node) (at : Span) (k : List Cont) (sc : Scope) (d n : ℕ) → sc.me ≡ me → IsVariable me owner name place
+    → read_place S place op value at k sc d n ≡ ask_of owner (GetField name) at (Then (ReadOf place op value at) ∷ k) sc d n
+read_so S me owner name place op value at k sc d n is (of_self e) = ap (λ v. ask_of v (GetField name) at (Then (ReadOf (OfField name) op value at) ∷ k) sc d n) (is ∙ sym e)
+read_so S me owner name place op value at k sc d n is (of_all e) = ap (λ v. ask_of v (GetField name) at (Then (ReadOf (OfGlobal name) op value at) ∷ k) sc d n) (sym e)
 
 -- the number of a class is that of its name
 number_is : (o : Option ℕ) (class : ℕ) → is_at o class ≡ true → o ≡ Some class

@@ -53,6 +53,10 @@ pub target_field : (S : Script) (name : NameId) (o : AssignOp) (value : Node) (a
     → begin_target S (out-Target (target.Field name)) o value at k sc d n ≡ begin_target S (node.«Target::Field» name) o value at k sc d n
 target_field S name o value at k sc d n = let e : out-Target (target.Field name) ≡ node.«Target::Field» name = search (rules, the_lemmas) in ap (λ t. begin_target S t o value at k sc d n) e
 
+pub target_global : (S : Script) (name : NameId) (o : AssignOp) (value : Node) (at : Span) (k : List Cont) (sc : Scope) (d n : ℕ)
+    → begin_target S (out-Target (target.Global name)) o value at k sc d n ≡ begin_target S (node.«Target::Global» name) o value at k sc d n
+target_global S name o value at k sc d n = let e : out-Target (target.Global name) ≡ node.«Target::Global» name = search (rules, the_lemmas) in ap (λ t. begin_target S t o value at k sc d n) e
+
 pub target_element : (S : Script) (receiver index : Node) (o : AssignOp) (value : Node) (at : Span) (k : List Cont) (sc : Scope) (d n : ℕ)
     → begin_target S (out-Target (target.Index receiver index)) o value at k sc d n ≡ begin_target S (node.Index receiver index) o value at k sc d n
 target_element S receiver index o value at k sc d n = let e : out-Target (target.Index receiver index) ≡ node.Index receiver index = search (rules, the_lemmas) in ap (λ t. begin_target S t o value at k sc d n) e

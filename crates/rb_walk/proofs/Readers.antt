@@ -89,47 +89,47 @@ module _ (S : Script) (N : ℕ) (start : State) (h : Private) where
 
 module _ (S : Script) (N : ℕ) (start : State) (h h' : Private) where
   -- a method that only reads a variable is entered
-  pub enters_reader : (l : Log) (k : List Cont) (sc : Scope) (d n : ℕ) (v : Val) (m : CodeMethod) (field : NameId) (place at : Span) (o : Outcome)
-      → Reads m field place → 0 < n → d < 1000 → Asks N v (GetField field) place (n - 1) l h h' o
+  pub enters_reader : (l l' : Log) (k : List Cont) (sc : Scope) (d n : ℕ) (v : Val) (m : CodeMethod) (field : NameId) (place at : Span) (o : Outcome)
+      → Reads m field place → 0 < n → d < 1000 → Asks N v (GetField field) place (n - 1) l l' h h' o
       → At S N start l h (enter S (erase_method m) v [] at k sc d n)
-      → Came S N start l h' (call_exit o) k sc d (n - 1)
-  enters_reader l k sc d n v m field place at o r more deep asks a =
+      → Came S N start l' h' (call_exit o) k sc d (n - 1)
+  enters_reader l l' k sc d n v m field place at o r more deep asks a =
       let e1 = entered_at S N start h l k sc d n v m field place at r more deep a in
       let e2 = asks S start (Under d ∷ Then (Rest []) ∷ Frame sc ∷ k) (callee S N start h v m) (d + 1) e1 in
-      called S N start h' o l sc k (callee S N start h v m) d (n - 1)
-      (rested S N start h' o l (Frame sc ∷ k) (callee S N start h v m) d (n - 1)
-      (left S N start h' l o (Then (Rest []) ∷ Frame sc ∷ k) (callee S N start h v m) d (d + 1) (n - 1) e2))
+      called S N start h' o l' sc k (callee S N start h v m) d (n - 1)
+      (rested S N start h' o l' (Frame sc ∷ k) (callee S N start h v m) d (n - 1)
+      (left S N start h' l' o (Then (Rest []) ∷ Frame sc ∷ k) (callee S N start h v m) d (d + 1) (n - 1) e2))
 
   -- it is sent to a local
-  pub sends_reader : (l : Log) (k : List Cont) (me : Val) (names : List NameId) (size d n : ℕ) (room : List Held) (name : NameId) (receiver : Code) (at : Span) (v to : Val) (m : CodeMethod) (field : NameId) (place : Span) (o : Outcome)
+  pub sends_reader : (l l' : Log) (k : List Cont) (me : Val) (names : List NameId) (size d n : ℕ) (room : List Held) (name : NameId) (receiver : Code) (at : Span) (v to : Val) (m : CodeMethod) (field : NameId) (place : Span) (o : Outcome)
       → v ≡ to → method_for S v name ≡ Some (erase_method m) → Reads m field place → fits S receiver names size ≡ true → length names ≤ length room → 1 < n → d < 1000
-      → IsHeld receiver room v → Asks N to (GetField field) place (n - 2) l h h' o
+      → IsHeld receiver room v → Asks N to (GetField field) place (n - 2) l l' h h' o
       → At S N start l h (On (Eval (erase receiver)) (Then (ReceiverOf (text_of S name) [] None at) ∷ k) (scope_of me names room) d n)
-      → Came S N start l h' (call_exit o) k (scope_of me names room) d (n - 2)
-  sends_reader l k me names size d n room name receiver at v to m field place o object finds r f len more deep is asks a =
+      → Came S N start l' h' (call_exit o) k (scope_of me names room) d (n - 2)
+  sends_reader l l' k me names size d n room name receiver at v to m field place o object finds r f len more deep is asks a =
       let sc = scope_of me names room in
       let e1 = is S N names size d n start h l (Then (ReceiverOf (text_of S name) [] None at) ∷ k) me f len (omega (arith, more)) deep a in
       let twice : n - 1 - 1 ≡ n - 2 = omega arith in
       let e2 = same (on _ (on _ e1 refl) refl) (by_receiver S v to (text_of S name) (erase_method m) [] at k sc d (n - 1) finds object) in
-      let asked : Asks N to (GetField field) place (n - 1 - 1) l h h' o = rw twice asks in
-      rw twice at (enters_reader l k sc d (n - 1) to m field place at o r (omega (arith, more)) deep asked e2)
+      let asked : Asks N to (GetField field) place (n - 1 - 1) l l' h h' o = rw twice asks in
+      rw twice at (enters_reader l l' k sc d (n - 1) to m field place at o r (omega (arith, more)) deep asked e2)
 
   -- and where the code that sends it is evaluated
-  pub evaluates_reader : (l : Log) (k : List Cont) (me : Val) (names : List NameId) (size d n : ℕ) (room : List Held) (c : Code) (method : Option Builtin) (name : NameId) (receiver : Code) (args : List Code) (at : Span) (v to : Val) (m : CodeMethod) (field : NameId) (place : Span) (o : Outcome)
+  pub evaluates_reader : (l l' : Log) (k : List Cont) (me : Val) (names : List NameId) (size d n : ℕ) (room : List Held) (c : Code) (method : Option Builtin) (name : NameId) (receiver : Code) (args : List Code) (at : Span) (v to : Val) (m : CodeMethod) (field : NameId) (place : Span) (o : Outcome)
       → c ≡ code.Send method name receiver args at → args ≡ []
       → v ≡ to → method_for S v name ≡ Some (erase_method m) → Reads m field place → fits S c names size ≡ true → length names ≤ length room → 2 < n → d < 999
-      → IsHeld receiver room v → Asks N to (GetField field) place (n - 3) l h h' o → call_exit o ≡ o
+      → IsHeld receiver room v → Asks N to (GetField field) place (n - 3) l l' h h' o → call_exit o ≡ o
       → At S N start l h (On (Eval (erase c)) k (scope_of me names room) d n)
-      → Came S N start l h' o k (scope_of me names room) d (n - 3)
-  evaluates_reader l k me names size d n room c method name receiver args at v to m field place o is none object finds r f len more deep held asks exit a =
+      → Came S N start l' h' o k (scope_of me names room) d (n - 3)
+  evaluates_reader l l' k me names size d n room c method name receiver args at v to m field place o is none object finds r f len more deep held asks exit a =
       let sc = scope_of me names room in
       let s = sym (ap (λ d. fits S d names size) is ∙ fits-send S names size method name receiver args at) ∙ f in
       let b = begins _ _ (Under d ∷ k) _ _ _ (shows-send c method name receiver args at is) (counts (omega (arith, more)) (omega (arith, deep)) a) in
       let sent = same b (ap (λ args. On (Eval (erase receiver)) (Then (ReceiverOf (text_of S name) (map erase args) None at) ∷ Under d ∷ k) sc (d + 1) (n - 1)) none) in
       let three : n - 1 - 2 ≡ n - 3 = omega arith in
-      let asked : Asks N to (GetField field) place (n - 1 - 2) l h h' o = rw three asks in
-      let come = sends_reader l (Under d ∷ k) me names size (d + 1) (n - 1) room name receiver at v to m field place o object finds r (fst _ _ (snd _ _ s)) len (omega (arith, more)) (omega (arith, deep)) held asked sent in
-      left S N start h' l o k sc d (d + 1) (n - 3) (rw (three, exit) at come)
+      let asked : Asks N to (GetField field) place (n - 1 - 2) l l' h h' o = rw three asks in
+      let come = sends_reader l l' (Under d ∷ k) me names size (d + 1) (n - 1) room name receiver at v to m field place o object finds r (fst _ _ (snd _ _ s)) len (omega (arith, more)) (omega (arith, deep)) held asked sent in
+      left S N start h' l' o k sc d (d + 1) (n - 3) (rw (three, exit) at come)
 
 -- what is fetched is what a call gives
 pub fetched_exit : (r : Result Held Registers) (v : Held) (l : Leave) → IfErr r (λ c. IsOver (outcome c v l)) → call_exit (fetched r v l) ≡ fetched r v l
@@ -149,11 +149,11 @@ module _ (S : Script) (N : ℕ) (start : State) (h h' : Private) where
       parameter_is r.name names (w ∷ []) 0 w (sym (fits-set_field S names m.size field (code.Local 0 r.name r.from) place ∙ fits-local S names m.size 0 r.name r.from) ∙ f) refl
 
   -- a method that only gives its argument to a variable is entered
-  pub enters_writer : (l : Log) (k : List Cont) (sc : Scope) (d n : ℕ) (v w : Val) (m : CodeMethod) (field : NameId) (place at : Span) (o : Outcome)
-      → Writes m field place → method_fits S m ≡ true → 1 < n → d < 999 → WritesField N v field w place (n - 2) l h h' o
+  pub enters_writer : (l l' : Log) (k : List Cont) (sc : Scope) (d n : ℕ) (v w : Val) (m : CodeMethod) (field : NameId) (place at : Span) (o : Outcome)
+      → Writes m field place → method_fits S m ≡ true → 1 < n → d < 999 → WritesField N v field w place (n - 2) l l' h h' o
       → At S N start l h (enter S (erase_method m) v (w ∷ []) at k sc d n)
-      → Came S N start l h' (call_exit o) k sc d (n - 2)
-  enters_writer l k sc d n v w m field place at o r right more deep writes a =
+      → Came S N start l' h' (call_exit o) k sc d (n - 2)
+  enters_writer l l' k sc d n v w m field place at o r right more deep writes a =
       let inner = setter v m w in
       let rest = Under d ∷ Then (Rest []) ∷ Frame sc ∷ k in
       let twice : n - 1 - 1 ≡ n - 2 = omega arith in
@@ -163,8 +163,8 @@ module _ (S : Script) (N : ℕ) (start : State) (h h' : Private) where
       let e4 = begins (erase set) (node.SetField field (erase (code.Local 0 r.name r.from)) place) rest inner (d + 1) (n - 1) (shows-set_field set field (code.Local 0 r.name r.from) place refl) (counts (omega (arith, more)) (omega (arith, deep)) (on _ e3 refl)) in
       let e5 = begins (erase (code.Local 0 r.name r.from)) (node.«Node::Local» r.name r.from) (Under (d + 1) ∷ Then (FieldTo field place) ∷ rest) inner (d + 1 + 1) (n - 1 - 1) (shows-local (code.Local 0 r.name r.from) 0 r.name r.from refl) (counts (omega (arith, more)) (omega (arith, deep)) e4) in
       let e6 = gives w (argument_is m field place w r right) e5 in
-      let e7 = fielded_by S N start h field place (FieldTo field place) plainly w (on (On (Give w) (Then (FieldTo field place) ∷ rest) inner (d + 1) (n - 1 - 1)) e6 refl) in
+      let e7 = fielded_by S N start h v field place (FieldTo field place) (plainly refl) w (on (On (Give w) (Then (FieldTo field place) ∷ rest) inner (d + 1) (n - 1 - 1)) e6 refl) in
       let e8 = writes S start rest inner (d + 1) (rw twice at e7) in
-      called S N start h' o l sc k inner d (n - 2)
-      (rested S N start h' o l (Frame sc ∷ k) inner d (n - 2)
-      (left S N start h' l o (Then (Rest []) ∷ Frame sc ∷ k) inner d (d + 1) (n - 2) e8))
+      called S N start h' o l' sc k inner d (n - 2)
+      (rested S N start h' o l' (Frame sc ∷ k) inner d (n - 2)
+      (left S N start h' l' o (Then (Rest []) ∷ Frame sc ∷ k) inner d (d + 1) (n - 2) e8))

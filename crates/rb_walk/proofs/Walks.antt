@@ -1,5 +1,6 @@
 -- Iterations of blocks over arrays and hashes, and calls that come to them.
-use Rattle.std.proofs.Common.{◌≡◌, ℕ, zero, suc, ◌+◌, ◌-◌, ◌<◌, ◌≤◌, true, false, cond, List, [], ◌∷◌, ◌++◌, length, map, drop, take, Some, refl, sym, ap, ◌∙◌, subst, arith}
+use Rattle.std.proofs.Common.{◌≡◌, ℕ, zero, suc, ◌+◌, ◌-◌, ◌<◌, ◌≤◌, Bool, true, false, nat_lt, cond, List, [], ◌∷◌, ◌++◌, length, map, drop, take, Some, refl, sym, ap, ◌∙◌, subst, arith}
+use Rattle.std.proofs.lemmas.Bool.Decides.{nat_tests}
 use Rattle.std.specs.Prelude.{pos, slice_get, slice_set}
 use Rattle.rb_tree.specs.declared.span.Span.{Span}
 use Rattle.rb_tree.specs.declared.span.NameId.{NameId}
@@ -38,7 +39,7 @@ use Rattle.rb_walk.specs.declared.rounds.Iterations.TheVariants as iterations
 use Rattle.rb_walk.specs.Outcome.{Outcome, Gave, Left, Over, Came}
 use Rattle.rb_walk.specs.Carries.{Lies, scope_of, goes_on}
 use Rattle.rb_walk.specs.Walks.{Counts, OpensBy, slot_value, value_on, walking, second_value}
-use Rattle.rb_walk.proofs.Lists.{len_map, len_set, get_map, get_set, get_set_same, get_drop}
+use Rattle.rb_walk.proofs.Lists.{len_map, len_set, get_map, get_set, get_set_same, get_drop, set_map}
 use Rattle.rb_walk.proofs.Moves.{on, same}
 use Rattle.rb_walk.proofs.Rooms.{rooms_agree, room_length}
 use Rattle.rb_walk.proofs.Turns.{starts_at, counts_own, same_start, back_is, block_done}
@@ -110,10 +111,25 @@ stays_below old xs from slot v s h i q = get_set xs slot i v (λ e. omega (arith
 pub stays_above : (old xs : List Held) (end slot : ℕ) (v : Held) → slot < end → ((i : ℕ) → end ≤ i → slice_get xs i ≡ slice_get old i) → (i : ℕ) → end ≤ i → slice_get (slice_set xs slot v) i ≡ slice_get old i
 stays_above old xs end slot v s h i q = get_set xs slot i v (λ e. omega (arith, e, q, s)) ∙ h i q
 
+-- a slot more of a frame has its value
+laid_by : (t : Bool) (room : List Held) (slot : ℕ) (w : Held) (vs : List Val) (i : ℕ) → nat_lt i slot ≡ t → slot < length room → plain w ≡ slot_value vs slot
+    → ((j : ℕ) → j < slot → slice_get (map plain room) j ≡ Some (slot_value vs j)) → i < slot + 1 → slice_get (map plain (slice_set room slot w)) i ≡ Some (slot_value vs i)
+laid_by true room slot w vs i t l e h q =
+    let below : i < slot = grind (arith, nat_tests) in
+    ap (λ xs. slice_get xs i) (set_map plain room slot w) ∙ (get_set (map plain room) slot i (plain w) (λ z. omega (arith, z, below)) ∙ h i below)
+laid_by false room slot w vs i t l e h q =
+    let is : i ≡ slot = grind (arith, nat_tests) in
+    let long : slot < length (map plain room) = omega (arith, l, len_map plain room) in
+    rw is (ap (λ xs. slice_get xs slot) (set_map plain room slot w) ∙ (get_set_same (map plain room) slot (plain w) long ∙ ap Some e))
+
+pub laid_more : (room : List Held) (slot : ℕ) (w : Held) (vs : List Val) → slot < length room → plain w ≡ slot_value vs slot → ((j : ℕ) → j < slot → slice_get (map plain room) j ≡ Some (slot_value vs j))
+    → (i : ℕ) → i < slot + 1 → slice_get (map plain (slice_set room slot w)) i ≡ Some (slot_value vs i)
+laid_more room slot w vs l e h i q = laid_by (nat_lt i slot) room slot w vs i refl l e h q
+
 -- ---- an iteration with any values
 
 -- the scope of a block, where its slots have them, and nil
-slots_open : (names own : List NameId) (before after : List Held) (values : List Val) → length names ≤ length after
+pub slots_open : (names own : List NameId) (before after : List Held) (values : List Val) → length names ≤ length after
     → ((i : ℕ) → i < length names → slice_get after i ≡ slice_get before i)
     → ((i : ℕ) → i < length own → slice_get (map plain after) (length names + i) ≡ Some (slot_value values i))
     → bound (names ++ own) (map plain after) ≡ bound names (map plain before) ++ fresh own values
@@ -294,6 +310,7 @@ pub counted : (N : ℕ) (at : Span) (left : ℕ) (l : Log) (i : Iterations) (val
 counted N at left l (iterations.Counting r) value leave turns c = ap Loops c
 counted N at left l (iterations.Elements array p) value leave turns c = absurd c
 counted N at left l (iterations.Pairs hash) value leave turns c = absurd c
+counted N at left l (iterations.Owned mutex) value leave turns c = absurd c
 counted N at left l (iterations.Done c) value leave turns done = λ S start h b k sc d a.
     rw done.1 (block_done S N start h l (Loops turns) turns done.0 b at k sc d left refl done.2 a)
 

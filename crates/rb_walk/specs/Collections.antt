@@ -14,7 +14,7 @@ use Rattle.rb_machine.specs.Scopes.{Script, Scope}
 use Rattle.rb_machine.specs.Control.{State, Cont, On, Making, Reading, Drafting, Use, ForText, Draft, Coming, Between, OfValue, OfPair, Give, Then, Instead, Inspecting}
 use Rattle.rb_machine.specs.Methods.{Answer, deed}
 use Rattle.rb_model.specs.Acts.{KPut, Put}
-use Rattle.rb_machine.specs.Call.{ask, answered, new_array, new_hash, fill, pair_up, pairs_of, last_value, give_shown, write, value_of_p}
+use Rattle.rb_machine.specs.Call.{ask, answered, new_array, new_hash, new_mutex, fill, pair_up, pairs_of, last_value, give_shown, write, value_of_p}
 use Rattle.rb_machine.specs.Move.{used}
 use Rattle.rb_machine.specs.Follows.{At}
 use Rattle.rb_builtin.specs.declared.builtin.Builtin.{Builtin}
@@ -55,10 +55,11 @@ pairing vs at S k sc d left = pair_up S (pairs_of S vs) at k sc d left
 abbrev pub filling : (count value : Val) → Span → Script → List Cont → Scope → ℕ → ℕ → State
 filling count v at S k sc d left = fill S count v at k sc d left
 
--- a new array, or a new hash
+-- a new array, hash or mutex
 abbrev pub building : BuiltinClass → List Val → Span → Script → List Cont → Scope → ℕ → ℕ → State
 building builtin_class.Array args at S k sc d left = new_array S args at k sc d left
 building builtin_class.Hash args at S k sc d left = new_hash S args at k sc d left
+building builtin_class.Mutex args at S k sc d left = new_mutex S args at k sc d left
 
 -- a value is written to an element by the built-in method of the receiver, and given on
 abbrev pub writing_element : Val → (receiver index : Val) → Span → Script → List Cont → Scope → ℕ → ℕ → State
@@ -82,24 +83,30 @@ abbrev pub storing : Answer → List Val → Span → Script → List Cont → S
 storing answer args at S k sc d left = answered S answer None at (Then (Instead (last_value S args)) ∷ k) sc d left
 
 -- the call of a built-in method of a value without a block comes out so
-abbrev pub CallsBuiltin : ℕ → Program → Option Builtin → Val → List Val → Span → (depth left left' : ℕ) → Log → (own own' : Private) → Outcome → Type 0
-CallsBuiltin N program method v args at depth left left' log own own' o =
-    (name : List ℕ) → builtin_of name ≡ method → Comes N (answering (deed program v name args None) at) program depth left left' log log own own' o
+abbrev pub CallsBuiltin : ℕ → Program → Option Builtin → Val → List Val → Span → (depth left left' : ℕ) → (log log' : Log) → (own own' : Private) → Outcome → Type 0
+CallsBuiltin N program method v args at depth left left' log log' own own' o =
+    (name : List ℕ) → builtin_of name ≡ method → Comes N (answering (deed program v name args None) at) program depth left left' log log' own own' o
 
 -- a collection is read by one copy, whatever for
-abbrev pub Reads : ℕ → Ref → Reply → (left : ℕ) → Log → (own own' : Private) → Type 0
-Reads N thing reply left log own own' =
+abbrev pub Reads : ℕ → Ref → Reply → (left : ℕ) → (log log' : Log) → (own own' : Private) → Type 0
+Reads N thing reply left log log' own own' =
     (purpose : Use) (at : Span) (S : Script) (start : State) (k : List Cont) (sc : Scope) (d : ℕ)
     → At S N start log own (On (Reading (record { sort = thing.sort; id = thing.id }) purpose at) k sc d left)
-    → At S N start log own' (used purpose (record { sort = thing.sort; id = thing.id }) reply at k sc d left)
+    → At S N start log' own' (used purpose (record { sort = thing.sort; id = thing.id }) reply at k sc d left)
+
+-- or the machine comes to the outcome in place of that
+abbrev pub ReadsNone : ℕ → Ref → (left : ℕ) → (log log' : Log) → (own own' : Private) → Outcome → Type 0
+ReadsNone N thing left log log' own own' o =
+    (purpose : Use) (at : Span) (S : Script) (start : State) (k : List Cont) (sc : Scope) (d : ℕ)
+    → At S N start log own (On (Reading (record { sort = thing.sort; id = thing.id }) purpose at) k sc d left) → Came S N start log' own' o k sc d left
 
 -- A collection is opened in a text that is made: the machine goes on with the text as it is then, or comes to the outcome.
-abbrev pub Opens : ℕ → Reference → (old new : Draft) → Span → (left : ℕ) → Log → (own own' : Private) → Registers → Outcome → Type 0
-Opens N thing old new at left log own own' r o =
+abbrev pub Opens : ℕ → Reference → (old new : Draft) → Span → (left : ℕ) → (log log' : Log) → (own own' : Private) → Registers → Outcome → Type 0
+Opens N thing old new at left log log' own own' r o =
     (S : Script) (start : State) (k : List Cont) (sc : Scope) (d : ℕ)
     → At S N start log own (On (Reading thing (ForText old) at) k sc d left)
-    → (is_left r ≡ true → Came S N start log own' o k sc d left)
-    × (is_left r ≡ false → At S N start log own' (On (Drafting new at) k sc d left))
+    → (is_left r ≡ true → Came S N start log' own' o k sc d left)
+    × (is_left r ≡ false → At S N start log' own' (On (Drafting new at) k sc d left))
 
 -- ---- texts of collections
 
@@ -127,12 +134,12 @@ abbrev pub work_of : Draft → ℕ
 work_of t = coming_work t.coming + length t.begun
 
 -- What a text needs is done, of which it then stands so: the machine goes on with it, or comes to the outcome.
-abbrev pub Advances : ℕ → Program → Want → (old new : Draft) → Span → (depth left left' : ℕ) → Log → (own own' : Private) → Registers → Outcome → Type 0
-Advances N program want old new at depth left left' log own own' r o =
+abbrev pub Advances : ℕ → Program → Want → (old new : Draft) → Span → (depth left left' : ℕ) → (log log' : Log) → (own own' : Private) → Registers → Outcome → Type 0
+Advances N program want old new at depth left left' log log' own own' r o =
     (t : Draft) (S : Script) (start : State) (k : List Cont) (sc : Scope) → S.program ≡ program → Wants program t want old
     → At S N start log own (On (Drafting t at) k sc depth left)
-    → (is_left r ≡ true → Came S N start log own' o k sc depth left')
-    × (is_left r ≡ false → At S N start log own' (On (Drafting new at) k sc depth left'))
+    → (is_left r ≡ true → Came S N start log' own' o k sc depth left')
+    × (is_left r ≡ false → At S N start log' own' (On (Drafting new at) k sc depth left'))
 
 -- and there is less to do then
 abbrev pub Shortens : Program → Want → (old new : Draft) → (left left' : ℕ) → Registers → Type 0
@@ -140,12 +147,12 @@ Shortens program want old new left left' r =
     (t : Draft) → Wants program t want old → is_left r ≡ false → 4 * left' + work_of new < 4 * left + work_of t
 
 -- `p` writes a value behind bytes: the machine goes on with the values that are left, or comes to the outcome.
-abbrev pub InspectsOne : ℕ → Program → Val → (old new : List ℕ) → Span → (depth left left' : ℕ) → Log → (own own' : Private) → Registers → Outcome → Type 0
-InspectsOne N program v old new at depth left left' log own own' r o =
+abbrev pub InspectsOne : ℕ → Program → Val → (old new : List ℕ) → Span → (depth left left' : ℕ) → (log log' : Log) → (own own' : Private) → Registers → Outcome → Type 0
+InspectsOne N program v old new at depth left left' log log' own own' r o =
     (all vs : List Val) (S : Script) (start : State) (k : List Cont) (sc : Scope) → S.program ≡ program
     → At S N start log own (write S (Inspecting all) old (v ∷ vs) at k sc depth left)
-    → (is_left r ≡ true → Came S N start log own' o k sc depth left')
-    × (is_left r ≡ false → At S N start log own' (write S (Inspecting all) new vs at k sc depth left'))
+    → (is_left r ≡ true → Came S N start log' own' o k sc depth left')
+    × (is_left r ≡ false → At S N start log' own' (write S (Inspecting all) new vs at k sc depth left'))
 
 -- a key of a hash gets a value, which is given on
 abbrev pub keeping : Reference → Val → Val → Span → Script → List Cont → Scope → ℕ → ℕ → State

@@ -3,9 +3,11 @@ pub mod Carries
 pub mod Methods
 pub mod Readers
 pub mod Objects
+pub mod Shared
 pub mod Gathering
 pub mod Collections
 pub mod Walks
+pub mod Owning
 pub mod Slots
 pub mod Texts
 pub mod Lines

@@ -12,7 +12,7 @@ use Rattle.rb_model.specs.Private.{Private}
 use Rattle.rb_machine.specs.Scopes.{Script, Scope}
 use Rattle.rb_machine.specs.Control.{State, Cont, On, Then, Turning, Turns, Counting, Walking, Walk, Each, WithIndex, Map, Select, WithElement}
 use Rattle.rb_machine.specs.Call.{answered}
-use Rattle.rb_machine.specs.Methods.{Answer, Loops, LoopsOver, EachPairOf, deed}
+use Rattle.rb_machine.specs.Methods.{Answer, Loops, LoopsOver, EachPairOf, Synchronizes, deed}
 use Rattle.rb_machine.specs.Turns.{start_turn, turned, finish}
 use Rattle.rb_machine.specs.Follows.{At}
 use Rattle.rb_builtin.specs.declared.builtin.Builtin.{Builtin}
@@ -45,6 +45,7 @@ abbrev pub OpensBy : Answer → ℕ → Span → ℕ → Log → Iterations → 
 OpensBy answer N at left log (iterations.Counting r) value leave = answer ≡ Loops (Counting r.first (r.last +ℤ pos 1) (Int r.answer))
 OpensBy answer N at left log (iterations.Elements array pass) value leave = answer ≡ LoopsOver (thing_of array) (walk_of pass)
 OpensBy answer N at left log (iterations.Pairs hash) value leave = answer ≡ EachPairOf (thing_of hash)
+OpensBy answer N at left log (iterations.Owned mutex) value leave = answer ≡ Synchronizes (thing_of mutex)
 OpensBy answer N at left log (iterations.Done came) value leave =
     (S : Script) (start : State) (h : Private) (b : Block) (k : List Cont) (sc : Scope) (d : ℕ)
     → At S N start log h (answered S answer (Some b) at k sc d left) → Came S N start log h (outcome came value leave) k sc d left
@@ -85,19 +86,19 @@ second_value pass.WithIndex index = Int (pos index)
 second_value pass index = Nil
 
 -- From where a walk over an array goes on, the machine is left, or it has the element at the next place.
-abbrev pub FindsElement : ℕ → Ref → (next : ℕ) → Span → (left : ℕ) → Log → (own own' : Private) → Registers → Outcome → Type 0
-FindsElement N array next at left log own own' r o =
+abbrev pub FindsElement : ℕ → Ref → (next : ℕ) → Span → (left : ℕ) → (log log' : Log) → (own own' : Private) → Registers → Outcome → Type 0
+FindsElement N array next at left log log' own own' r o =
     (walk : Walk) (block : Block) (S : Script) (start : State) (k : List Cont) (sc : Scope) (d : ℕ)
     → At S N start log own (On (Turning (Walking (thing_of array) next walk at) block) k sc d left)
-    → (is_left r ≡ true → Came S N start log own' o k sc d left)
-    × (is_left r ≡ false → Came S N start log own' o (Then (WithElement (thing_of array) next walk block at) ∷ k) sc d left)
+    → (is_left r ≡ true → Came S N start log' own' o k sc d left)
+    × (is_left r ≡ false → Came S N start log' own' o (Then (WithElement (thing_of array) next walk block at) ∷ k) sc d left)
 
 -- From there it answers what the walk made, since no element is left.
-abbrev pub FindsNone : ℕ → Ref → (next : ℕ) → Span → (left : ℕ) → Log → (own own' : Private) → Type 0
-FindsNone N array next at left log own own' =
+abbrev pub FindsNone : ℕ → Ref → (next : ℕ) → Span → (left : ℕ) → (log log' : Log) → (own own' : Private) → Type 0
+FindsNone N array next at left log log' own own' =
     (walk : Walk) (block : Block) (S : Script) (start : State) (k : List Cont) (sc : Scope) (d : ℕ)
     → At S N start log own (On (Turning (Walking (thing_of array) next walk at) block) k sc d left)
-    → At S N start log own' (finish (thing_of array) walk k sc d left)
+    → At S N start log' own' (finish (thing_of array) walk k sc d left)
 
 -- what a walk makes is answered
 abbrev pub finishing : Ref → Walk → Script → List Cont → Scope → ℕ → ℕ → State

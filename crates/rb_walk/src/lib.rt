@@ -4,6 +4,7 @@
 #![tactic(auto)]
 
 pub mod asked;
+pub mod bodies;
 pub mod bytes;
 pub mod came;
 pub mod dispatch;
@@ -14,6 +15,7 @@ pub mod live;
 pub mod questions;
 pub mod ready;
 pub mod rounds;
+pub mod shared;
 pub mod slots;
 pub mod target;
 

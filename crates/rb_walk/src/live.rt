@@ -8,10 +8,11 @@ ghost use Rattle.rb_model.specs.Acts as answer;
 ghost use Rattle.rb_model.specs.Doing.{doing, said, made, sort_of};
 ghost use Rattle.rb_model.specs.Immediates.{told_answer, list_answered, reference, taking, value_told};
 ghost use Rattle.rb_model.specs.Private.{Gives, Becomes, held, entered, next_id};
-ghost use Rattle.rb_model.specs.Log.{Answers, Print};
+ghost use Rattle.rb_model.specs.Log.{Answers, On, Print};
+ghost use Rattle.rb_model.specs.Outside.{IsServed, starting};
 
 use rb_model::{
-    Act, Answer, Id, Immediate, Make, Ref, Reply, SharedText, Side, ThreadStore, Value,
+    Act, Answer, Id, Immediate, Make, Ref, Reply, Served, SharedText, Side, ThreadStore, Value,
 };
 use rb_tree::NameId;
 use std::alloc::AllocError;
@@ -56,6 +57,29 @@ impl<O: ThreadStore + Drop> Live<O> {
         ensures private { O.private self.new ≡ O.private self.old }
     {
         self.store.print(step, text)
+    }
+
+    /// Asks something of a thing that is not private here, exactly where it answers `Done`.
+    pub fn ask(&mut self, step: u64, thing: Ref, act: Act) -> Served
+        requires { held (O.private self.old) thing.id ≡ None }
+        ensures { IsServed result step (On (reference thing) (doing act)) (O.log self.old) (O.log self.new) (O.private self.old) (O.private self.new) }
+    {
+        self.store.ask(step, thing, act)
+    }
+
+    /// Starts a thread, exactly where it answers `Done`.
+    pub fn start(&mut self, step: u64, body: u32, values: Vec<Value>) -> Served
+        ensures { IsServed result step (starting (O.private self.old) (O.log self.old) body values.items) (O.log self.old) (O.log self.new) (O.private self.old) (O.private self.new) }
+    {
+        self.store.start(step, body, values)
+    }
+
+    /// Lets others change what is fixed while a thread runs.
+    pub fn poll(&mut self)
+        ensures log { O.log self.new ≡ O.log self.old }
+        ensures private { O.private self.new ≡ O.private self.old }
+    {
+        self.store.poll();
     }
 
     /// Makes a thing, under the next number.

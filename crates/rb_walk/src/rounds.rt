@@ -27,6 +27,8 @@ pub enum Iterations {
     Elements(Ref, Pass),
     /// The pairs of a hash.
     Pairs(Ref),
+    /// One, while a mutex is owned.
+    Owned(Ref),
     /// There are none: the call is done.
     Done(Came),
 }

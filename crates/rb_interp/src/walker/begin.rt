@@ -274,7 +274,6 @@ impl<'p, O: ThreadStore + Drop> Walker<'p, O> {
         ensures base { self.new.base ≡ self.old.base }
         ensures context { self.new.context ≡ self.old.context }
         ensures less { self.new.left ≤ self.old.left }
-        ensures log { O.log self.new.store ≡ O.log self.old.store }
         ensures came { IfSome result (λ came. SendsTo receiver.now method name at self.old self.new room.now depth came) }
     {
         if !args.is_empty() {
@@ -302,7 +301,6 @@ impl<'p, O: ThreadStore + Drop> Walker<'p, O> {
         ensures base { self.new.base ≡ self.old.base }
         ensures context { self.new.context ≡ self.old.context }
         ensures less { self.new.left ≤ self.old.left }
-        ensures log { O.log self.new.store ≡ O.log self.old.store }
         ensures over { IfSome result (λ sent. IfErr sent (λ came. IsOver (outcome came self.new.value self.new.leave))) }
         ensures came { IfSome result (λ sent. EvaluatesTo code.now self.old self.new room.now depth (fetched sent self.new.value self.new.leave)) }
     {
@@ -338,7 +336,6 @@ impl<'p, O: ThreadStore + Drop> Walker<'p, O> {
         ensures base { self.new.base ≡ self.old.base }
         ensures context { self.new.context ≡ self.old.context }
         ensures less { self.new.left ≤ self.old.left }
-        ensures log { O.log self.new.store ≡ O.log self.old.store }
         ensures came { IfSome result (λ came. SendsTo receiver.now method name at self.old self.new room.now depth came) }
     {
         if !args.is_empty() {
@@ -556,7 +553,7 @@ impl<'p, O: ThreadStore + Drop> Walker<'p, O> {
     {
         match code {
             Code::SetField(name, value, at) => {
-                self.set_field(*name, value.get(), *at, depth, room)
+                self.set_field(self.context.me, *name, value.get(), *at, depth, room)
             }
             _ => self.over(Cut::Memory),
         }
@@ -582,7 +579,10 @@ impl<'p, O: ThreadStore + Drop> Walker<'p, O> {
                 let value = value.get();
                 match self.added(*name, *op, value, depth, room) {
                     Some(sum) => Came::Int(sum),
-                    None => self.update_field(*name, *op, value, *at, depth, room),
+                    None => {
+                        let me = self.context.me;
+                        self.update_field(me, *name, *op, value, *at, depth, room)
+                    }
                 }
             }
             _ => self.over(Cut::Memory),
@@ -708,8 +708,17 @@ impl<'p, O: ThreadStore + Drop> Walker<'p, O> {
             Code::NewBuiltin(class, name, args, at) => {
                 self.create_builtin(*class, *name, args.as_slice(), *at, depth, room)
             }
-            // No accepted script starts a thread yet.
-            Code::Start(_, _, _, _) => self.over(Cut::Memory),
+            Code::Start(args, body, slots, at) => self.begin_thread(
+                args.as_slice(),
+                *body,
+                slots.as_slice(),
+                *at,
+                depth,
+                room,
+            ),
+            Code::Global(_, _) => self.begin_global(code, depth, room),
+            Code::SetGlobal(_, _, _) => self.begin_global(code, depth, room),
+            Code::UpdateGlobal(_, _, _, _) => self.begin_global(code, depth, room),
             Code::While(condition, body, _) => {
                 self.repeat(condition.get(), body.as_slice(), depth, room)
             }

@@ -469,6 +469,7 @@ impl<'p, O: ThreadStore + Drop> Walker<'p, O> {
                 self.walk_elements(array, pass, block, at, depth, room)
             }
             Iterations::Pairs(hash) => self.walk_pairs(hash, block, at, depth, room),
+            Iterations::Owned(mutex) => self.synchronize(mutex, block, at, depth, room),
             Iterations::Done(came) => came,
         }
     }

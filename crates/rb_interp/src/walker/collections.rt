@@ -4,15 +4,14 @@ ghost use Rattle.std.specs.Prelude.{◌≡◌, ◌≤◌, ◌∷◌, [], List, N
 ghost use Rattle.rb_tree.specs.declared.span.NameId.{NameId};
 ghost use Rattle.rb_model.specs.Values.{Int, To, plain, same, truth};
 ghost use Rattle.rb_model.specs.Things.{Elements};
-ghost use Rattle.rb_model.specs.Ends.{Memory};
 ghost use Rattle.rb_model.specs.Doing.{doing, made, said};
 ghost use Rattle.rb_machine.specs.Methods as table;
 ghost use Rattle.rb_machine.specs.Methods.{deed};
 ghost use Rattle.rb_builtin.specs.Deeds.{answer_of, step_of, thing_of, use_of};
-ghost use Rattle.rb_walk.specs.Outcome.{Gave, Over, is_left, outcome, value_of};
+ghost use Rattle.rb_walk.specs.Outcome.{Gave, IsOver, is_left, outcome, value_of};
 ghost use Rattle.rb_walk.specs.Methods.{HasNone};
 ghost use Rattle.rb_walk.specs.Carries.{me_of};
-ghost use Rattle.rb_walk.specs.Collections.{Reads, answering, building, filling, keeping, making, pairing, putting, writing_element};
+ghost use Rattle.rb_walk.specs.Collections.{Reads, ReadsNone, answering, building, filling, keeping, making, pairing, putting, writing_element};
 
 use super::Walker;
 use rb_builtin::{Behind, Builtin, Deed, Purpose, deed_of};
@@ -114,22 +113,22 @@ impl<'p, O: ThreadStore + Drop> Walker<'p, O> {
             (BuiltinClass::Array, [count]) => self.fill(count, &Value::Nil, at),
             (BuiltinClass::Array, [count, value]) => self.fill(count, value, at),
             (BuiltinClass::Hash, []) => self.make(Make::Pairs(Vec::new(self.context.alloc))),
+            (BuiltinClass::Mutex, []) => self.make(Make::Mutex),
             _ => self.raise(Fault::ArgumentCount, at),
         }
     }
 
-    /// Reads a collection by one copy; `Err` is what came where memory is wanted.
+    /// Reads a collection by one copy. Where none comes the thread ends.
     pub(super) fn copied(&mut self, thing: Ref) -> Result<Reply, Came>
         ensures base { self.new.base ≡ self.old.base }
         ensures left { self.new.left ≡ self.old.left }
         ensures context { self.new.context ≡ self.old.context }
-        ensures log { O.log self.new.store ≡ O.log self.old.store }
-        ensures reads { IfOk result (λ reply. Reads self.old.context.steps thing (said reply) self.old.left (O.log self.old.store) (O.private self.old.store) (O.private self.new.store)) }
-        ensures wants { IfErr result (λ came. outcome came self.new.value self.new.leave ≡ Over Memory) }
-        ensures private { IfErr result (λ came. O.private self.new.store ≡ O.private self.old.store) }
+        ensures reads { IfOk result (λ reply. Reads self.old.context.steps thing (said reply) self.old.left (O.log self.old.store) (O.log self.new.store) (O.private self.old.store) (O.private self.new.store)) }
+        ensures ends { IfErr result (λ came. ReadsNone self.old.context.steps thing self.old.left (O.log self.old.store) (O.log self.new.store) (O.private self.old.store) (O.private self.new.store) (outcome came self.new.value self.new.leave)) }
+        ensures over { IfErr result (λ came. IsOver (outcome came self.new.value self.new.leave)) }
     {
         if !self.store.holds(thing.id) {
-            return Err(self.over(Cut::Memory));
+            return self.reply_of(thing, Act::Copy);
         }
         match self.store.apply(thing.id, Act::Copy) {
             Ok(reply) => Ok(reply),
@@ -142,7 +141,6 @@ impl<'p, O: ThreadStore + Drop> Walker<'p, O> {
         ensures base { self.new.base ≡ self.old.base }
         ensures left { self.new.left ≡ self.old.left }
         ensures context { self.new.context ≡ self.old.context }
-        ensures log { O.log self.new.store ≡ O.log self.old.store }
         ensures came { ComesAtOnce (answering (table.Reads (thing_of thing) (use_of purpose)) at) self.old self.new result }
     {
         match self.copied(thing) {
@@ -161,7 +159,6 @@ impl<'p, O: ThreadStore + Drop> Walker<'p, O> {
         ensures base { self.new.base ≡ self.old.base }
         ensures left { self.new.left ≡ self.old.left }
         ensures context { self.new.context ≡ self.old.context }
-        ensures log { O.log self.new.store ≡ O.log self.old.store }
         ensures came { ComesAtOnce (answering (table.Asks (thing_of thing) (doing act) (step_of behind thing)) at) self.old self.new result }
     {
         let came = self.ask_apart(thing, act, at);
@@ -195,7 +192,6 @@ impl<'p, O: ThreadStore + Drop> Walker<'p, O> {
         ensures base { self.new.base ≡ self.old.base }
         ensures less { self.new.left ≤ self.old.left }
         ensures context { self.new.context ≡ self.old.context }
-        ensures log { O.log self.new.store ≡ O.log self.old.store }
         ensures came { ComesTo (answering (answer_of deed) at) self.old self.new depth result }
     {
         match deed {
@@ -221,7 +217,6 @@ impl<'p, O: ThreadStore + Drop> Walker<'p, O> {
         ensures base { self.new.base ≡ self.old.base }
         ensures less { self.new.left ≤ self.old.left }
         ensures context { self.new.context ≡ self.old.context }
-        ensures log { O.log self.new.store ≡ O.log self.old.store }
         ensures came { CallsBuiltin method (plain receiver.now) (map plain args.now) at self.old self.new depth result }
     {
         if let Some(answer) = ready_answer(method, receiver, args) {
@@ -246,7 +241,6 @@ impl<'p, O: ThreadStore + Drop> Walker<'p, O> {
         ensures base { self.new.base ≡ self.old.base }
         ensures less { self.new.left ≤ self.old.left }
         ensures context { self.new.context ≡ self.old.context }
-        ensures log { O.log self.new.store ≡ O.log self.old.store }
         ensures came { CallsBuiltin method (plain receiver.now) (map plain args.now) at self.old self.new depth result }
     {
         match deed_of(
@@ -274,7 +268,6 @@ impl<'p, O: ThreadStore + Drop> Walker<'p, O> {
         ensures base { self.new.base ≡ self.old.base }
         ensures less { self.new.left ≤ self.old.left }
         ensures context { self.new.context ≡ self.old.context }
-        ensures log { O.log self.new.store ≡ O.log self.old.store }
         ensures came { CallsBuiltin method (plain receiver.now) (plain arg ∷ []) at self.old self.new depth result }
     {
         match collection_of(receiver) {
@@ -314,7 +307,6 @@ impl<'p, O: ThreadStore + Drop> Walker<'p, O> {
         ensures base { self.new.base ≡ self.old.base }
         ensures less { self.new.left ≤ self.old.left }
         ensures context { self.new.context ≡ self.old.context }
-        ensures log { O.log self.new.store ≡ O.log self.old.store }
         ensures came { CallsBuiltin method (To (thing_of thing)) (Int index ∷ []) at self.old self.new depth result }
     {
         if is_element(thing, method) {
@@ -337,7 +329,6 @@ impl<'p, O: ThreadStore + Drop> Walker<'p, O> {
         ensures base { self.new.base ≡ self.old.base }
         ensures less { self.new.left ≤ self.old.left }
         ensures context { self.new.context ≡ self.old.context }
-        ensures log { O.log self.new.store ≡ O.log self.old.store }
         ensures came { CallsBuiltin method (To (thing_of thing)) (value_of came self.old.value ∷ []) at self.old self.new depth result }
     {
         match came {
@@ -358,7 +349,6 @@ impl<'p, O: ThreadStore + Drop> Walker<'p, O> {
         ensures base { self.new.base ≡ self.old.base }
         ensures less { self.new.left ≤ self.old.left }
         ensures context { self.new.context ≡ self.old.context }
-        ensures log { O.log self.new.store ≡ O.log self.old.store }
         ensures came { CallsBuiltin method (To (thing_of thing)) [] at self.old self.new depth result }
     {
         let Some(side) = side_for(thing, method) else {
@@ -385,7 +375,6 @@ impl<'p, O: ThreadStore + Drop> Walker<'p, O> {
         ensures base { self.new.base ≡ self.old.base }
         ensures less { self.new.left ≤ self.old.left }
         ensures context { self.new.context ≡ self.old.context }
-        ensures log { O.log self.new.store ≡ O.log self.old.store }
         ensures came { CallsBuiltin method (To (thing_of thing)) (value_of came self.old.value ∷ []) at self.old self.new depth result }
     {
         if is_push(thing, method) && self.store.push_immediate(thing.id, immediate_of(came)) {
@@ -407,7 +396,6 @@ impl<'p, O: ThreadStore + Drop> Walker<'p, O> {
         ensures base { self.new.base ≡ self.old.base }
         ensures less { self.new.left ≤ self.old.left }
         ensures context { self.new.context ≡ self.old.context }
-        ensures log { O.log self.new.store ≡ O.log self.old.store }
         ensures came { CallsBuiltin method (To (thing_of thing)) (plain arg ∷ []) at self.old self.new depth result }
     {
         if let Some(index) = index_for(thing, method, &arg) {
@@ -427,7 +415,6 @@ impl<'p, O: ThreadStore + Drop> Walker<'p, O> {
         ensures base { self.new.base ≡ self.old.base }
         ensures left { self.new.left ≡ self.old.left }
         ensures context { self.new.context ≡ self.old.context }
-        ensures log { O.log self.new.store ≡ O.log self.old.store }
         ensures came { ComesAtOnce (putting (thing_of array) index (plain value.now) at) self.old self.new result }
     {
         let Ok(last) = value.share() else {
@@ -450,7 +437,6 @@ impl<'p, O: ThreadStore + Drop> Walker<'p, O> {
         ensures base { self.new.base ≡ self.old.base }
         ensures left { self.new.left ≡ self.old.left }
         ensures context { self.new.context ≡ self.old.context }
-        ensures log { O.log self.new.store ≡ O.log self.old.store }
         ensures came { ComesAtOnce (putting (thing_of array) index (value_of came self.old.value) at) self.old self.new result }
     {
         if self
@@ -469,7 +455,6 @@ impl<'p, O: ThreadStore + Drop> Walker<'p, O> {
         ensures base { self.new.base ≡ self.old.base }
         ensures left { self.new.left ≡ self.old.left }
         ensures context { self.new.context ≡ self.old.context }
-        ensures log { O.log self.new.store ≡ O.log self.old.store }
         ensures came { ComesAtOnce (putting (thing_of array) index (plain value) at) self.old self.new result }
     {
         let Ok(copy) = value.share() else {
@@ -489,7 +474,6 @@ impl<'p, O: ThreadStore + Drop> Walker<'p, O> {
         ensures base { self.new.base ≡ self.old.base }
         ensures left { self.new.left ≡ self.old.left }
         ensures context { self.new.context ≡ self.old.context }
-        ensures log { O.log self.new.store ≡ O.log self.old.store }
         ensures came { ComesAtOnce (keeping (thing_of hash) (plain key) (value_of came self.old.value) at) self.old self.new result }
     {
         let value = self.take(came);
@@ -518,7 +502,6 @@ impl<'p, O: ThreadStore + Drop> Walker<'p, O> {
         ensures base { self.new.base ≡ self.old.base }
         ensures less { self.new.left ≤ self.old.left }
         ensures context { self.new.context ≡ self.old.context }
-        ensures log { O.log self.new.store ≡ O.log self.old.store }
         ensures came { StoresBy method (To (thing_of thing)) (plain index ∷ value_of came self.old.value ∷ []) at self.old self.new depth result }
     {
         if let Some(place) = place_for(thing, method, &index) {
@@ -545,7 +528,6 @@ impl<'p, O: ThreadStore + Drop> Walker<'p, O> {
         ensures base { self.new.base ≡ self.old.base }
         ensures less { self.new.left ≤ self.old.left }
         ensures context { self.new.context ≡ self.old.context }
-        ensures log { O.log self.new.store ≡ O.log self.old.store }
         ensures came { StoresBy method (To (thing_of thing)) (plain index ∷ plain value ∷ []) at self.old self.new depth result }
     {
         let args = [index, value];
@@ -564,7 +546,6 @@ impl<'p, O: ThreadStore + Drop> Walker<'p, O> {
         ensures base { self.new.base ≡ self.old.base }
         ensures less { self.new.left ≤ self.old.left }
         ensures context { self.new.context ≡ self.old.context }
-        ensures log { O.log self.new.store ≡ O.log self.old.store }
         ensures came { StoresBy method (plain receiver.now) (map plain args.now) at self.old self.new depth result }
     {
         if let Some((array, index, value)) = put_of(receiver, method, args) {
@@ -593,7 +574,6 @@ impl<'p, O: ThreadStore + Drop> Walker<'p, O> {
         ensures base { self.new.base ≡ self.old.base }
         ensures less { self.new.left ≤ self.old.left }
         ensures context { self.new.context ≡ self.old.context }
-        ensures log { O.log self.new.store ≡ O.log self.old.store }
         ensures came { ComesTo (writing_element (value_of came self.old.value) (plain receiver.now) (plain index) at) self.old self.new depth result }
     {
         if let Some(thing) = collection_of(receiver) {

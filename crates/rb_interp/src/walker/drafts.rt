@@ -95,9 +95,8 @@ impl<'p, O: ThreadStore + Drop> Walker<'p, O> {
         ensures base { self.new.base ≡ self.old.base }
         ensures left { self.new.left ≡ self.old.left }
         ensures context { self.new.context ≡ self.old.context }
-        ensures log { O.log self.new.store ≡ O.log self.old.store }
         ensures work { is_left result ≡ false → work_of draft.new ≤ 1 + length draft.old.begun }
-        ensures opens { Opens self.old.context.steps (thing_of thing) draft.old draft.new at self.old.left (O.log self.old.store) (O.private self.old.store) (O.private self.new.store) result (outcome result self.new.value self.new.leave) }
+        ensures opens { Opens self.old.context.steps (thing_of thing) draft.old draft.new at self.old.left (O.log self.old.store) (O.log self.new.store) (O.private self.old.store) (O.private self.new.store) result (outcome result self.new.value self.new.leave) }
     {
         match self.copied(thing) {
             Ok(reply) => match give_copy(draft, thing, reply) {
@@ -113,9 +112,8 @@ impl<'p, O: ThreadStore + Drop> Walker<'p, O> {
         ensures base { self.new.base ≡ self.old.base }
         ensures less { self.new.left ≤ self.old.left }
         ensures context { self.new.context ≡ self.old.context }
-        ensures log { O.log self.new.store ≡ O.log self.old.store }
         ensures shortens { Shortens self.old.context.program.now want.now draft.old draft.new self.old.left self.new.left result }
-        ensures came { Advances self.old.context.steps self.old.context.program.now want.now draft.old draft.new at depth self.old.left self.new.left (O.log self.old.store) (O.private self.old.store) (O.private self.new.store) result (outcome result self.new.value self.new.leave) }
+        ensures came { Advances self.old.context.steps self.old.context.program.now want.now draft.old draft.new at depth self.old.left self.new.left (O.log self.old.store) (O.log self.new.store) (O.private self.old.store) (O.private self.new.store) result (outcome result self.new.value self.new.leave) }
     {
         match want {
             Want::More => Came::Nil,
@@ -143,7 +141,6 @@ impl<'p, O: ThreadStore + Drop> Walker<'p, O> {
         ensures base { self.new.base ≡ self.old.base }
         ensures less { self.new.left ≤ self.old.left }
         ensures context { self.new.context ≡ self.old.context }
-        ensures log { O.log self.new.store ≡ O.log self.old.store }
         ensures came { ComesTo (drafting (draft_of Inspected (To (thing_of thing))) at) self.old self.new depth result }
     {
         let mut draft = Draft::new(self.context.alloc, TextForm::Inspected, Value::Ref(thing));
@@ -168,7 +165,6 @@ impl<'p, O: ThreadStore + Drop> Walker<'p, O> {
         ensures base { self.new.base ≡ self.old.base }
         ensures less { self.new.left ≤ self.old.left }
         ensures context { self.new.context ≡ self.old.context }
-        ensures log { O.log self.new.store ≡ O.log self.old.store }
         ensures came { ComesOut (showing (value_of came self.old.value) at) self.old self.new depth (as_text self.old.context.program.now (outcome result self.new.value self.new.leave)) }
     {
         let Came::Other = came else {
@@ -201,9 +197,8 @@ impl<'p, O: ThreadStore + Drop> Walker<'p, O> {
         ensures base { self.new.base ≡ self.old.base }
         ensures less { self.new.left ≤ self.old.left }
         ensures context { self.new.context ≡ self.old.context }
-        ensures log { O.log self.new.store ≡ O.log self.old.store }
         ensures fits { is_left result ≡ false → length bytes.new.items ≤ max_bytes }
-        ensures came { InspectsOne self.old.context.steps self.old.context.program.now (To (thing_of thing)) bytes.old.items bytes.new.items at depth self.old.left self.new.left (O.log self.old.store) (O.private self.old.store) (O.private self.new.store) result (outcome result self.new.value self.new.leave) }
+        ensures came { InspectsOne self.old.context.steps self.old.context.program.now (To (thing_of thing)) bytes.old.items bytes.new.items at depth self.old.left self.new.left (O.log self.old.store) (O.log self.new.store) (O.private self.old.store) (O.private self.new.store) result (outcome result self.new.value self.new.leave) }
     {
         let came = self.inspected(thing, at, depth);
         if is_left(came) {
@@ -221,9 +216,8 @@ impl<'p, O: ThreadStore + Drop> Walker<'p, O> {
         ensures base { self.new.base ≡ self.old.base }
         ensures less { self.new.left ≤ self.old.left }
         ensures context { self.new.context ≡ self.old.context }
-        ensures log { O.log self.new.store ≡ O.log self.old.store }
         ensures fits { is_left result ≡ false → length bytes.new.items ≤ max_bytes }
-        ensures came { InspectsOne self.old.context.steps self.old.context.program.now (plain value.now) bytes.old.items bytes.new.items at depth self.old.left self.new.left (O.log self.old.store) (O.private self.old.store) (O.private self.new.store) result (outcome result self.new.value self.new.leave) }
+        ensures came { InspectsOne self.old.context.steps self.old.context.program.now (plain value.now) bytes.old.items bytes.new.items at depth self.old.left self.new.left (O.log self.old.store) (O.log self.new.store) (O.private self.old.store) (O.private self.new.store) result (outcome result self.new.value self.new.leave) }
     {
         if let Some(thing) = collection_of(value) {
             return self.add_collection(bytes, thing, at, depth);

@@ -173,7 +173,6 @@ impl<'p, O: ThreadStore + Drop> Walker<'p, O> {
         ensures base { self.new.base ≡ self.old.base }
         ensures context { self.new.context ≡ self.old.context }
         ensures less { self.new.left ≤ self.old.left }
-        ensures log { O.log self.new.store ≡ O.log self.old.store }
         ensures came { IfSome result (λ came. EntersAtOnce (me_of (Some target.entry.object)) target.entry.method.now [] self.old self.new depth (outcome came self.new.value self.new.leave)) }
     {
         if count != 0 || self.left == 0 || depth >= MAX_DEPTH {
@@ -193,7 +192,6 @@ impl<'p, O: ThreadStore + Drop> Walker<'p, O> {
         ensures base { self.new.base ≡ self.old.base }
         ensures context { self.new.context ≡ self.old.context }
         ensures less { self.new.left ≤ self.old.left }
-        ensures log { O.log self.new.store ≡ O.log self.old.store }
         ensures came { IfSome result (λ came. EntersAtOnce (me_of (Some target.entry.object)) target.entry.method.now (map plain args.now) self.old self.new depth (outcome came self.new.value self.new.leave)) }
     {
         let n = only_integer(args)?;
@@ -214,7 +212,6 @@ impl<'p, O: ThreadStore + Drop> Walker<'p, O> {
         ensures base { self.new.base ≡ self.old.base }
         ensures context { self.new.context ≡ self.old.context }
         ensures less { self.new.left ≤ self.old.left }
-        ensures log { O.log self.new.store ≡ O.log self.old.store }
         ensures integer { IfSome result (λ _. (v w : Held) → value_of came v ≡ value_of came w) }
         ensures came { IfSome result (λ done. (v : Held) → EntersAtOnce (me_of (Some target.entry.object)) target.entry.method.now (value_of came v ∷ []) self.old self.new depth (outcome done self.new.value self.new.leave)) }
     {
@@ -244,7 +241,6 @@ impl<'p, O: ThreadStore + Drop> Walker<'p, O> {
         ensures base { self.new.base ≡ self.old.base }
         ensures context { self.new.context ≡ self.old.context }
         ensures less { self.new.left ≤ self.old.left }
-        ensures log { O.log self.new.store ≡ O.log self.old.store }
         ensures settled { IfSome result (λ done. Settles (value_of came self.old.value) (outcome done self.new.value self.new.leave)) }
         ensures came { IfSome result (λ done. EntersAtOnce (me_of (Some target.entry.object)) target.entry.method.now (value_of came self.old.value ∷ []) self.old self.new depth (outcome done self.new.value self.new.leave)) }
     {
@@ -342,7 +338,6 @@ impl<'p, O: ThreadStore + Drop> Walker<'p, O> {
         ensures base { self.new.base ≡ self.old.base }
         ensures left { self.new.left ≡ self.old.left }
         ensures context { self.new.context ≡ self.old.context }
-        ensures log { O.log self.new.store ≡ O.log self.old.store }
         ensures came { AsksTo (me_of (Some object)) (SetField assignment.field (plain value.now)) assignment.at self.old self.new result }
     {
         let Value::Int(n) = value else {
@@ -361,7 +356,6 @@ impl<'p, O: ThreadStore + Drop> Walker<'p, O> {
         ensures base { self.new.base ≡ self.old.base }
         ensures left { self.new.left ≡ self.old.left }
         ensures context { self.new.context ≡ self.old.context }
-        ensures log { O.log self.new.store ≡ O.log self.old.store }
         ensures came { AsksTo (me_of (Some object)) (SetField assignment.field (plain value.now)) assignment.at self.old self.new result }
     {
         let Ok(copy) = value.share() else {
@@ -384,7 +378,6 @@ impl<'p, O: ThreadStore + Drop> Walker<'p, O> {
         ensures base { self.new.base ≡ self.old.base }
         ensures context { self.new.context ≡ self.old.context }
         ensures less { self.new.left ≤ self.old.left }
-        ensures log { O.log self.new.store ≡ O.log self.old.store }
         ensures came { AssignsAtOnce (me_of (Some object)) method.now (map plain args.now) self.old self.new depth result }
     {
         let statements = method.body.as_slice();
@@ -415,7 +408,6 @@ impl<'p, O: ThreadStore + Drop> Walker<'p, O> {
         ensures base { self.new.base ≡ self.old.base }
         ensures context { self.new.context ≡ self.old.context }
         ensures less { self.new.left ≤ self.old.left }
-        ensures log { O.log self.new.store ≡ O.log self.old.store }
         ensures came { IfSome result (λ came. AssignsAtOnce (me_of (Some object)) method.now (map plain args.now) self.old self.new depth came) }
     {
         if self.left / 2 < method.body.len() as u64 || depth >= MAX_DEPTH - 1 {

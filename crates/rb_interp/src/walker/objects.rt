@@ -4,12 +4,12 @@ ghost use Rattle.std.specs.Prelude.{◌≡◌, ◌≤◌, ◌<◌, ℕ, false, [
 ghost use Rattle.rb_model.specs.Values.{Int};
 ghost use Rattle.rb_model.specs.Doing.{doing};
 ghost use Rattle.rb_model.specs.Acts.{At, GetField};
-ghost use Rattle.rb_machine.specs.Control.{On, Step, Passing, Creating, OfField};
+ghost use Rattle.rb_machine.specs.Control.{On, Step, Place, Passing, Creating};
 ghost use Rattle.rb_machine.specs.Call.{read_place};
 ghost use Rattle.rb_code.specs.Erase.{erase};
 ghost use Rattle.rb_walk.specs.Outcome.{Gave, IsOver, Settles, fetched, is_left, value_of, outcome};
 ghost use Rattle.rb_walk.specs.Carries.{made_by, me_of};
-ghost use Rattle.rb_walk.specs.Objects.{Asks, Fields, UpdatesField};
+ghost use Rattle.rb_walk.specs.Objects.{Asks, Fields, IsVariable, UpdatesField};
 
 use super::Walker;
 use rb_code::Code;
@@ -38,17 +38,16 @@ impl<'p, O: ThreadStore + Drop> Walker<'p, O> {
         }
     }
 
-    /// Asks something of a thing. A thing that is not the thread's own would be shared, and nothing is yet.
+    /// Asks something of a thing.
     #[inline(always)]
     pub(super) fn ask(&mut self, thing: Ref, act: Act, at: Span) -> Came
         ensures base { self.new.base ≡ self.old.base }
         ensures left { self.new.left ≡ self.old.left }
         ensures context { self.new.context ≡ self.old.context }
-        ensures log { O.log self.new.store ≡ O.log self.old.store }
         ensures came { AsksTo (me_of (Some thing)) (doing act) at self.old self.new result }
     {
         if !self.store.holds(thing.id) {
-            return self.over(Cut::Memory);
+            return self.ask_shared(thing, act, at);
         }
         match self.store.apply(thing.id, act) {
             Ok(Reply::Value(value)) => self.hand(value),
@@ -70,12 +69,11 @@ impl<'p, O: ThreadStore + Drop> Walker<'p, O> {
         ensures base { self.new.base ≡ self.old.base }
         ensures left { self.new.left ≡ self.old.left }
         ensures context { self.new.context ≡ self.old.context }
-        ensures log { O.log self.new.store ≡ O.log self.old.store }
         ensures over { IfErr result (λ came. IsOver (outcome came self.new.value self.new.leave)) }
-        ensures came { Asks self.old.context.steps (me_of (Some thing)) (doing act) at self.old.left (O.log self.old.store) (O.private self.old.store) (O.private self.new.store) (fetched result self.new.value self.new.leave) }
+        ensures came { Asks self.old.context.steps (me_of (Some thing)) (doing act) at self.old.left (O.log self.old.store) (O.log self.new.store) (O.private self.old.store) (O.private self.new.store) (fetched result self.new.value self.new.leave) }
     {
         if !self.store.holds(thing.id) {
-            return Err(self.over(Cut::Memory));
+            return self.fetch_shared(thing, act, at);
         }
         match self.store.apply(thing.id, act) {
             Ok(Reply::Value(value)) => Ok(value),
@@ -95,7 +93,6 @@ impl<'p, O: ThreadStore + Drop> Walker<'p, O> {
         ensures base { self.new.base ≡ self.old.base }
         ensures left { self.new.left ≡ self.old.left }
         ensures context { self.new.context ≡ self.old.context }
-        ensures log { O.log self.new.store ≡ O.log self.old.store }
         ensures came { AsksTo (me_of (Some thing)) (doing act) at self.old self.new result }
     {
         self.ask(thing, act, at)
@@ -107,7 +104,6 @@ impl<'p, O: ThreadStore + Drop> Walker<'p, O> {
         ensures base { self.new.base ≡ self.old.base }
         ensures left { self.new.left ≡ self.old.left }
         ensures context { self.new.context ≡ self.old.context }
-        ensures log { O.log self.new.store ≡ O.log self.old.store }
         ensures came { AsksTo (me_of (Some array)) (At index) at self.old self.new result }
     {
         let element = self.store.immediate_element(array.id, index);
@@ -123,7 +119,6 @@ impl<'p, O: ThreadStore + Drop> Walker<'p, O> {
         ensures base { self.new.base ≡ self.old.base }
         ensures left { self.new.left ≡ self.old.left }
         ensures context { self.new.context ≡ self.old.context }
-        ensures log { O.log self.new.store ≡ O.log self.old.store }
         ensures came { AsksTo (me_of (Some array)) (At index) at self.old self.new result }
     {
         match self.store.element(array.id, index) {
@@ -132,44 +127,47 @@ impl<'p, O: ThreadStore + Drop> Walker<'p, O> {
         }
     }
 
-    /// An instance variable of `self`.
+    /// An instance variable of an object, if it is one.
     #[inline(always)]
-    pub(super) fn field(&mut self, name: NameId, at: Span) -> Came
+    pub(super) fn field(&mut self, owner: Option<Ref>, name: NameId, at: Span) -> Came
         ensures base { self.new.base ≡ self.old.base }
         ensures left { self.new.left ≡ self.old.left }
         ensures context { self.new.context ≡ self.old.context }
-        ensures log { O.log self.new.store ≡ O.log self.old.store }
-        ensures came { AsksTo (me_of self.old.context.me) (GetField name) at self.old self.new result }
+        ensures came { AsksTo (me_of owner) (GetField name) at self.old self.new result }
     {
-        match self.context.me {
+        match owner {
             None => self.raise(Fault::NoMethod, at),
             Some(object) => self.ask(object, Act::GetField(name), at),
         }
     }
 
-    /// The same apart.
+    /// An instance variable of `self`.
     #[inline(never)]
     pub(super) fn field_apart(&mut self, name: NameId, at: Span) -> Came
         ensures base { self.new.base ≡ self.old.base }
         ensures left { self.new.left ≡ self.old.left }
         ensures context { self.new.context ≡ self.old.context }
-        ensures log { O.log self.new.store ≡ O.log self.old.store }
         ensures came { AsksTo (me_of self.old.context.me) (GetField name) at self.old self.new result }
     {
-        self.field(name, at)
+        self.field(self.context.me, name, at)
     }
 
-    /// Writes the value that came to an instance variable of `self`, and gives it on.
+    /// Writes the value that came to an instance variable of an object, if it is one, and gives it on.
     #[inline(always)]
-    pub(super) fn write_field(&mut self, name: NameId, came: Came, at: Span) -> Came
+    pub(super) fn write_field(
+        &mut self,
+        owner: Option<Ref>,
+        name: NameId,
+        came: Came,
+        at: Span,
+    ) -> Came
         requires came { is_left came ≡ false }
         ensures base { self.new.base ≡ self.old.base }
         ensures left { self.new.left ≡ self.old.left }
         ensures context { self.new.context ≡ self.old.context }
-        ensures log { O.log self.new.store ≡ O.log self.old.store }
-        ensures came { WritesField (me_of self.old.context.me) name (value_of came self.old.value) at self.old self.new result }
+        ensures came { WritesField (me_of owner) name (value_of came self.old.value) at self.old self.new result }
     {
-        let Some(object) = self.context.me else {
+        let Some(object) = owner else {
             return self.raise(Fault::NoMethod, at);
         };
         match came {
@@ -184,7 +182,6 @@ impl<'p, O: ThreadStore + Drop> Walker<'p, O> {
         ensures base { self.new.base ≡ self.old.base }
         ensures left { self.new.left ≡ self.old.left }
         ensures context { self.new.context ≡ self.old.context }
-        ensures log { O.log self.new.store ≡ O.log self.old.store }
         ensures came { WritesField (me_of (Some object)) name (Int n) at self.old self.new result }
     {
         let done = self.ask(object, Act::SetField(name, Value::Int(n)), at);
@@ -201,7 +198,6 @@ impl<'p, O: ThreadStore + Drop> Walker<'p, O> {
         ensures base { self.new.base ≡ self.old.base }
         ensures left { self.new.left ≡ self.old.left }
         ensures context { self.new.context ≡ self.old.context }
-        ensures log { O.log self.new.store ≡ O.log self.old.store }
         ensures settled { Settles (value_of came self.old.value) (outcome result self.new.value self.new.leave) }
         ensures came { WritesField (me_of (Some object)) name (value_of came self.old.value) at self.old self.new result }
     {
@@ -215,11 +211,12 @@ impl<'p, O: ThreadStore + Drop> Walker<'p, O> {
         }
     }
 
-    /// An assignment to an instance variable.
+    /// An assignment to an instance variable of `self`, or to a global variable, which is one of the thing that has them.
     #[cycle(walk)]
     #[inline(always)]
     pub(super) fn set_field(
         &mut self,
+        owner: Option<Ref>,
         name: NameId,
         value: &'p Code,
         at: Span,
@@ -231,13 +228,13 @@ impl<'p, O: ThreadStore + Drop> Walker<'p, O> {
         ensures room { length room.new ≡ length room.old }
         ensures less { self.new.left ≤ self.old.left }
         ensures kept { Kept (node_fits value.now) self.old room.old room.new }
-        ensures came { (step : Step) → Fields name at step → WalksTo (node_fits value.now) (at_node_then value.now (λ S. step)) self.old self.new room.old room.new depth result }
+        ensures came { (step : Step) → Fields (me_of self.old.context.me) (me_of owner) name at step → WalksTo (node_fits value.now) (at_node_then value.now (λ S. step)) self.old self.new room.old room.new depth result }
     {
         let came = self.evaluate_leaf(value, depth, room);
         if is_left(came) {
             return came;
         }
-        self.write_field(name, came, at)
+        self.write_field(owner, name, came, at)
     }
 
     /// The sum that an instance variable of `self` gets, where it holds integers alone and a leaf that is one is added. Else nothing is done.
@@ -271,11 +268,12 @@ impl<'p, O: ThreadStore + Drop> Walker<'p, O> {
         Some(sum)
     }
 
-    /// An assignment with an operator to an instance variable.
+    /// An assignment with an operator to an instance variable of `self`, or to a global variable.
     #[cycle(walk)]
     #[inline(never)]
     pub(super) fn update_field(
         &mut self,
+        owner: Option<Ref>,
         name: NameId,
         op: AssignOp,
         value: &'p Code,
@@ -287,9 +285,9 @@ impl<'p, O: ThreadStore + Drop> Walker<'p, O> {
         ensures context { self.new.context ≡ self.old.context }
         ensures room { length room.new ≡ length room.old }
         ensures less { self.new.left ≤ self.old.left }
-        ensures came { Walks (node_fits value.now) (λ S k sc d n. read_place S (OfField name) op (erase value.now) at k sc d n) self.old self.new room.old room.new depth result }
+        ensures came { (place : Place) → IsVariable (me_of self.old.context.me) (me_of owner) name place → Walks (node_fits value.now) (λ S k sc d n. read_place S place op (erase value.now) at k sc d n) self.old self.new room.old room.new depth result }
     {
-        let current = self.field(name, at);
+        let current = self.field(owner, name, at);
         if is_left(current) {
             return current;
         }
@@ -298,20 +296,20 @@ impl<'p, O: ThreadStore + Drop> Walker<'p, O> {
                 if self.is_true_now(current) {
                     return current;
                 }
-                self.set_field(name, value, at, depth, room)
+                self.set_field(owner, name, value, at, depth, room)
             }
             AssignOp::AndThen => {
                 if !self.is_true_now(current) {
                     return current;
                 }
-                self.set_field(name, value, at, depth, room)
+                self.set_field(owner, name, value, at, depth, room)
             }
             _ => {
                 let made = self.combine(current, op, value, at, depth, room);
                 if is_left(made) {
                     return made;
                 }
-                self.write_field(name, made, at)
+                self.write_field(owner, name, made, at)
             }
         }
     }

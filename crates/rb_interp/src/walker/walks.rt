@@ -83,9 +83,11 @@ impl<'p, O: ThreadStore + Drop> Walker<'p, O> {
             Deed::Walk(turns) => iterations_of(turns),
             Deed::WalkOver(array, pass) => Iterations::Elements(array, pass),
             Deed::WalkPairs(hash) => Iterations::Pairs(hash),
-            // No method with a block is answered so, but for `synchronize`, and no script that is accepted has a mutex yet.
-            Deed::Ask(_, _, _) | Deed::Read(_, _) | Deed::Inspect(_) | Deed::Synchronize(_) =>
-                Iterations::Done(self.over(Cut::Memory)),
+            Deed::Synchronize(mutex) => Iterations::Owned(mutex),
+            // No method with a block is answered so.
+            Deed::Ask(_, _, _) | Deed::Read(_, _) | Deed::Inspect(_) => {
+                Iterations::Done(self.over(Cut::Memory))
+            }
         }
     }
 
@@ -155,12 +157,11 @@ impl<'p, O: ThreadStore + Drop> Walker<'p, O> {
     /// The element of an array at the next place of a walk; none behind the last. The length is asked before.
     #[inline(always)]
     fn next_element(&mut self, array: Ref, next: u32, at: Span) -> Option<Came>
-        ensures some { IfSome result (λ came. FindsElement self.old.context.steps array next at self.old.left (O.log self.old.store) (O.private self.old.store) (O.private self.new.store) came (outcome came self.new.value self.new.leave)) }
-        ensures none { result ≡ None → FindsNone self.old.context.steps array next at self.old.left (O.log self.old.store) (O.private self.old.store) (O.private self.new.store) }
+        ensures some { IfSome result (λ came. FindsElement self.old.context.steps array next at self.old.left (O.log self.old.store) (O.log self.new.store) (O.private self.old.store) (O.private self.new.store) came (outcome came self.new.value self.new.leave)) }
+        ensures none { result ≡ None → FindsNone self.old.context.steps array next at self.old.left (O.log self.old.store) (O.log self.new.store) (O.private self.old.store) (O.private self.new.store) }
         ensures base { self.new.base ≡ self.old.base }
         ensures left { self.new.left ≡ self.old.left }
         ensures context { self.new.context ≡ self.old.context }
-        ensures log { O.log self.new.store ≡ O.log self.old.store }
     {
         let length = self.ask(array, Act::Len, at);
         if is_left(length) {

@@ -6,7 +6,7 @@ use Rattle.rb_machine.specs.Scopes.{Script}
 use Rattle.rb_machine.specs.Control.{Then, Instead}
 use Rattle.rb_machine.specs.Follows.{At, here}
 use Rattle.rb_machine.specs.Alone.{opening}
-use Rattle.rb_walk.proofs.Endings.{comes_out, tells_nothing, refused_last, never_full}
+use Rattle.rb_walk.proofs.Endings.{comes_out, tells_nothing, main_caused}
 use Rattle.rb_interp.proofs.walker.run_by.Goals as goal
 
 -- the machine has begun, with a log and a private store in which there is nothing
@@ -21,8 +21,6 @@ returns-clause-goes g c = λ S st e.
     let begun = opened S budget _ _ (ap g.O.ThreadStore.log c.of.ensures ∙ c.requires.begun) (ap g.O.ThreadStore.private c.of.ensures ∙ c.requires.made) in
     let came = top.ensures.came S start (Then (Instead Nil) ∷ []) st e begun in
     rw (c.into_store.ensures.same, c.end_of.ensures top.new.self.value) (record {
-      comes = comes_out S budget start _ _ _ _ 0 _ came;
+      goes = record { comes = comes_out S budget start _ _ _ _ 0 _ came; caused = main_caused _ _ S budget start _ (Then (Instead Nil) ∷ []) _ 0 _ came };
       tells = tells_nothing S budget start _ _ _ _ 0 _ came;
-      refused = refused_last _ _ S budget start _ (Then (Instead Nil) ∷ []) _ 0 _ came;
-      never_full = λ used asked. never_full _ _ S budget start _ (Then (Instead Nil) ∷ []) _ 0 _ used asked came;
     })

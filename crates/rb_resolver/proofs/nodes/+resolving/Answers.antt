@@ -10,7 +10,7 @@ use Rattle.rb_tree.specs.declared.node.Block.{Block}
 use Rattle.rb_code.specs.declared.code.CodeBlock.{CodeBlock}
 use Rattle.rb_code.specs.Erase.{erase, erase_piece, erase_block, paired}
 use Rattle.rb_code.specs.Resolved.{every, if_some, fits, piece_fits, block_fits, is_even}
-use Rattle.rb_code.proofs.Fitting.{fits-nil, fits-false, fits-true, fits-self_ref, fits-field, fits-set_field, fits-update_field, fits-int, fits-sym, fits-break, fits-next, piece_fits-text, piece_fits-code}
+use Rattle.rb_code.proofs.Fitting.{fits-nil, fits-false, fits-true, fits-self_ref, fits-field, fits-set_field, fits-update_field, fits-global, fits-set_global, fits-update_global, fits-int, fits-sym, fits-break, fits-next, piece_fits-text, piece_fits-code}
 use Rattle.rb_resolver.proofs.Fitted.{at_names, str_fits, array_fits, hash_fits, local_fits, set_local_fits, update_local_fits, update_element_fits, and_fits, or_fits, not_fits, if_fits, while_fits, return_fits, block_of, names_left, block_is_right, map_pushed, every_pushed, even_more, pushed_twice, paired_pushed}
 use Rattle.rb_resolver.proofs.nodes.+resolving.Goals as goal
 
@@ -240,6 +240,15 @@ node-returns-in_ok-value-in-SetField-clause-fits t c = λ S k size h. fits-set_f
 
 pub node-returns-in_ok-value-in-Field-target-clause-fits : goal.node-returns-in_ok-value-in-Field-target-clause-fits
 node-returns-in_ok-value-in-Field-target-clause-fits t c = λ S k size h. fits-update_field S _ size _ _ _ _ ∙ c.in_ok-value-in-Field-target.ensures.fits S k size h
+
+pub node-returns-in-Global-clause-fits : goal.node-returns-in-Global-clause-fits
+node-returns-in-Global-clause-fits t c = λ S k size h. fits-global S _ size _ _
+
+pub node-returns-in_ok-value-in-SetGlobal-clause-fits : goal.node-returns-in_ok-value-in-SetGlobal-clause-fits
+node-returns-in_ok-value-in-SetGlobal-clause-fits t c = λ S k size h. fits-set_global S _ size _ _ _ ∙ c.in_ok-value-in-SetGlobal.ensures.fits S k size h
+
+pub node-returns-in_ok-value-in-Global-target-clause-fits : goal.node-returns-in_ok-value-in-Global-target-clause-fits
+node-returns-in_ok-value-in-Global-target-clause-fits t c = λ S k size h. fits-update_global S _ size _ _ _ _ ∙ c.in_ok-value-in-Global-target.ensures.fits S k size h
 
 pub node-returns-in_ok-args-in-New-clause-fits : goal.node-returns-in_ok-args-in-New-clause-fits
 node-returns-in_ok-args-in-New-clause-fits t c = IfOk-weaker c.made.result _ _ (λ code is S k size h. is S _ size k (c.in_ok-args-in-New.ensures.fits S k size h)) c.made.ensures.fits

@@ -4,6 +4,7 @@ use Rattle.rb_model.specs.Log.{Log}
 use Rattle.rb_model.specs.Values.{Nil, plain}
 use Rattle.rb_walk.proofs.Lists.{len_map}
 use Rattle.rb_store.specs.Written.{only_prints}
+use Rattle.rb_run.proofs.Alone.{full_never, refused_alone}
 use Rattle.rb_run.proofs.Closing.{closed_by, told_refusals, told_full}
 use Rattle.rb_run.proofs.run.run_with.Goals as goal
 
@@ -16,16 +17,17 @@ pub returns-clause-follows : goal.returns-clause-follows
 returns-clause-follows g c = λ S st e.
     let goes = c.run_main-store.ensures.goes S st e in
     let own = subst (λ (l : Log). only_prints l.entries ≡ true) c.into_parts-out.ensures.front c.into_parts-out.ensures.own in
-    let done = closed_by _ _ _ _ _ _ _ _ _ own goes.tells c.close-end.ensures.closes goes.comes in
+    let done = closed_by _ _ _ _ _ _ _ _ _ own goes.tells c.close-end.ensures.closes goes.goes.comes in
     (c.run_main-store.result.0.things, sym c.into_shapes-shapes.ensures, c.run_main-store.ensures.live.1, rw c.into_parts-out.ensures.front done)
 
 pub returns-clause-refused : goal.returns-clause-refused
 returns-clause-refused g c = λ S st e q.
     let goes = c.run_main-store.ensures.goes S st e in
     let told = told_refusals _ _ _ _ _ c.close-end.ensures.closes q in
-    let last = goes.refused told.0 in
+    let last = refused_alone _ _ c.run_main-store.ensures.live.0 (goes.goes.caused.refused told.0) in
     (last.0, last.1, rw c.into_parts-out.ensures.front (told.1 ∙ last.2))
 
 pub returns-clause-never_full : goal.returns-clause-never_full
 returns-clause-never_full g c = λ S st e used asked q.
-    (c.run_main-store.ensures.goes S st e).never_full used asked (told_full _ _ _ _ _ used asked c.close-end.ensures.closes q)
+    let goes = c.run_main-store.ensures.goes S st e in
+    full_never _ _ used asked c.run_main-store.ensures.live.0 (goes.goes.caused.filled used asked (told_full _ _ _ _ _ used asked c.close-end.ensures.closes q))

@@ -1,6 +1,6 @@
 use Rattle.std.proofs.Common.{sym, ap}
 use Rattle.rb_tree.specs.Place.{place}
-use Rattle.rb_code.proofs.Showing.{shows-array, shows-hash, shows-new_builtin, shows-nil, shows-false, shows-true, shows-self_ref, shows-field, shows-set_field, shows-update_field, shows-new, shows-start, shows-own, shows-int, shows-sym, shows-str, shows-local, shows-set_local, shows-update_local, shows-update_element, shows-update_attribute, shows-store, shows-operate, shows-send, shows-walk, shows-function, shows-print, shows-and, shows-or, shows-not, shows-if, shows-while, shows-return, shows-break, shows-next}
+use Rattle.rb_code.proofs.Showing.{shows-array, shows-hash, shows-new_builtin, shows-nil, shows-false, shows-true, shows-self_ref, shows-field, shows-set_field, shows-update_field, shows-global, shows-set_global, shows-update_global, shows-new, shows-start, shows-own, shows-int, shows-sym, shows-str, shows-local, shows-set_local, shows-update_local, shows-update_element, shows-update_attribute, shows-store, shows-operate, shows-send, shows-walk, shows-function, shows-print, shows-and, shows-or, shows-not, shows-if, shows-while, shows-return, shows-break, shows-next}
 use Rattle.rb_walk.proofs.leaf.place_of.Goals as goal
 
 pub returns-in-Nil : goal.returns-in-Nil
@@ -107,3 +107,12 @@ returns-in-New c = sym (ap place (shows-new c.args.code.now _ _ _ _ _ c.in-New.i
 
 pub returns-in-Own : goal.returns-in-Own
 returns-in-Own c = sym (ap place (shows-own c.args.code.now _ _ _ c.in-Own.is))
+
+pub returns-in-Global : goal.returns-in-Global
+returns-in-Global c = sym (ap place (shows-global c.args.code.now _ _ c.in-Global.is))
+
+pub returns-in-SetGlobal : goal.returns-in-SetGlobal
+returns-in-SetGlobal c = sym (ap place (shows-set_global c.args.code.now _ _ _ c.in-SetGlobal.is))
+
+pub returns-in-UpdateGlobal : goal.returns-in-UpdateGlobal
+returns-in-UpdateGlobal c = sym (ap place (shows-update_global c.args.code.now _ _ _ _ c.in-UpdateGlobal.is))

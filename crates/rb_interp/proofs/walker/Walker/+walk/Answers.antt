@@ -4,16 +4,16 @@ use Rattle.rb_tree.specs.declared.node.Node.{out-Node}
 use Rattle.rb_walk.specs.Answers.{OrMemory, outcome_of}
 use Rattle.rb_walk.specs.Carries.{numbered, goes_on, plainly, updating, scope_of, written_by, printing, me_of}
 use Rattle.rb_code.proofs.Slots.{slot_within}
-use Rattle.std.proofs.Common.{rules, to_z, of_z, w64, ◌≡◌, ap, sym, ◌∙◌, refl, [], ◌∷◌, ◌++◌, take, drop, map, length, replicate, ◌+◌, ◌-◌, ◌<◌, ◌≤◌, Some, None, true, false, arith}
+use Rattle.std.proofs.Common.{rules, to_z, of_z, w64, ◌≡◌, ap, sym, ◌∙◌, refl, [], ◌∷◌, ◌++◌, take, drop, map, length, replicate, ◌+◌, ◌-◌, ◌<◌, ◌≤◌, Some, None, true, false, arith, subst}
 use Rattle.std.proofs.lemmas.List.{drop_all}
 use Rattle.std.specs.Prelude.{codes, pos, ◌+ℤ◌, ◌≤ℤ◌, slice_get, slice_set}
 use Rattle.rb_model.specs.Values.{Nil, Int, plain}
-use Rattle.rb_machine.specs.Control.{Lines, LinesBehind, LineOf, Listing, Pairing, Then, Under, Rest, AssignTo, ReturnOf, Test, Again, RightOfAnd, RightOfOr, Negate, Choose, Argument, OnReceiver, IndexedBy, IndexOf, MemberOf, ReadOf, RightOf, WriteTo, ReceiverOf, Instead, OfLocal, OfField, OfElement, OfAttribute, Creating, FieldTo, On, Eval, Storing, ByName, ReceiverToStore, PieceOf, Counting, Turn, Frame, JoinTo, TextOf, WriteBehind}
+use Rattle.rb_machine.specs.Control.{Lines, LinesBehind, LineOf, Listing, Pairing, Then, Under, Rest, AssignTo, ReturnOf, Test, Again, RightOfAnd, RightOfOr, Negate, Choose, Argument, OnReceiver, IndexedBy, IndexOf, MemberOf, ReadOf, RightOf, WriteTo, ReceiverOf, Instead, OfLocal, OfField, OfElement, OfAttribute, Creating, FieldTo, On, Eval, Storing, ByName, ReceiverToStore, PieceOf, Counting, Turn, Frame, JoinTo, TextOf, WriteBehind, GlobalTo, OfGlobal, Threading, Locked, Owning}
 use Rattle.rb_code.specs.Erase.{erase, erase_piece, erase_block, erase_method}
 use Rattle.rb_code.specs.Resolved.{fits, every, if_some, block_fits}
-use Rattle.rb_code.proofs.Showing.{shows-array, shows-hash, shows-new_builtin, shows-nil, shows-false, shows-true, shows-self_ref, shows-field, shows-set_field, shows-update_field, shows-new, shows-own, shows-int, shows-sym, shows-local, shows-and, shows-or, shows-not, shows-if, shows-break, shows-next, shows-set_local, shows-while, shows-return, shows-str, shows-update_local, shows-update_element, shows-update_attribute, shows-store, shows-operate, shows-send, shows-walk, shows-function, shows-print}
-use Rattle.rb_code.proofs.Fitting.{fits-array, fits-hash, fits-new_builtin, fits-local, fits-set_field, fits-update_field, fits-new, fits-own, fits-and, fits-or, fits-not, fits-if, fits-set_local, fits-while, fits-return, fits-str, fits-update_local, fits-update_element, fits-update_attribute, fits-store, fits-operate, fits-send, fits-walk, fits-function, fits-print}
-use Rattle.rb_walk.specs.Outcome.{Gave, is_left, value_of, outcome}
+use Rattle.rb_code.proofs.Showing.{shows-array, shows-hash, shows-new_builtin, shows-nil, shows-false, shows-true, shows-self_ref, shows-field, shows-set_field, shows-update_field, shows-new, shows-own, shows-int, shows-sym, shows-local, shows-and, shows-or, shows-not, shows-if, shows-break, shows-next, shows-set_local, shows-while, shows-return, shows-str, shows-update_local, shows-update_element, shows-update_attribute, shows-store, shows-operate, shows-send, shows-walk, shows-function, shows-print, shows-start, shows-global, shows-set_global, shows-update_global}
+use Rattle.rb_code.proofs.Fitting.{fits-array, fits-hash, fits-new_builtin, fits-local, fits-set_field, fits-update_field, fits-new, fits-own, fits-and, fits-or, fits-not, fits-if, fits-set_local, fits-while, fits-return, fits-str, fits-update_local, fits-update_element, fits-update_attribute, fits-store, fits-operate, fits-send, fits-walk, fits-function, fits-print, fits-start, fits-set_global, fits-update_global}
+use Rattle.rb_walk.specs.Outcome.{Gave, is_left, value_of, outcome, Came}
 use Rattle.rb_walk.proofs.Moves.{gives, test_true, test_false, on, same, begins, follows, counts, too_many, too_deep, left}
 use Rattle.rb_walk.proofs.Immediates.{reads_element, told_value}
 use Rattle.rb_walk.specs.Answers.{wrote}
@@ -27,9 +27,9 @@ use Rattle.rb_builtin.specs.Names.{builtin_of}
 use Rattle.rb_builtin.proofs.Table.{same_is}
 use Rattle.rb_walk.proofs.Quick.{asks_nil, compares, calls_pair, calls_twice, updates, updates_over}
 use Rattle.rb_walk.proofs.Calls.{calls, no_such, none_plain}
-use Rattle.rb_walk.proofs.Places.{operator_number, or_else_stays, or_else_goes, and_then_stays, and_then_goes, operates, reads, attribute_is, target_local, target_field, target_element, target_attribute}
+use Rattle.rb_walk.proofs.Places.{operator_number, or_else_stays, or_else_goes, and_then_stays, and_then_goes, operates, reads, attribute_is, target_local, target_field, target_element, target_attribute, target_global}
 use mathlib.Core.Logic.{inl}
-use Rattle.rb_machine.specs.Call.{operator, last_value, enter, print, text_by, own_text, write}
+use Rattle.rb_machine.specs.Call.{operator, last_value, enter, print, text_by, own_text, write, ask_of}
 use Rattle.rb_walk.proofs.Arguments.{passing, passed, placed, placed_last, joined, only_left, only_came, over_left}
 use Rattle.rb_walk.proofs.Singles.{single}
 use Rattle.rb_walk.proofs.Fetching.{calls_fetched}
@@ -39,17 +39,18 @@ use Rattle.rb_code.specs.Dispatch.{method_at}
 use Rattle.rb_machine.specs.Begin.{begin_return}
 use Rattle.rb_walk.proofs.Pieces.{piece_code, shows_text, shows_code, joining, joins_code, text_long, text_joins, whole_text, too_long, not_long, asks_piece}
 use Rattle.std.proofs.lemmas.Int.{ints, to_z-of_z}
-use Rattle.rb_code.specs.Layout.{bound}
+use Rattle.rb_code.specs.Layout.{bound, have_slots}
 use Rattle.rb_machine.specs.Control.{ForEach, Give, Passing, Walking}
 use Rattle.rb_machine.specs.Turns.{holding}
-use Rattle.rb_machine.specs.Methods.{LoopsOver, EachPairOf}
+use Rattle.rb_machine.specs.Methods.{LoopsOver, EachPairOf, Synchronizes}
 use Rattle.rb_model.specs.Values.{To}
+use Rattle.rb_model.specs.Acts.{GetField}
 use Rattle.rb_model.specs.Doing.{pair}
 use Rattle.rb_builtin.specs.Deeds.{thing_of, walk_of}
 use Rattle.rb_walk.specs.Walks.{walking}
 use Rattle.rb_walk.proofs.Walks.{over_stops, no_step, start_left, begun_at, iteration_opens, iteration_goes, element_begins, element_ends, pair_begins, pairs_end, copied_left, no_pairs, block_comes, still_within, up_to_end}
 use Rattle.std.proofs.Common.{suc}
-use Rattle.rb_walk.proofs.Turns.{some_left, none_left, last_done, ends_within, deeper, opens, closes, closes_out, cut, answers_block, block_turns, takes_is}
+use Rattle.rb_walk.proofs.Turns.{some_left, none_left, last_done, ends_within, deeper, opens, closes, closes_out, cut, answers_block, block_turns, takes_is, back_is}
 use Rattle.rb_machine.specs.Methods.{deed}
 use Rattle.rb_walk.proofs.Elements.{calls_builtin, stores_builtin, writes_element, built_from, parts_are}
 use Rattle.rb_builtin.specs.declared.builtin.Builtin.TheVariants as builtin
@@ -57,8 +58,9 @@ use Rattle.rb_code.specs.Resolved.{form_text}
 use Rattle.rb_walk.proofs.Named.{unnamed_is, found_nowhere}
 use Rattle.rb_walk.proofs.Frames.{enters, other_count, frame_lies, enter_left, by_receiver, blocked, by_own, by_number, function_right, enters_apart, row_long}
 use Rattle.rb_walk.proofs.Targets.{operator_none, update_none, writer_some, writer_right, writer_none, writer_me}
-use Rattle.rb_walk.proofs.Objects.{fielded_by, created, created_from, initialize_left, initializes, first_right, takes_none, is_ready}
-use Rattle.rb_walk.specs.Objects.{plainly as fielded, updating as field_updated}
+use Rattle.rb_walk.proofs.Objects.{fielded_by, read_so, created, created_from, initialize_left, initializes, first_right, takes_none, is_ready}
+use Rattle.rb_walk.proofs.Owning.{no_owning, owning_left, owning_opens}
+use Rattle.rb_walk.specs.Objects.{of_self, of_all, plainly as fielded, globally, updating as field_updated}
 use Rattle.rb_interp.proofs.Alike.{Alike, alike}
 use Rattle.rb_interp.proofs.walker.Walker.+walk.Goals.{arguments-then-self-room+then-self-gt0+then-depth-lt-MAX_DEPTH+in_default+in_default-local_at, arguments-then-self-room+then-self-gt0+then-depth-lt-MAX_DEPTH+in_default+in-Some-local_at+in_default-share, arguments-else-self-room, text-in-Text+in_default, text-in-Code+else-is_left+else-is_left-2+in_default-add_value}
 use Rattle.rb_walk.proofs.Endings.{quietly}
@@ -1574,7 +1576,7 @@ pub begin_other-returns-in_default-clause-came : goal.begin_other-returns-in_def
 begin_other-returns-in_default-clause-came g m c = λ S names size st e l. (
   λ i p q. refl,
   λ start k a.
-      let o = c.over-in_default.ensures in
+      let o = c.over.ensures in
       rw (o.gives, o.left, o.store) (_, a, begin_left S (out-Node (erase c.args.code.now)) k (scope_of (me_of c.args.self.now.context.me) names c.args.room.now) c.args.depth c.args.self.now.left),
 )
 
@@ -2144,7 +2146,7 @@ operate_value-returns-clause-came g m c = λ S names size st e l.
           let number = same_is (builtin_of (text_of S c.args.name)) c.args.method (fst _ _ l.fits) in
           let f1 = rw (y.ensures.context, w.ensures.context, t.ensures.context, t.ensures.value, y.ensures.value, y.ensures.left, y.ensures.store) at o.came in
           let none = (rw (y.ensures.context, w.ensures.context, t.ensures.context, t.ensures.value) at (c.target_of.ensures.none c.in-None.is)) S st in
-          rw (o.log, y.ensures.store) (calls_builtin S _ start _ _ _ _ _ _ _ _ _ c.args.self.now.context.program.now c.args.method first (text_of S c.args.name) (value_of w.result w.new.self.value ∷ []) c.args.at none number e f1 (on _ (on _ g1 refl) refl)),
+          calls_builtin S _ start _ _ _ _ _ _ _ _ _ _ c.args.self.now.context.program.now c.args.method first (text_of S c.args.name) (value_of w.result w.new.self.value ∷ []) c.args.at none number e f1 (on _ (on _ g1 refl) refl),
     )
 
 pub combine-returns-in-Int-clause-came : goal.combine-returns-in-Int-clause-came
@@ -2217,7 +2219,7 @@ combine_value-returns-clause-came g m c = λ S names size st e l.
           let v = value_of c.args.current c.args.self.now.value in
           let number = operator_number S c.args.op ∙ sym c.method_of-method.ensures in
           let f1 = rw (y.ensures.context, w.ensures.context, t.ensures.context, t.ensures.value, y.ensures.value, y.ensures.left, y.ensures.store) at o.came in
-          rw (o.log, y.ensures.store) (calls_builtin S _ start _ _ _ _ _ _ _ _ _ c.args.self.now.context.program.now c.method_of-method.result v (operator S c.args.op) (value_of w.result w.new.self.value ∷ []) c.args.at (update_none c.args.self.now.context.script.now S st v c.args.op) number e f1 (on _ g1 refl)),
+          calls_builtin S _ start _ _ _ _ _ _ _ _ _ _ c.args.self.now.context.program.now c.method_of-method.result v (operator S c.args.op) (value_of w.result w.new.self.value ∷ []) c.args.at (update_none c.args.self.now.context.script.now S st v c.args.op) number e f1 (on _ g1 refl),
     )
 
 pub arguments-each-preserved : goal.arguments-each-preserved
@@ -2394,7 +2396,7 @@ evaluate_call-returns-then-depth-lt-MAX_DEPTH-3-clause-came g m c = λ S names s
   λ start k a.
       let o = c.field_apart.ensures in
       let b = begins _ _ (Under c.args.depth ∷ k) _ _ _ (shows-field c.args.code.now c.in-Field.name c.in-Field.at c.in-Field.is) (counts c.if-self-gt0-3.true c.if-depth-lt-MAX_DEPTH-3.true a) in
-      rw (o.left, o.log) (left S _ start _ _ _ k _ _ _ _ (o.came S start (Under c.args.depth ∷ k) _ (c.args.depth + 1) b)),
+      rw o.left (left S _ start _ _ _ k _ _ _ _ (o.came S start (Under c.args.depth ∷ k) _ (c.args.depth + 1) b)),
 )
 
 pub evaluate_call-returns-else-self-gt0-3-clause-came : goal.evaluate_call-returns-else-self-gt0-3-clause-came
@@ -2441,7 +2443,7 @@ begin_operand-returns-in-Field-clause-came g m c = λ S names size st e l. (
   λ i p q. refl,
   λ start k a.
       let o = c.field_apart.ensures in
-      rw (o.left, o.log) (o.came S start k _ c.args.depth (begins _ _ k _ _ _ (shows-field c.args.code.now c.in-Field.name c.in-Field.at c.in-Field.is) a)),
+      rw o.left (o.came S start k _ c.args.depth (begins _ _ k _ _ _ (shows-field c.args.code.now c.in-Field.name c.in-Field.at c.in-Field.is) a)),
 )
 
 pub begin_operand-returns-in-Local-clause-came : goal.begin_operand-returns-in-Local-clause-came
@@ -2635,7 +2637,7 @@ invoke-returns-in-None-clause-came g m c = λ S start k names st e number le lon
     let args = map plain (take c.args.count (drop c.args.self.now.base c.args.room.now)) in
     let o = c.call_any.ensures in
     let f = rw (c.passed.ensures long) at o.came in
-    rw o.log (calls_builtin S _ start _ _ _ _ _ _ _ _ _ c.args.self.now.context.program.now c.args.method v (text_of S c.args.name) args c.args.at (c.target_of.ensures.none c.in-None.is S st) number e f a)
+    calls_builtin S _ start _ _ _ _ _ _ _ _ _ _ c.args.self.now.context.program.now c.args.method v (text_of S c.args.name) args c.args.at (c.target_of.ensures.none c.in-None.is S st) number e f a
 
 pub own-returns-then-is_left-clause-came : goal.own-returns-then-is_left-clause-came
 own-returns-then-is_left-clause-came g m c = λ S names size st e l. (
@@ -3080,8 +3082,8 @@ store_by-returns-clause-came g m c = λ S names size st e l.
           let long : base + length c.args.args.now ≤ length r.new.room = omega (arith, r.ensures.base came, r.ensures.fits under.room) in
           let o = c.store_builtin.ensures in
           let number = same_is (builtin_of (text_of S c.args.name)) c.args.method (fst _ _ l.fits) in
-          let h1 = rw (r.ensures.context, t.ensures.context, w.ensures.context, t.ensures.value, c.passed.ensures long, o.log) at (o.came (text_of S c.args.name) number) in
-          rw o.log (stores_builtin S _ start _ _ _ _ _ _ _ _ _ c.args.self.now.context.program.now v (text_of S c.args.name) values c.args.at none e h1 (on _ (p.1 came) refl)),
+          let h1 = rw (r.ensures.context, t.ensures.context, w.ensures.context, t.ensures.value, c.passed.ensures long) at (o.came (text_of S c.args.name) number) in
+          stores_builtin S _ start _ _ _ _ _ _ _ _ _ _ c.args.self.now.context.program.now v (text_of S c.args.name) values c.args.at none e h1 (on _ (p.1 came) refl),
     )
 
 pub begin_other-returns-in-SelfRef-clause-came : goal.begin_other-returns-in-SelfRef-clause-came
@@ -3093,19 +3095,182 @@ begin_other-returns-in-SelfRef-clause-came g m c = λ S names size st e l. (
 )
 
 pub begin_other-returns-in-Start-clause-came : goal.begin_other-returns-in-Start-clause-came
-begin_other-returns-in-Start-clause-came g m c = λ S names size st e l. (
+begin_other-returns-in-Start-clause-came g m c = λ S names size st e l.
+    let x = c.in-Start in
+    let s = sym (ap (λ d. fits S d names size) x.is ∙ fits-start S names size x.args x.body x.slots x.at) ∙ l.fits in
+    let inside = sub _ l (rw (c.as_slice-in-Start.ensures, c.as_slice-in-Start-2.ensures) s) in (
+      λ i p q. (c.begin_thread.ensures.came S names size st e inside).0 i p q,
+      λ start k a. (c.begin_thread.ensures.came S names size st e inside).1 start k (rw c.as_slice-in-Start.ensures (begins _ _ k _ _ _ (shows-start c.args.code.now x.args x.body x.slots x.at x.is) a)),
+    )
+
+pub begin_global-returns-in-Global-clause-came : goal.begin_global-returns-in-Global-clause-came
+begin_global-returns-in-Global-clause-came g m c = λ S names size st e l. (
   λ i p q. refl,
   λ start k a.
-      let o = c.over.ensures in
-      rw (o.gives, o.left, o.store) (_, a, begin_left S (out-Node (erase c.args.code.now)) k (scope_of (me_of c.args.self.now.context.me) names c.args.room.now) c.args.depth c.args.self.now.left),
+      let o = c.ask_apart.ensures in
+      let x = c.in-Global in
+      let sc = scope_of (me_of c.args.self.now.context.me) names c.args.room.now in
+      let b = begins _ _ k _ _ _ (shows-global c.args.code.now x.name x.at x.is) a in
+      rw o.left (o.came S start k sc c.args.depth (same b (ap (λ v. ask_of v (GetField x.name) x.at k sc c.args.depth c.args.self.now.left) (sym c.globals.ensures)))),
 )
+
+pub begin_global-returns-in-SetGlobal-clause-came : goal.begin_global-returns-in-SetGlobal-clause-came
+begin_global-returns-in-SetGlobal-clause-came g m c = λ S names size st e l.
+    let x = c.in-SetGlobal in
+    let s = sym (ap (λ d. fits S d names size) x.is ∙ fits-set_global S names size x.name x.value x.at) ∙ l.fits in (
+      λ i p q. c.set_field.ensures.kept S names size st e (sub _ l (rw c.get.ensures s)) i p q,
+      λ start k a. c.set_field.ensures.came (GlobalTo x.name x.at) (globally c.globals-in-SetGlobal.ensures) S start k names size st e (sub _ l (rw c.get.ensures s)) (rw c.get.ensures (begins _ _ k _ _ _ (shows-set_global c.args.code.now x.name x.value x.at x.is) a)),
+    )
+
+pub begin_global-returns-in-UpdateGlobal-clause-came : goal.begin_global-returns-in-UpdateGlobal-clause-came
+begin_global-returns-in-UpdateGlobal-clause-came g m c = λ S names size st e l.
+    let x = c.in-UpdateGlobal in
+    let s = sym (ap (λ d. fits S d names size) x.is ∙ fits-update_global S names size x.name x.op x.value x.at) ∙ l.fits in
+    let promise = c.update_field.ensures.came (OfGlobal x.name) (of_all c.globals-in-UpdateGlobal.ensures) S names size st e (sub _ l (rw c.get-in-UpdateGlobal.ensures s)) in (
+      promise.0,
+      λ start k a.
+          let b = same (begins _ _ k _ _ _ (shows-update_global c.args.code.now x.name x.op x.value x.at x.is) a) (target_global S x.name x.op (erase x.value) x.at k (scope_of (me_of c.args.self.now.context.me) names c.args.room.now) c.args.depth c.args.self.now.left) in
+          promise.1 start k (rw c.get-in-UpdateGlobal.ensures b),
+    )
+
+pub begin_thread-returns-then-is_left-clause-came : goal.begin_thread-returns-then-is_left-clause-came
+begin_thread-returns-then-is_left-clause-came g m c = λ S names size st e l.
+    let inside = sub (every (map (fits S) c.args.args.now)) l (snd _ _ l.fits) in (
+      λ i p q. c.arguments-came.ensures.kept S names size st e inside i p q,
+      λ start k a. (c.arguments-came.ensures.came (Threading c.args.body) c.args.at S start k names size st e inside a).0 (sym c.is_left.ensures ∙ c.if-is_left.true),
+    )
+
+pub begin_thread-returns-clause-came : goal.begin_thread-returns-clause-came
+begin_thread-returns-clause-came g m c = λ S names size st e l.
+    let y = c.arguments-came in
+    let inside = sub (every (map (fits S) c.args.args.now)) l (snd _ _ l.fits) in (
+      λ i p q. y.ensures.kept S names size st e inside i p q,
+      λ start k a.
+          let both = y.ensures.came (Threading c.args.body) c.args.at S start k names size st e inside a in
+          let came = sym c.is_left.ensures ∙ c.if-is_left.false in
+          let edge = y.ensures.fits l.room in
+          let last = y.ensures.base came in
+          let long : c.args.self.now.base + length c.args.args.now ≤ length y.new.room = up_to_end c.args.self.now.base _ _ (length c.args.args.now) edge last in
+          let values = c.passed.ensures long in
+          let f = rw (y.ensures.context, values) at c.start.ensures.came in
+          let have = fst (have_slots (S.captured_names c.args.body) names c.args.slots.now) (every (map (fits S) c.args.args.now) names size) l.fits in
+          let short : length names ≤ length y.new.room = omega (arith, l.within, l.below, l.room, y.ensures.room) in
+          rw c.start.ensures.left (f S start k names c.args.depth e have short (on _ (both.1 came) refl)),
+    )
+
+pub synchronize-returns-then-is_left-clause-came : goal.synchronize-returns-then-is_left-clause-came
+synchronize-returns-then-is_left-clause-came g m c = λ S names size st e l. (
+  λ i p q. refl,
+  λ start k a.
+      let y = c.ask_apart-taken in
+      let step = Locked (thing_of c.args.mutex) (erase_block c.args.block.now) c.args.at in
+      let come = y.ensures.came S start (Then step ∷ k) (scope_of (me_of c.args.self.now.context.me) names c.args.room.now) c.args.depth a in
+      rw y.ensures.left (passes S _ start _ y.result y.new.self.value y.new.self.leave _ step k _ _ _ (sym c.is_left.ensures ∙ c.if-is_left.true) come),
+)
+
+pub synchronize-returns-clause-came : goal.synchronize-returns-clause-came
+synchronize-returns-clause-came g m c = λ S names size st e l.
+    let y = c.ask_apart-taken in
+    let inside = moved _ _ y.ensures.base refl l in
+    let z = c.owning-came in
+    let o = c.give_back.ensures in (
+      λ i p q.
+          let f = rw y.ensures.context at z.ensures.kept in
+          f S names size st e inside i p (omega (arith, q, y.ensures.base)),
+      λ start k a.
+          let block = c.args.block.now in
+          let own = S.block_names block.at in
+          let step = Locked (thing_of c.args.mutex) (erase_block block) c.args.at in
+          let come = y.ensures.came S start (Then step ∷ k) (scope_of (me_of c.args.self.now.context.me) names c.args.room.now) c.args.depth a in
+          let g1 = given y.result y.new.self.value y.new.self.leave (sym c.is_left.ensures ∙ c.if-is_left.false) come in
+          let f = rw (y.ensures.context, y.ensures.left) at z.ensures.came in
+          let inner = f (thing_of c.args.mutex) c.args.at S start k names size st e inside (on _ g1 refl) in
+          let long : length names ≤ length z.new.room = omega (arith, l.within, l.below, l.room, z.ensures.room) in
+          let back_to = rw (z.ensures.context, y.ensures.context) at o.came in
+          let outer = back_to (erase_block block) S start k (scope_of (me_of c.args.self.now.context.me) (names ++ own) z.new.room) c.args.depth (length names) inner in
+          let log = g.O.ThreadStore.log c.give_back.new.self.store in
+          let private = g.O.ThreadStore.private c.give_back.new.self.store in
+          let how = outcome c.give_back.result c.give_back.new.self.value c.give_back.new.self.leave in
+          rw o.left (subst (λ sc. Came S c.args.self.now.context.steps start log private how k sc c.args.depth z.new.self.left) (back_is (me_of c.args.self.now.context.me) names own z.new.room long) outer),
+    )
+
+pub owning-returns-then-self-eq0-clause-came : goal.owning-returns-then-self-eq0-clause-came
+owning-returns-then-self-eq0-clause-came g m c = λ mutex at S start k names size st e l a.
+    let o = c.over.ensures in
+    rw (o.gives, o.left, o.store) (no_owning mutex _ at k _ _ _ c.if-self-eq0.true a)
+
+pub owning-returns-then-room-from-clause-came : goal.owning-returns-then-room-from-clause-came
+owning-returns-then-room-from-clause-came g m c = λ mutex at S start k names size st e l a.
+    let o = c.over-then-room-from.ensures in
+    rw (o.gives, o.left, o.store) (_, a, owning_left S mutex (erase_block c.args.block.now) at k _ _ _)
+
+pub owning-returns-clause-kept : goal.owning-returns-clause-kept
+owning-returns-clause-kept g m c = λ S names size st e l i p q.
+    let block = c.args.block.now in
+    let within = deeper S block (moved _ _ refl c.open_block.ensures.room l) in
+    let edge = ends_within S block l in
+    let f = rw c.as_slice.ensures at c.body.ensures.came in
+    (f S (names ++ S.block_names block.at) size st e within).0 i p q ∙ c.open_block.ensures.above i (omega (arith, p, edge))
+
+pub owning-returns-clause-came : goal.owning-returns-clause-came
+owning-returns-clause-came g m c = λ mutex at S start k names size st e l a.
+    let block = c.args.block.now in
+    let own = S.block_names block.at in
+    let some : 0 < c.args.self.now.left = omega (arith, c.if-self-eq0.false) in
+    let t = owning_opens block c.args.room.now c.open_block.new.room mutex at l c.open_block.ensures.room some c.open_block.ensures.below c.open_block.ensures.within a in
+    let within = deeper S block (moved _ _ refl c.open_block.ensures.room l) in
+    let f = rw c.as_slice.ensures at c.body.ensures.came in
+    (f S (names ++ own) size st e within).1 start (Owning mutex (erase_block block) at (length names) ∷ k) t
+
+pub send_block-returns-in-Owned-clause-came : goal.send_block-returns-in-Owned-clause-came
+send_block-returns-in-Owned-clause-came g m c = λ S names size st e l.
+    let w = c.walk-came in
+    let right = snd _ _ l.fits in
+    let first = sub (fits S c.args.receiver.now) l (fst _ _ right) in
+    let t = c.take-receiver.ensures in
+    let y = c.arguments-came in
+    let under = moved _ _ w.ensures.base w.ensures.room (sub (every (map (fits S) c.args.args.now)) l (fst _ _ (snd _ _ right))) in
+    let o = c.iterations.ensures in
+    let base : c.iterations.new.self.base ≡ c.args.self.now.base = o.base ∙ (t.base ∙ w.ensures.base) in
+    let inside = moved _ _ base (y.ensures.room ∙ w.ensures.room) (sub (block_fits S c.args.block.now) l (snd _ _ (snd _ _ right))) in (
+      λ i p q.
+          let f = rw (t.context, t.base, w.ensures.context) at y.ensures.kept in
+          let stays = f S names size st e under i p (omega (arith, q, w.ensures.base)) ∙ (w.ensures.came S names size st e first).0 i p q in
+          let u = rw (o.context, y.ensures.context, t.context, w.ensures.context) at c.synchronize.ensures.came in
+          (u S names size st e inside).0 i p (omega (arith, q, base)) ∙ stays,
+      λ start k a.
+          let step = ReceiverOf (text_of S c.args.name) (map erase c.args.args.now) (Some (erase_block c.args.block.now)) c.args.at in
+          let come = (w.ensures.came S names size st e first).1 start (Then step ∷ k) a in
+          let none = sym c.is_left.ensures ∙ c.if-is_left.false in
+          let v = value_of w.result w.new.self.value in
+          let f = rw (t.context, t.base, t.left, t.store, w.ensures.context) at y.ensures.came in
+          let ends = f (OnReceiver v (text_of S c.args.name) (Some (erase_block c.args.block.now))) c.args.at S start k names size st e under (on _ (given w.result w.new.self.value w.new.self.leave none come) refl) in
+          let at_end = ends.1 (sym c.is_left-2.ensures ∙ c.if-is_left-2.false) in
+          let short : w.new.self.base ≤ length w.new.room = still_within w.ensures.base w.ensures.room l.room in
+          let from = rw t.base at y.ensures.fits in
+          let end = rw t.base at y.ensures.base in
+          let edge = from short in
+          let last = end (sym c.is_left-2.ensures ∙ c.if-is_left-2.false) in
+          let passed = rw t.base at c.passed-args.ensures in
+          let long : w.new.self.base + length c.args.args.now ≤ length y.new.room = up_to_end w.new.self.base _ _ (length c.args.args.now) edge last in
+          let values = passed long in
+          let number = same_is (builtin_of (text_of S c.args.name)) c.args.method (fst _ _ l.fits) in
+          let args = map plain (take (length c.args.args.now) (drop w.new.self.base y.new.room)) in
+          let answer = deed c.args.self.now.context.program.now v (text_of S c.args.name) args (Some (length c.args.block.now.params)) in
+          let none_own = (rw (y.ensures.context, t.context, w.ensures.context, t.value) at (c.target_of.ensures.none c.in_default.is)) S st in
+          let table = answers_block c.args.block.now v (text_of S c.args.name) args c.args.at answer none_own (ap (λ (ns : Program). deed ns v (text_of S c.args.name) args (Some (length c.args.block.now.params))) (sym e)) at_end in
+          let said = rw (y.ensures.context, t.context, w.ensures.context, t.value, values, c.len.ensures, c.in-Owned.is) at o.opens in
+          let turning = block_comes S _ start _ _ answer (Synchronizes (thing_of c.in-Owned.mutex)) (erase_block c.args.block.now) c.args.at k _ _ _ (said (text_of S c.args.name) number) table in
+          let u = rw (o.context, o.left, o.store, y.ensures.context, t.context, w.ensures.context) at c.synchronize.ensures.came in
+          (u S names size st e inside).1 start k turning,
+    )
 
 pub begin-returns-in-Field-clause-came : goal.begin-returns-in-Field-clause-came
 begin-returns-in-Field-clause-came g m c = λ S names size st e l. (
   λ i p q. refl,
   λ start k a.
       let o = c.field_apart.ensures in
-      rw (o.left, o.log) (o.came S start k _ c.args.depth (begins _ _ k _ _ _ (shows-field c.args.code.now c.in-Field.name c.in-Field.at c.in-Field.is) a)),
+      rw o.left (o.came S start k _ c.args.depth (begins _ _ k _ _ _ (shows-field c.args.code.now c.in-Field.name c.in-Field.at c.in-Field.is) a)),
 )
 
 pub begin_set_field-returns-in-SetField-clause-came : goal.begin_set_field-returns-in-SetField-clause-came
@@ -3113,7 +3278,7 @@ begin_set_field-returns-in-SetField-clause-came g m c = λ S names size st e l.
     let x = c.in-SetField in
     let s = sym (ap (λ d. fits S d names size) x.is ∙ fits-set_field S names size x.name x.value x.at) ∙ l.fits in (
       λ i p q. c.set_field.ensures.kept S names size st e (sub _ l (rw c.get.ensures s)) i p q,
-      λ start k a. c.set_field.ensures.came (FieldTo x.name x.at) fielded S start k names size st e (sub _ l (rw c.get.ensures s)) (rw c.get.ensures (begins _ _ k _ _ _ (shows-set_field c.args.code.now x.name x.value x.at x.is) a)),
+      λ start k a. c.set_field.ensures.came (FieldTo x.name x.at) (fielded refl) S start k names size st e (sub _ l (rw c.get.ensures s)) (rw c.get.ensures (begins _ _ k _ _ _ (shows-set_field c.args.code.now x.name x.value x.at x.is) a)),
     )
 
 pub begin_update_field-returns-in-Some-clause-came : goal.begin_update_field-returns-in-Some-clause-came
@@ -3134,7 +3299,7 @@ begin_update_field-returns-in-None-clause-came g m c = λ S names size st e l.
     let s = sym (ap (λ d. fits S d names size) x.is ∙ fits-update_field S names size x.name x.op x.value x.at) ∙ l.fits in
     let y = c.added.ensures in
     let f = rw (y.context, y.base, y.log, y.still c.in-None.is, y.kept c.in-None.is) at c.update_field.ensures.came in
-    let promise = f S names size st e (sub _ l (rw c.get-value.ensures s)) in (
+    let promise = f (OfField x.name) (of_self refl) S names size st e (sub _ l (rw c.get-value.ensures s)) in (
       promise.0,
       λ start k a.
           let b = same (begins _ _ k _ _ _ (shows-update_field c.args.code.now x.name x.op x.value x.at x.is) a) (target_field S x.name x.op (erase x.value) x.at k (scope_of (me_of c.args.self.now.context.me) names c.args.room.now) c.args.depth c.args.self.now.left) in
@@ -3164,94 +3329,89 @@ set_field-returns-clause-came g m c = λ step is S start k names size st e l a.
     let come = (w.ensures.came S names size st e l).1 start (Then step ∷ k) a in
     let g1 = given w.result w.new.self.value w.new.self.leave (sym c.is_left.ensures ∙ c.if-is_left.false) come in
     let f = rw w.ensures.context at c.write_field.ensures.came in
-    rw (c.write_field.ensures.left, c.write_field.ensures.log) (f S start k _ c.args.depth (fielded_by S _ start _ c.args.name c.args.at step is (value_of w.result w.new.self.value) g1))
+    rw c.write_field.ensures.left (f S start k _ c.args.depth (fielded_by S _ start _ (me_of c.args.owner) c.args.name c.args.at step is (value_of w.result w.new.self.value) g1))
 
 pub update_field-returns-then-is_left-clause-came : goal.update_field-returns-then-is_left-clause-came
-update_field-returns-then-is_left-clause-came g m c = λ S names size st e l. (
+update_field-returns-then-is_left-clause-came g m c = λ place is S names size st e l. (
   λ i p q. refl,
   λ start k a.
       let r = c.field-current in
-      let step = ReadOf (OfField c.args.name) c.args.op (erase c.args.value.now) c.args.at in
-      let come = r.ensures.came S start (Then step ∷ k) (scope_of (me_of c.args.self.now.context.me) names c.args.room.now) c.args.depth a in
-      rw (r.ensures.left, r.ensures.log) (passes S _ start _ r.result r.new.self.value r.new.self.leave _ step k _ _ _ (sym c.is_left.ensures ∙ c.if-is_left.true) come),
+      let step = ReadOf place c.args.op (erase c.args.value.now) c.args.at in
+      let come = r.ensures.came S start (Then step ∷ k) (scope_of (me_of c.args.self.now.context.me) names c.args.room.now) c.args.depth (same a (read_so S _ _ c.args.name place c.args.op (erase c.args.value.now) c.args.at k (scope_of (me_of c.args.self.now.context.me) names c.args.room.now) c.args.depth _ refl is)) in
+      rw r.ensures.left (passes S _ start _ r.result r.new.self.value r.new.self.leave _ step k _ _ _ (sym c.is_left.ensures ∙ c.if-is_left.true) come),
 )
 
 pub update_field-returns-then-is_true_now-clause-came : goal.update_field-returns-then-is_true_now-clause-came
-update_field-returns-then-is_true_now-clause-came g m c = λ S names size st e l. (
+update_field-returns-then-is_true_now-clause-came g m c = λ place is S names size st e l. (
   λ i p q. refl,
   λ start k a.
       let r = c.field-current in
-      let place = OfField c.args.name in
       let step = ReadOf place c.args.op (erase c.args.value.now) c.args.at in
-      let come = r.ensures.came S start (Then step ∷ k) (scope_of (me_of c.args.self.now.context.me) names c.args.room.now) c.args.depth a in
+      let come = r.ensures.came S start (Then step ∷ k) (scope_of (me_of c.args.self.now.context.me) names c.args.room.now) c.args.depth (same a (read_so S _ _ c.args.name place c.args.op (erase c.args.value.now) c.args.at k (scope_of (me_of c.args.self.now.context.me) names c.args.room.now) c.args.depth _ refl is)) in
       let none = sym c.is_left.ensures ∙ c.if-is_left.false in
       let g1 = given r.result r.new.self.value r.new.self.leave none come in
       let t = sym (c.is_true_now.ensures none) ∙ c.if-is_true_now.true in
-      rw (r.ensures.left, r.ensures.log) (comes S _ start _ _ k _ _ _ _ _ (gave r.result r.new.self.value r.new.self.leave none) (or_else_stays S _ start _ (value_of r.result r.new.self.value) place c.args.op (erase c.args.value.now) c.args.at c.in-OrElse.is t g1)),
+      rw r.ensures.left (comes S _ start _ _ k _ _ _ _ _ (gave r.result r.new.self.value r.new.self.leave none) (or_else_stays S _ start _ (value_of r.result r.new.self.value) place c.args.op (erase c.args.value.now) c.args.at c.in-OrElse.is t g1)),
 )
 
 pub update_field-returns-else-is_true_now-clause-came : goal.update_field-returns-else-is_true_now-clause-came
-update_field-returns-else-is_true_now-clause-came g m c = λ S names size st e l.
+update_field-returns-else-is_true_now-clause-came g m c = λ place is S names size st e l.
     let r = c.field-current in (
       λ i p q.
           let f = rw r.ensures.context at c.set_field.ensures.kept in
           f S names size st e (moved _ _ r.ensures.base refl l) i p (omega (arith, q, r.ensures.base)),
       λ start k a.
-          let place = OfField c.args.name in
           let step = ReadOf place c.args.op (erase c.args.value.now) c.args.at in
-          let come = r.ensures.came S start (Then step ∷ k) (scope_of (me_of c.args.self.now.context.me) names c.args.room.now) c.args.depth a in
+          let come = r.ensures.came S start (Then step ∷ k) (scope_of (me_of c.args.self.now.context.me) names c.args.room.now) c.args.depth (same a (read_so S _ _ c.args.name place c.args.op (erase c.args.value.now) c.args.at k (scope_of (me_of c.args.self.now.context.me) names c.args.room.now) c.args.depth _ refl is)) in
           let none = sym c.is_left.ensures ∙ c.if-is_left.false in
           let g1 = given r.result r.new.self.value r.new.self.leave none come in
           let t = sym (c.is_true_now.ensures none) ∙ c.if-is_true_now.false in
-          let f = rw (r.ensures.context, r.ensures.left, r.ensures.log) at c.set_field.ensures.came in
-          f (WriteTo place c.args.at) field_updated S start k names size st e (moved _ _ r.ensures.base refl l) (or_else_goes S _ start _ (value_of r.result r.new.self.value) place c.args.op (erase c.args.value.now) c.args.at c.in-OrElse.is t g1),
+          let f = rw (r.ensures.context, r.ensures.left) at c.set_field.ensures.came in
+          f (WriteTo place c.args.at) (field_updated place is) S start k names size st e (moved _ _ r.ensures.base refl l) (or_else_goes S _ start _ (value_of r.result r.new.self.value) place c.args.op (erase c.args.value.now) c.args.at c.in-OrElse.is t g1),
     )
 
 pub update_field-returns-then-not-is_true_now-clause-came : goal.update_field-returns-then-not-is_true_now-clause-came
-update_field-returns-then-not-is_true_now-clause-came g m c = λ S names size st e l. (
+update_field-returns-then-not-is_true_now-clause-came g m c = λ place is S names size st e l. (
   λ i p q. refl,
   λ start k a.
       let r = c.field-current in
-      let place = OfField c.args.name in
       let step = ReadOf place c.args.op (erase c.args.value.now) c.args.at in
-      let come = r.ensures.came S start (Then step ∷ k) (scope_of (me_of c.args.self.now.context.me) names c.args.room.now) c.args.depth a in
+      let come = r.ensures.came S start (Then step ∷ k) (scope_of (me_of c.args.self.now.context.me) names c.args.room.now) c.args.depth (same a (read_so S _ _ c.args.name place c.args.op (erase c.args.value.now) c.args.at k (scope_of (me_of c.args.self.now.context.me) names c.args.room.now) c.args.depth _ refl is)) in
       let none = sym c.is_left.ensures ∙ c.if-is_left.false in
       let g1 = given r.result r.new.self.value r.new.self.leave none come in
       let t = sym (c.is_true_now-in-AndThen.ensures none) ∙ c.if-not-is_true_now.true in
-      rw (r.ensures.left, r.ensures.log) (comes S _ start _ _ k _ _ _ _ _ (gave r.result r.new.self.value r.new.self.leave none) (and_then_stays S _ start _ (value_of r.result r.new.self.value) place c.args.op (erase c.args.value.now) c.args.at c.in-AndThen.is t g1)),
+      rw r.ensures.left (comes S _ start _ _ k _ _ _ _ _ (gave r.result r.new.self.value r.new.self.leave none) (and_then_stays S _ start _ (value_of r.result r.new.self.value) place c.args.op (erase c.args.value.now) c.args.at c.in-AndThen.is t g1)),
 )
 
 pub update_field-returns-else-not-is_true_now-clause-came : goal.update_field-returns-else-not-is_true_now-clause-came
-update_field-returns-else-not-is_true_now-clause-came g m c = λ S names size st e l.
+update_field-returns-else-not-is_true_now-clause-came g m c = λ place is S names size st e l.
     let r = c.field-current in (
       λ i p q.
           let f = rw r.ensures.context at c.set_field-in-AndThen.ensures.kept in
           f S names size st e (moved _ _ r.ensures.base refl l) i p (omega (arith, q, r.ensures.base)),
       λ start k a.
-          let place = OfField c.args.name in
           let step = ReadOf place c.args.op (erase c.args.value.now) c.args.at in
-          let come = r.ensures.came S start (Then step ∷ k) (scope_of (me_of c.args.self.now.context.me) names c.args.room.now) c.args.depth a in
+          let come = r.ensures.came S start (Then step ∷ k) (scope_of (me_of c.args.self.now.context.me) names c.args.room.now) c.args.depth (same a (read_so S _ _ c.args.name place c.args.op (erase c.args.value.now) c.args.at k (scope_of (me_of c.args.self.now.context.me) names c.args.room.now) c.args.depth _ refl is)) in
           let none = sym c.is_left.ensures ∙ c.if-is_left.false in
           let g1 = given r.result r.new.self.value r.new.self.leave none come in
           let t = sym (c.is_true_now-in-AndThen.ensures none) ∙ c.if-not-is_true_now.false in
-          let f = rw (r.ensures.context, r.ensures.left, r.ensures.log) at c.set_field-in-AndThen.ensures.came in
-          f (WriteTo place c.args.at) field_updated S start k names size st e (moved _ _ r.ensures.base refl l) (and_then_goes S _ start _ (value_of r.result r.new.self.value) place c.args.op (erase c.args.value.now) c.args.at c.in-AndThen.is t g1),
+          let f = rw (r.ensures.context, r.ensures.left) at c.set_field-in-AndThen.ensures.came in
+          f (WriteTo place c.args.at) (field_updated place is) S start k names size st e (moved _ _ r.ensures.base refl l) (and_then_goes S _ start _ (value_of r.result r.new.self.value) place c.args.op (erase c.args.value.now) c.args.at c.in-AndThen.is t g1),
     )
 
 pub update_field-returns-then-is_left-2-clause-came : goal.update_field-returns-then-is_left-2-clause-came
-update_field-returns-then-is_left-2-clause-came g m c = λ S names size st e l.
+update_field-returns-then-is_left-2-clause-came g m c = λ place is S names size st e l.
     let r = c.field-current in (
       λ i p q.
           let f = rw r.ensures.context at c.combine-made.ensures.came in
           (f S names size st e (moved _ _ r.ensures.base refl l)).0 i p (omega (arith, q, r.ensures.base)),
       λ start k a.
-          let place = OfField c.args.name in
           let step = ReadOf place c.args.op (erase c.args.value.now) c.args.at in
-          let come = r.ensures.came S start (Then step ∷ k) (scope_of (me_of c.args.self.now.context.me) names c.args.room.now) c.args.depth a in
+          let come = r.ensures.came S start (Then step ∷ k) (scope_of (me_of c.args.self.now.context.me) names c.args.room.now) c.args.depth (same a (read_so S _ _ c.args.name place c.args.op (erase c.args.value.now) c.args.at k (scope_of (me_of c.args.self.now.context.me) names c.args.room.now) c.args.depth _ refl is)) in
           let none = sym c.is_left.ensures ∙ c.if-is_left.false in
           let g1 = given r.result r.new.self.value r.new.self.leave none come in
           let y = c.combine-made in
-          let f = rw (r.ensures.context, r.ensures.left, r.ensures.log) at y.ensures.came in
+          let f = rw (r.ensures.context, r.ensures.left) at y.ensures.came in
           let e2 = (f S names size st e (moved _ _ r.ensures.base refl l)).1 start (Then (WriteTo place c.args.at) ∷ k) (operates S _ start _ (value_of r.result r.new.self.value) place c.args.op (erase c.args.value.now) c.args.at c.in_default.not-OrElse c.in_default.not-AndThen g1) in
           passes S _ start _ y.result y.new.self.value y.new.self.leave _ (WriteTo place c.args.at) k _ _ _ (sym c.is_left-in_default.ensures ∙ c.if-is_left-2.true) e2,
     )
@@ -3305,24 +3465,23 @@ update_field-returns-else-is_left-2 g m c =
     let r = c.field-current in
     let y = c.combine-made in
     let z = c.write_field.ensures in
-    let place = OfField c.args.name in
     record {
       base = z.base ∙ (y.ensures.base ∙ r.ensures.base);
       context = z.context ∙ (y.ensures.context ∙ r.ensures.context);
       room = y.ensures.room;
       less = omega (arith, z.left, y.ensures.less, r.ensures.left);
-      came = λ S names size st e l.
-          let f = rw (r.ensures.context, r.ensures.left, r.ensures.log) at y.ensures.came in
+      came = λ place is S names size st e l.
+          let f = rw (r.ensures.context, r.ensures.left) at y.ensures.came in
           let promise = f S names size st e (moved _ _ r.ensures.base refl l) in (
             λ i p q. promise.0 i p (omega (arith, q, r.ensures.base)),
             λ start k a.
-                let come = r.ensures.came S start (Then (ReadOf place c.args.op (erase c.args.value.now) c.args.at) ∷ k) (scope_of (me_of c.args.self.now.context.me) names c.args.room.now) c.args.depth a in
+                let come = r.ensures.came S start (Then (ReadOf place c.args.op (erase c.args.value.now) c.args.at) ∷ k) (scope_of (me_of c.args.self.now.context.me) names c.args.room.now) c.args.depth (same a (read_so S _ _ c.args.name place c.args.op (erase c.args.value.now) c.args.at k (scope_of (me_of c.args.self.now.context.me) names c.args.room.now) c.args.depth _ refl is)) in
                 let none = sym c.is_left.ensures ∙ c.if-is_left.false in
                 let g1 = given r.result r.new.self.value r.new.self.leave none come in
                 let e2 = promise.1 start (Then (WriteTo place c.args.at) ∷ k) (operates S _ start _ (value_of r.result r.new.self.value) place c.args.op (erase c.args.value.now) c.args.at c.in_default.not-OrElse c.in_default.not-AndThen g1) in
                 let g2 = given y.result y.new.self.value y.new.self.leave (sym c.is_left-in_default.ensures ∙ c.if-is_left-2.false) e2 in
                 let h1 = rw (y.ensures.context, r.ensures.context) at z.came in
-                rw (z.left, z.log) (h1 S start k _ c.args.depth (on _ g2 refl)),
+                rw z.left (h1 S start k _ c.args.depth (fielded_by S _ start _ (me_of c.args.owner) c.args.name c.args.at (WriteTo place c.args.at) (field_updated place is) (value_of y.result y.new.self.value) g2)),
           );
     }
 
@@ -3605,7 +3764,7 @@ advance_line-returns-in-Text-clause-shortens g m c = λ t w q.
 pub advance_line-returns-in_default-clause-came : goal.advance_line-returns-in_default-clause-came
 advance_line-returns-in_default-clause-came g m c = λ t S start k names st e n b w a.
     let y = c.advance.ensures in
-    rw y.log (y.came t S start k (scope_of (me_of c.args.self.now.context.me) names c.args.room.now) e w a)
+    y.came t S start k (scope_of (me_of c.args.self.now.context.me) names c.args.room.now) e w a
 
 pub advance_line-returns-in_default-clause-shortens : goal.advance_line-returns-in_default-clause-shortens
 advance_line-returns-in_default-clause-shortens g m c = c.advance.ensures.shortens
@@ -4213,7 +4372,7 @@ set_element-returns-clause-came g m c = λ S names size st e l. (
       let g1 = given w.result w.new.self.value w.new.self.leave (sym c.is_left.ensures ∙ c.if-is_left.false) come in
       let o = c.write_element.ensures in
       let f = rw w.ensures.context at o.came in
-      rw o.log (writes_element S _ start _ _ _ _ _ _ _ _ _ c.args.self.now.context.program.now v (value_of w.result w.new.self.value) (plain c.args.index) c.args.at (operator_none c.args.self.now.context.script.now S st v (codes "[]=") refl) e (rw o.log at f) (on _ g1 refl)),
+      writes_element S _ start _ _ _ _ _ _ _ _ _ _ c.args.self.now.context.program.now v (value_of w.result w.new.self.value) (plain c.args.index) c.args.at (operator_none c.args.self.now.context.script.now S st v (codes "[]=") refl) e (f) (on _ g1 refl),
 )
 
 pub update_at-returns-then-is_true_now-clause-came : goal.update_at-returns-then-is_true_now-clause-came
@@ -4269,7 +4428,7 @@ update_at-returns-else-is_left-clause-came g m c = λ S names size st e l. (
       let g2 = given y.result y.new.self.value y.new.self.leave (sym c.is_left.ensures ∙ c.if-is_left.false) e2 in
       let o = c.write_element.ensures in
       let f = rw y.ensures.context at o.came in
-      rw o.log (writes_element S _ start _ _ _ _ _ _ _ _ _ c.args.self.now.context.program.now v (value_of y.result y.new.self.value) (plain c.args.index) c.args.at (operator_none c.args.self.now.context.script.now S st v (codes "[]=") refl) e (rw o.log at f) (on _ g2 refl)),
+      writes_element S _ start _ _ _ _ _ _ _ _ _ _ c.args.self.now.context.program.now v (value_of y.result y.new.self.value) (plain c.args.index) c.args.at (operator_none c.args.self.now.context.script.now S st v (codes "[]=") refl) e (f) (on _ g2 refl),
 )
 
 pub update_element-returns-then-is_left-clause-came : goal.update_element-returns-then-is_left-clause-came
@@ -4358,8 +4517,8 @@ update_element-returns-then-is_left-3-clause-came g m c = λ S names size st e l
           let f3 = rw (y.ensures.context, u.ensures.context, t.ensures.context, w.ensures.context, y.ensures.left, y.ensures.store, t.ensures.value, same_copy) at r.ensures.came in
           let reads = ReadOf (OfElement first second) c.args.op (erase c.args.value.now) c.args.at in
           let none = operator_none c.args.self.now.context.script.now S st first (codes "[]") refl in
-          let e3 = calls_builtin S _ start _ _ _ _ _ _ _ _ _ c.args.self.now.context.program.now (Some builtin.Index) first (codes "[]") (second ∷ []) c.args.at none refl e f3 (on _ g2 refl) in
-          rw (r.ensures.log, y.ensures.store) (passes S _ start _ r.result r.new.self.value r.new.self.leave _ reads k _ _ _ (sym c.is_left-3.ensures ∙ c.if-is_left-3.true) e3),
+          let e3 = calls_builtin S _ start _ _ _ _ _ _ _ _ _ _ c.args.self.now.context.program.now (Some builtin.Index) first (codes "[]") (second ∷ []) c.args.at none refl e f3 (on _ g2 refl) in
+          passes S _ start _ r.result r.new.self.value r.new.self.leave _ reads k _ _ _ (sym c.is_left-3.ensures ∙ c.if-is_left-3.true) e3,
     )
 
 pub update_element-returns-clause-came : goal.update_element-returns-clause-came
@@ -4392,11 +4551,11 @@ update_element-returns-clause-came g m c = λ S names size st e l.
           let f3 = rw (y.ensures.context, u.ensures.context, t.ensures.context, w.ensures.context, y.ensures.left, y.ensures.store, t.ensures.value, same_copy) at r.ensures.came in
           let reads = ReadOf (OfElement first second) c.args.op (erase c.args.value.now) c.args.at in
           let none = operator_none c.args.self.now.context.script.now S st first (codes "[]") refl in
-          let e3 = calls_builtin S _ start _ _ _ _ _ _ _ _ _ c.args.self.now.context.program.now (Some builtin.Index) first (codes "[]") (second ∷ []) c.args.at none refl e f3 (on _ g2 refl) in
+          let e3 = calls_builtin S _ start _ _ _ _ _ _ _ _ _ _ c.args.self.now.context.program.now (Some builtin.Index) first (codes "[]") (second ∷ []) c.args.at none refl e f3 (on _ g2 refl) in
           let g3 = given r.result r.new.self.value r.new.self.leave (sym c.is_left-3.ensures ∙ c.if-is_left-3.false) e3 in
           let all = r.ensures.base ∙ (y.ensures.base ∙ (u.ensures.base ∙ (t.ensures.base ∙ w.ensures.base))) in
           let last = moved _ _ all (u.ensures.room ∙ w.ensures.room) (sub (fits S c.args.value.now) l (snd _ _ (snd _ _ l.fits))) in
-          let h1 = rw (r.ensures.context, y.ensures.context, u.ensures.context, t.ensures.context, w.ensures.context, t.ensures.value, y.ensures.value, r.ensures.log, y.ensures.store) at c.update_at.ensures.came in
+          let h1 = rw (r.ensures.context, y.ensures.context, u.ensures.context, t.ensures.context, w.ensures.context, t.ensures.value, y.ensures.value) at c.update_at.ensures.came in
           (h1 S names size st e last).1 start k g3,
     )
 
@@ -4452,7 +4611,7 @@ walk_elements-returns-in_default-clause-came g m c = λ S names size st e l. (
       let none = rw inv.context at c.next_element.ensures.none in
       let ends = none c.in_default.is (walking c.args.pass made i.0) block S start k _ _ i.1 in
       let z = c.finish.ensures in
-      let f = rw (y.context, inv.context, y.left, y.log) at z.came in
+      let f = rw (y.context, inv.context, y.left) at z.came in
       rw (z.left, y.left) (f i.0 c.args.depth S start k _ e ends),
 )
 
@@ -4467,7 +4626,7 @@ walk_elements-returns-then-is_left-clause-came g m c = λ S names size st e l. (
       let y = c.next_element.ensures in
       let found = rw inv.context at c.in-Some.ensures.some in
       let s = found (walking c.args.pass made i.0) block S start k _ _ i.1 in
-      rw (y.left, y.log) (s.0 (sym c.is_left.ensures ∙ c.if-is_left.true)),
+      rw y.left (s.0 (sym c.is_left.ensures ∙ c.if-is_left.true)),
 )
 
 pub walk_elements-returns-in_default-held-clause-came : goal.walk_elements-returns-in_default-held-clause-came
@@ -4487,7 +4646,7 @@ walk_elements-returns-in_default-held-clause-came g m c = λ S names size st e l
       let v = value_of c.in-Some.found next.value in
       let gives = given c.in-Some.found next.value next.leave none (s.1 none) in
       let o = c.over.ensures in
-      rw (o.left, o.store, t.left, t.store, y.left, y.log) (cut S _ start _ _ _ k _ _ _ _ o.gives gives refl),
+      rw (o.left, o.store, t.left, t.store, y.left) (cut S _ start _ _ _ k _ _ _ _ o.gives gives refl),
 )
 
 pub walk_elements-returns-then-not-goes_on-clause-came : goal.walk_elements-returns-then-not-goes_on-clause-came
@@ -4510,7 +4669,7 @@ walk_elements-returns-then-not-goes_on-clause-came g m c = λ S names size st e 
           let v = value_of c.in-Some.found next.value in
           let gives = given c.in-Some.found next.value next.leave none (s.1 none) in
           let later = Walking (thing_of c.args.array) (suc c.elements.next) (holding v (walking c.args.pass made i.0)) c.args.at in
-          let f = rw (t.context, y.context, inv.context, t.left, y.left, t.store, y.log, t.value, c.second_value.ensures) at c.iteration-came.ensures.came in
+          let f = rw (t.context, y.context, inv.context, t.left, y.left, t.store, t.value, c.second_value.ensures) at c.iteration-came.ensures.came in
           let r = f later S start k names size st e (moved _ _ base inv.room l) (element_begins c.args.pass made i.0 v gives) in
           let stop = sym c.goes_on.ensures ∙ c.if-not-goes_on.true in
           rw (c.out_of_loop.ensures stop) (r.1 stop),
@@ -4536,7 +4695,7 @@ walk_elements-returns-in-Err-clause-came g m c = λ S names size st e l.
           let v = value_of c.in-Some.found next.value in
           let gives = given c.in-Some.found next.value next.leave none (s.1 none) in
           let later = Walking (thing_of c.args.array) (suc c.elements.next) (holding v (walking c.args.pass made i.0)) c.args.at in
-          let f = rw (t.context, y.context, inv.context, t.left, y.left, t.store, y.log, t.value, c.second_value.ensures) at c.iteration-came.ensures.came in
+          let f = rw (t.context, y.context, inv.context, t.left, y.left, t.store, t.value, c.second_value.ensures) at c.iteration-came.ensures.came in
           let r = f later S start k names size st e (moved _ _ base inv.room l) (element_begins c.args.pass made i.0 v gives) in
           let goes = r.0 (sym c.goes_on.ensures ∙ c.if-not-goes_on.false) in
           let u = c.value_on-given.ensures in
@@ -4564,7 +4723,7 @@ walk_elements-returns-then-next-clause-came g m c = λ S names size st e l.
           let v = value_of c.in-Some.found next.value in
           let gives = given c.in-Some.found next.value next.leave none (s.1 none) in
           let later = Walking (thing_of c.args.array) (suc c.elements.next) (holding v (walking c.args.pass made i.0)) c.args.at in
-          let f = rw (t.context, y.context, inv.context, t.left, y.left, t.store, y.log, t.value, c.second_value.ensures) at c.iteration-came.ensures.came in
+          let f = rw (t.context, y.context, inv.context, t.left, y.left, t.store, t.value, c.second_value.ensures) at c.iteration-came.ensures.came in
           let r = f later S start k names size st e (moved _ _ base inv.room l) (element_begins c.args.pass made i.0 v gives) in
           let goes = r.0 (sym c.goes_on.ensures ∙ c.if-not-goes_on.false) in
           let u = c.value_on-given.ensures in
@@ -4616,7 +4775,7 @@ walk_elements-elements-preserved g m c =
           let gives = given c.in-Some.found next.value next.leave none (s.1 none) in
           let base : c.take-element.new.self.base ≡ c.args.self.now.base = t.base ∙ (y.base ∙ inv.base) in
           let later = Walking (thing_of c.args.array) (suc c.elements.next) (holding v (walking c.args.pass made i.0)) c.args.at in
-          let f = rw (t.context, y.context, inv.context, t.left, y.left, t.store, y.log, t.value, c.second_value.ensures) at c.iteration-came.ensures.came in
+          let f = rw (t.context, y.context, inv.context, t.left, y.left, t.store, t.value, c.second_value.ensures) at c.iteration-came.ensures.came in
           let r = f later S start k names size st e (moved _ _ base inv.room l) (element_begins c.args.pass made i.0 v gives) in
           let goes = r.0 (sym c.goes_on.ensures ∙ c.if-not-goes_on.false) in
           rw (u.left, u.store) (plain c.in-Ok.last, element_ends c.args.pass made _ i.0 (plain c.in-Ok.last) v _ ((rw t.value at c.in-Ok.ensures) made i.0) (rw u.value at c.in_default-gather.ensures) refl goes);
@@ -4687,7 +4846,7 @@ walk_pairs-returns-in-Ok-Pairs-clause-came g m c = λ S names size st e l.
           let purpose = ForEach (To (thing_of hash)) (erase_block c.args.block.now) in
           let y = c.in-Ok-Pairs.ensures in
           let come = y.reads purpose c.args.at S start k _ _ a in
-          let f = rw (o.context, o.left, o.log) at c.pair_turns.ensures.came in
+          let f = rw (o.context, o.left) at c.pair_turns.ensures.came in
           (f S names size st e (moved _ _ o.base refl l)).1 start k (rw c.in-Ok-Pairs.field-0-is at come),
     )
 
@@ -4700,16 +4859,16 @@ walk_pairs-returns-in-Ok-clause-came g m c = λ S names size st e l. (
       let come = c.in-Ok.ensures.reads purpose c.args.at S start k _ _ a in
       let o = c.over.ensures in
       let y = c.copied.ensures in
-      rw (o.left, o.store, y.left, y.log) (cut S _ start _ _ _ k _ _ _ _ o.gives come (copied_left c.args.at k _ _ _ (To (thing_of hash)) (erase_block c.args.block.now) (thing_of hash) _)),
+      rw (o.left, o.store, y.left) (cut S _ start _ _ _ k _ _ _ _ o.gives come (copied_left c.args.at k _ _ _ (To (thing_of hash)) (erase_block c.args.block.now) (thing_of hash) _)),
 )
 
 pub walk_pairs-returns-clause-came : goal.walk_pairs-returns-clause-came
 walk_pairs-returns-clause-came g m c = λ S names size st e l. (
   λ i p q. refl,
   λ start k a.
-      let o = c.in-Err.ensures in
-      let y = c.copied.ensures in
-      rw (y.left, y.log, o.private) (cut S _ start _ _ _ k _ _ _ _ o.wants a refl),
+      let hash = c.args.hash in
+      let purpose = ForEach (To (thing_of hash)) (erase_block c.args.block.now) in
+      rw c.copied.ensures.left (c.in-Err.ensures.ends purpose c.args.at S start k _ _ a),
 )
 
 pub send_block-returns-in-Elements-clause-came : goal.send_block-returns-in-Elements-clause-came
@@ -4834,7 +4993,7 @@ operate_collection-returns-clause-came g m c = λ S names size st e l. (
       let o = c.asked_with.ensures in
       let number = same_is (builtin_of (text_of S c.args.name)) c.args.method (fst _ _ l.fits) in
       let f1 = rw w.ensures.context at o.came in
-      rw o.log (calls_builtin S _ start _ _ _ _ _ _ _ _ _ c.args.self.now.context.program.now c.args.method to (text_of S c.args.name) (value_of w.result w.new.self.value ∷ []) c.args.at (c.requires.alone S st) number e f1 (on _ (on _ g1 refl) refl)),
+      calls_builtin S _ start _ _ _ _ _ _ _ _ _ _ c.args.self.now.context.program.now c.args.method to (text_of S c.args.name) (value_of w.result w.new.self.value ∷ []) c.args.at (c.requires.alone S st) number e f1 (on _ (on _ g1 refl) refl),
 )
 
 pub begin_slow_operate-returns-in-Some-local_collection-clause-came : goal.begin_slow_operate-returns-in-Some-local_collection-clause-came
@@ -4965,8 +5124,8 @@ store_element-returns-clause-came g m c = λ S names size st e l.
           let values = v ∷ value_of y.result y.new.self.value ∷ [] in
           let o = c.stored.ensures in
           let number = same_is (builtin_of (text_of S c.args.name)) c.args.method (fst _ _ l.fits) in
-          let f1 = rw (y.ensures.context, t.ensures.context, w.ensures.context, t.ensures.value, o.log) at (o.came (text_of S c.args.name) number) in
-          rw o.log (stores_builtin S _ start _ _ _ _ _ _ _ _ _ c.args.self.now.context.program.now to (text_of S c.args.name) values c.args.at (c.requires.alone S st) e f1 (on _ (on _ g2 refl) refl)),
+          let f1 = rw (y.ensures.context, t.ensures.context, w.ensures.context, t.ensures.value) at (o.came (text_of S c.args.name) number) in
+          stores_builtin S _ start _ _ _ _ _ _ _ _ _ _ c.args.self.now.context.program.now to (text_of S c.args.name) values c.args.at (c.requires.alone S st) e f1 (on _ (on _ g2 refl) refl),
     )
 
 pub evaluate_call-returns-then-is_told-clause-came : goal.evaluate_call-returns-then-is_told-clause-came
@@ -5230,7 +5389,7 @@ send-returns-in-Some-collection_now-clause-came g m c = λ S names size st e l. 
       let none = (rw w.ensures.context at c.in-Some-collection_now.ensures.alone) c.args.name S st in
       let o = c.asked_alone.ensures in
       let f1 = rw w.ensures.context at o.came in
-      rw o.log (calls_builtin S _ start _ _ _ _ _ _ _ _ _ c.args.self.now.context.program.now c.args.method to text [] c.args.at none (same_is _ _ (fst _ _ l.fits)) e f1 (on _ g3 refl)),
+      calls_builtin S _ start _ _ _ _ _ _ _ _ _ _ c.args.self.now.context.program.now c.args.method to text [] c.args.at none (same_is _ _ (fst _ _ l.fits)) e f1 (on _ g3 refl),
 )
 
 pub send-returns-in-Some-clause-came : goal.send-returns-in-Some-clause-came

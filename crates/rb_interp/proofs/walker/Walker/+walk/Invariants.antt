@@ -60,6 +60,18 @@ decreases-walk_elements g l = 72 * (1001 - l.depth) + 18
 abbrev pub decreases-pair_turns : goal.decreases-pair_turns
 decreases-pair_turns g l = 72 * (1001 - l.depth) + 18
 
+abbrev pub decreases-owning : goal.decreases-owning
+decreases-owning g l = 72 * (1001 - l.depth) + 15
+
+abbrev pub decreases-synchronize : goal.decreases-synchronize
+decreases-synchronize g l = 72 * (1001 - l.depth) + 18
+
+abbrev pub decreases-begin_thread : goal.decreases-begin_thread
+decreases-begin_thread g l = 72 * (1001 - l.depth) + 21
+
+abbrev pub decreases-begin_global : goal.decreases-begin_global
+decreases-begin_global g l = 72 * (1001 - l.depth) + 36
+
 abbrev pub decreases-walk_pairs : goal.decreases-walk_pairs
 decreases-walk_pairs g l = 72 * (1001 - l.depth) + 21
 

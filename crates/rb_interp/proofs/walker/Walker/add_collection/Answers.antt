@@ -15,14 +15,14 @@ returns-then-is_left-clause-came g c = λ all vs S start k sc p a.
     let b = form_drafted S _ start _ _ all vs _ c.args.at k sc c.args.depth _ (To (thing_of c.args.thing)) c.requires.collection a in
     let left = sym c.is_left.ensures ∙ c.if-is_left.true in
     let come = y.ensures.came S start (Then step ∷ k) sc p b in
-    left_only (is_left y.result) left (rw y.ensures.log at (passes S _ start _ y.result y.new.self.value y.new.self.leave _ step k sc c.args.depth _ left come))
+    left_only (is_left y.result) left ((passes S _ start _ y.result y.new.self.value y.new.self.leave _ step k sc c.args.depth _ left come))
 
 pub returns-in-Ok-clause-came : goal.returns-in-Ok-clause-came
 returns-in-Ok-clause-came g c = λ all vs S start k sc p a.
     let y = c.inspected-came in
     let step = WriteBehind (Inspecting all) c.args.bytes.now.items vs c.args.at in
     let b = form_drafted S _ start _ _ all vs _ c.args.at k sc c.args.depth _ (To (thing_of c.args.thing)) c.requires.collection a in
-    let come = rw y.ensures.log at (y.ensures.came S start (Then step ∷ k) sc p b) in
+    let come = (y.ensures.came S start (Then step ∷ k) sc p b) in
     let gave = given y.result y.new.self.value y.new.self.leave (sym c.is_left.ensures ∙ c.if-is_left.false) come in
     let t = c.take-text.ensures in
     let said = rw t.value at (c.in-Ok.ensures.text S) in
@@ -33,7 +33,7 @@ returns-clause-came g c = λ all vs S start k sc p a.
     let y = c.inspected-came in
     let step = WriteBehind (Inspecting all) c.args.bytes.now.items vs c.args.at in
     let b = form_drafted S _ start _ _ all vs _ c.args.at k sc c.args.depth _ (To (thing_of c.args.thing)) c.requires.collection a in
-    let come = rw y.ensures.log at (y.ensures.came S start (Then step ∷ k) sc p b) in
+    let come = (y.ensures.came S start (Then step ∷ k) sc p b) in
     let gave = given y.result y.new.self.value y.new.self.leave (sym c.is_left.ensures ∙ c.if-is_left.false) come in
     let t = c.take-text.ensures in
     let long = rw t.value at (c.in-Err.ensures.too_long S) in

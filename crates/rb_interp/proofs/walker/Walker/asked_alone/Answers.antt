@@ -12,7 +12,7 @@ returns-then-is_told-clause-came g c = λ name e S start k sc p a.
     let v = told_value _ (sym c.is_told.ensures ∙ c.if-is_told.true) in
     let known = there_gives (g.O.ThreadStore.private c.args.self.now.store) c.args.thing.id (taking c.in-Some.side) _ v.0 y.told v.1 in
     let asked = c.in-Some.ensures c.args.self.now.context.program.now name e in
-    rw (c.immediate.ensures v.0 c.args.self.now.value c.args.self.now.leave v.1)
+    rw (c.immediate.ensures v.0 c.args.self.now.value c.args.self.now.leave v.1, y.log)
     (asked_reply S _ start _ _ _ (thing_of c.args.thing) (taking c.in-Some.side) (reply.Value v.0) c.args.at k sc c.args.depth c.args.self.now.left known.0 known.1 (rw v.1 at y.private) (rw asked at a))
 
 pub returns-clause-came : goal.returns-clause-came

@@ -19,7 +19,6 @@ statements-init g c = record {
   base = refl;
   context = refl;
   steps = omega arith;
-  log = refl;
   assigns = c.requires.assigns.body;
   came = (Nil, λ S start k sc at right a. opens S _ start _ _ k sc _ _ (me_of (Some c.args.object)) c.args.method.now (map plain c.args.args.now) at (len_map plain c.args.args.now ∙ sym c.requires.assigns.params) a);
 }
@@ -37,7 +36,6 @@ statements-preserved g c =
       base = y.ensures.base ∙ inv.base;
       context = y.ensures.context ∙ inv.context;
       steps = omega (arith, y.ensures.left, inv.steps, short, c.requires.steps);
-      log = y.ensures.log ∙ inv.log;
       assigns = (subst (AllByRecursion (AssignsParameter (length c.args.args.now))) (next_item meth.body loop.code-index c.code-item.result short is) inv.assigns).1;
       came = (
         plain w,
@@ -45,7 +43,7 @@ statements-preserved g c =
             let more : 1 < loop.self.left = omega (arith, inv.steps, short, c.requires.steps) in
             let deep : c.args.depth < 999 = c.requires.depth in
             let asked = assigning_at S _ start _ _ k sc c.args.depth loop.self.left (me_of (Some c.args.object)) inv.came.0 meth c.args.args.now loop.code-index c.code-item.result w _ _ _ short is c.in-Some.ensures.some c.in-Some.ensures.below c.index-args-assignment.is right more deep (inv.came.1 S start k sc at right a) in
-            let f = rw (inv.context, inv.log) at y.ensures.came in
+            let f = rw inv.context at y.ensures.came in
             rw y.ensures.left (assigned S _ start _ _ k sc _ c.args.depth _ _ (plain w) _ y.result y.new.self.value y.new.self.leave (sym c.is_left.ensures ∙ c.if-is_left.false) (f S start _ _ _ asked)),
       );
     }
@@ -60,17 +58,17 @@ returns-then-is_left-clause-came g c =
     let short : loop.code-index < length meth.body = rw c.as_slice-statements.ensures at c.statements-test.true in
     let is : c.code-item.result ≡ get_or meth.body loop.code-index c.code-item.result = rw c.as_slice-statements.ensures at c.code-item.is in
     let o = c.out_of_call.ensures in
-    let all : EntersAtOnce c.args.self.now.context.steps (me_of (Some c.args.object)) meth (map plain c.args.args.now) c.args.depth c.args.self.now.left (loop.self.left - 2) (g.O.ThreadStore.log c.args.self.now.store) (g.O.ThreadStore.log c.args.self.now.store) (g.O.ThreadStore.private c.args.self.now.store) (g.O.ThreadStore.private y.new.self.store) (call_exit (outcome y.result y.new.self.value y.new.self.leave)) = λ S start k sc at right a.
+    let all : EntersAtOnce c.args.self.now.context.steps (me_of (Some c.args.object)) meth (map plain c.args.args.now) c.args.depth c.args.self.now.left (loop.self.left - 2) (g.O.ThreadStore.log c.args.self.now.store) (g.O.ThreadStore.log y.new.self.store) (g.O.ThreadStore.private c.args.self.now.store) (g.O.ThreadStore.private y.new.self.store) (call_exit (outcome y.result y.new.self.value y.new.self.leave)) = λ S start k sc at right a.
     let more : 1 < loop.self.left = omega (arith, inv.steps, short, c.requires.steps) in
     let deep : c.args.depth < 999 = c.requires.depth in
     let asked = assigning_at S _ start _ _ k sc c.args.depth loop.self.left (me_of (Some c.args.object)) inv.came.0 meth c.args.args.now loop.code-index c.code-item.result w _ _ _ short is c.in-Some.ensures.some c.in-Some.ensures.below c.index-args-assignment.is right more deep (inv.came.1 S start k sc at right a) in
-    let f = rw (inv.context, inv.log) at y.ensures.came in
+    let f = rw inv.context at y.ensures.came in
     unassigned S _ start _ _ k sc _ c.args.depth _ _ (plain w) _ y.result y.new.self.value y.new.self.leave (sym c.is_left.ensures ∙ c.if-is_left.true) (f S start _ _ _ asked) in (
-      λ gone S start k sc at right a. rw (o.gives, o.left, o.store, y.ensures.left, y.ensures.log, inv.log) (all S start k sc at right a),
+      λ gone S start k sc at right a. rw (o.gives, o.left, o.store, y.ensures.left) (all S start k sc at right a),
       λ none. (
         value_of c.out_of_call.result c.out_of_call.new.self.value,
         λ S start k sc at right a.
-            given c.out_of_call.result c.out_of_call.new.self.value c.out_of_call.new.self.leave none (rw (o.gives, o.left, o.store, y.ensures.left, y.ensures.log, inv.log) (all S start k sc at right a)),
+            given c.out_of_call.result c.out_of_call.new.self.value c.out_of_call.new.self.leave none (rw (o.gives, o.left, o.store, y.ensures.left) (all S start k sc at right a)),
       ),
     )
 
@@ -86,6 +84,6 @@ returns-clause-came g c =
             let all_done = drop_all loop.code-index meth.body (rw c.as_slice-statements.ensures at c.statements-test.false) in
             let inner = callee_of S c.args.self.now.context.steps start (g.O.ThreadStore.private loop.self.store) (me_of (Some c.args.object)) meth (map plain c.args.args.now) in
             let from = same (inv.came.1 S start k sc at right a) (ap (λ (cs : List Code). On (Following inv.came.0 (map erase cs)) (Frame sc ∷ k) inner c.args.depth loop.self.left) all_done) in
-            rw inv.log (closes S _ start _ _ k sc _ _ _ inv.came.0 from),
+            closes S _ start _ _ k sc _ _ _ inv.came.0 from,
       ),
     )

@@ -19,9 +19,8 @@ invariant-statements g l =
       base : l.self.base ≡ l.fn.self.base;
       context : l.self.context ≡ l.fn.self.context;
       steps : l.self.left + 2 * l.code-index ≡ l.fn.self.left;
-      log : g.O.ThreadStore.log l.self.store ≡ g.O.ThreadStore.log l.fn.self.store;
       assigns : AllByRecursion (AssignsParameter (length l.fn.args)) (drop l.code-index l.fn.method.body);
       came : (v : Val) × ((S : Script) (start : State) (k : List Cont) (sc : Scope) (at : Span) → method_fits S l.fn.method ≡ true
           → At S l.fn.self.context.steps start (g.O.ThreadStore.log l.fn.self.store) (g.O.ThreadStore.private l.fn.self.store) (enter S (erase_method l.fn.method) (me_of (Some l.fn.object)) (map plain l.fn.args) at k sc l.fn.depth l.fn.self.left)
-          → At S l.fn.self.context.steps start (g.O.ThreadStore.log l.fn.self.store) (g.O.ThreadStore.private l.self.store) (On (Following v (map erase (drop l.code-index l.fn.method.body))) (Frame sc ∷ k) (callee_of S l.fn.self.context.steps start (g.O.ThreadStore.private l.self.store) (me_of (Some l.fn.object)) l.fn.method (map plain l.fn.args)) l.fn.depth l.self.left));
+          → At S l.fn.self.context.steps start (g.O.ThreadStore.log l.self.store) (g.O.ThreadStore.private l.self.store) (On (Following v (map erase (drop l.code-index l.fn.method.body))) (Frame sc ∷ k) (callee_of S l.fn.self.context.steps start (g.O.ThreadStore.private l.self.store) (me_of (Some l.fn.object)) l.fn.method (map plain l.fn.args)) l.fn.depth l.self.left));
     }

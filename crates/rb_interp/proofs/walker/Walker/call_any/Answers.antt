@@ -9,7 +9,7 @@ pub returns-in-Some-question_of-clause-came : goal.returns-in-Some-question_of-c
 returns-in-Some-question_of-clause-came g c = λ name e S start k sc p a.
     let y = c.ask_behind.ensures in
     let asked = c.in-Some-question_of.ensures c.args.self.now.context.program.now name e in
-    rw y.left (rw y.log at (y.came c.args.depth S start k sc p (rw asked at a)))
+    rw y.left ((y.came c.args.depth S start k sc p (rw asked at a)))
 
 pub returns-in-Some-clause-came : goal.returns-in-Some-clause-came
 returns-in-Some-clause-came g c = λ name e S start k sc p a.

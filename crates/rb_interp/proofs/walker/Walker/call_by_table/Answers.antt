@@ -3,8 +3,7 @@ use Rattle.rb_interp.proofs.walker.Walker.call_by_table.Goals as goal
 
 pub returns-in-Ok-clause-came : goal.returns-in-Ok-clause-came
 returns-in-Ok-clause-came g c = λ name e S start k sc p a.
-    let come = c.do_deed.ensures.came S start k sc p (rw (c.in-Ok.ensures name e) a) in
-    rw c.do_deed.ensures.log at come
+    c.do_deed.ensures.came S start k sc p (rw (c.in-Ok.ensures name e) a)
 
 pub returns-in-Err-clause-came : goal.returns-in-Err-clause-came
 returns-in-Err-clause-came g c = λ name e S start k sc p a.

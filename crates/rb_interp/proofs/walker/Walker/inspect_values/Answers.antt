@@ -14,7 +14,6 @@ values-init g c = record {
   base = refl;
   context = refl;
   less = omega arith;
-  log = refl;
   fits = rw c.new-bytes.ensures.items (omega arith);
   came = λ S start k sc p a. rw c.new-bytes.ensures.items a;
 }
@@ -29,13 +28,12 @@ values-preserved g c =
       base = y.base ∙ inv.base;
       context = y.context ∙ inv.context;
       less = omega (arith, y.less, inv.less);
-      log = y.log ∙ inv.log;
       fits = y.fits given_on;
       came = λ S start k sc p a.
           let all = map plain c.args.values.now in
           let item = next_item _ _ c.value-item.result c.values-test.true c.value-item.is in
           let b = same (inv.came S start k sc p a) (ap (λ vs. write S (Inspecting all) loop.bytes.items (map plain vs) c.args.at k sc c.args.depth loop.self.left) item) in
-          let f = rw (inv.context, inv.log) at y.came in
+          let f = rw inv.context at y.came in
           (f all (map plain (drop (loop.value-index + 1) c.args.values.now)) S start k sc p b).1 given_on;
     }
 
@@ -47,8 +45,8 @@ returns-then-is_left-clause-came g c = λ S start k sc p a.
     let all = map plain c.args.values.now in
     let item = next_item _ _ c.value-item.result c.values-test.true c.value-item.is in
     let b = same (inv.came S start k sc p a) (ap (λ vs. write S (Inspecting all) loop.bytes.items (map plain vs) c.args.at k sc c.args.depth loop.self.left) item) in
-    let f = rw (inv.context, inv.log) at y.came in
-    rw (y.log, inv.log) ((f all (map plain (drop (loop.value-index + 1) c.args.values.now)) S start k sc p b).0 (sym c.is_left.ensures ∙ c.if-is_left.true))
+    let f = rw inv.context at y.came in
+    (f all (map plain (drop (loop.value-index + 1) c.args.values.now)) S start k sc p b).0 (sym c.is_left.ensures ∙ c.if-is_left.true)
 
 pub returns-then-is_left-2-clause-came : goal.returns-then-is_left-2-clause-came
 returns-then-is_left-2-clause-came g c = λ S start k sc p a.
@@ -58,7 +56,7 @@ returns-then-is_left-2-clause-came g c = λ S start k sc p a.
     let none = drop_all loop.value-index c.args.values.now c.values-test.false in
     let b = same (inv.came S start k sc p a) (ap (λ vs. write S (Inspecting all) loop.bytes.items (map plain vs) c.args.at k sc c.args.depth loop.self.left) none) in
     let z = c.show_bytes-shown in
-    let f = rw (inv.context, inv.log) at z.ensures.came in
+    let f = rw inv.context at z.ensures.came in
     let come = f S start _ (value_of_p S all) c.args.at k sc c.args.depth b in
     rw (z.ensures.left, z.ensures.private) (passes S _ start _ z.result z.new.self.value z.new.self.leave _ (value_of_p S all) k sc c.args.depth _ (sym c.is_left-2.ensures ∙ c.if-is_left-2.true) come)
 
@@ -70,7 +68,7 @@ returns-clause-came g c = λ S start k sc p a.
     let none = drop_all loop.value-index c.args.values.now c.values-test.false in
     let b = same (inv.came S start k sc p a) (ap (λ vs. write S (Inspecting all) loop.bytes.items (map plain vs) c.args.at k sc c.args.depth loop.self.left) none) in
     let z = c.show_bytes-shown in
-    let f = rw (inv.context, inv.log) at z.ensures.came in
+    let f = rw inv.context at z.ensures.came in
     let come = f S start _ (value_of_p S all) c.args.at k sc c.args.depth b in
     let gave = given z.result z.new.self.value z.new.self.leave (sym c.is_left-2.ensures ∙ c.if-is_left-2.false) come in
     let v = rw (z.ensures.context, inv.context) at c.value_of_p.ensures.came in

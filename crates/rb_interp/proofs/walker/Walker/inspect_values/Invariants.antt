@@ -13,9 +13,8 @@ invariant-values g l =
       base : l.self.base ≡ l.fn.self.base;
       context : l.self.context ≡ l.fn.self.context;
       less : l.self.left ≤ l.fn.self.left;
-      log : g.O.ThreadStore.log l.self.store ≡ g.O.ThreadStore.log l.fn.self.store;
       fits : length l.bytes.items ≤ max_bytes;
       came : (S : Script) (start : State) (k : List Cont) (sc : Scope) → S.program ≡ l.fn.self.context.program.now
           → At S l.fn.self.context.steps start (g.O.ThreadStore.log l.fn.self.store) (g.O.ThreadStore.private l.fn.self.store) (write S (Inspecting (map plain l.fn.values)) [] (map plain l.fn.values) l.fn.at k sc l.fn.depth l.fn.self.left)
-          → At S l.fn.self.context.steps start (g.O.ThreadStore.log l.fn.self.store) (g.O.ThreadStore.private l.self.store) (write S (Inspecting (map plain l.fn.values)) l.bytes.items (map plain (drop l.value-index l.fn.values)) l.fn.at k sc l.fn.depth l.self.left);
+          → At S l.fn.self.context.steps start (g.O.ThreadStore.log l.self.store) (g.O.ThreadStore.private l.self.store) (write S (Inspecting (map plain l.fn.values)) l.bytes.items (map plain (drop l.value-index l.fn.values)) l.fn.at k sc l.fn.depth l.self.left);
     }

@@ -8,7 +8,6 @@ text-init g c = record {
   base = refl;
   context = refl;
   less = omega arith;
-  log = refl;
   came = λ S start k sc p a. rw c.new-draft.ensures a;
 }
 
@@ -20,9 +19,8 @@ text-preserved g c =
       base = y.base ∙ inv.base;
       context = y.context ∙ inv.context;
       less = omega (arith, y.less, inv.less);
-      log = y.log ∙ inv.log;
       came = λ S start k sc p a.
-          let f = rw (inv.context, inv.log) at y.came in
+          let f = rw inv.context at y.came in
           let w = rw inv.context at c.in-Ok.ensures.wants in
           (f _ S start k sc p w (inv.came S start k sc p a)).1 (sym c.is_left.ensures ∙ c.if-is_left.false);
     }
@@ -35,7 +33,7 @@ returns-in-Err-clause-came g c = λ S start k sc p a.
     let inv = c.text.invariant in
     let o = c.end_text.ensures in
     let long = rw inv.context at c.in-Err.ensures.too_long in
-    rw (o.gives, o.left, o.store, inv.log)
+    rw (o.gives, o.left, o.store)
     (text_ends S _ start _ _ c.args.self.now.context.program.now c.text.draft c.args.at k sc c.args.depth _ p c.in-Err.fault (λ e. long (ap Err e)) (inv.came S start k sc p a))
 
 pub returns-then-is_finished-clause-came : goal.returns-then-is_finished-clause-came
@@ -44,12 +42,12 @@ returns-then-is_finished-clause-came g c = λ S start k sc p a.
     let o = c.give_bytes.ensures in
     let w = rw (finished_is c.in-Ok.want (sym c.is_finished.ensures ∙ c.if-is_finished.true), inv.context) at c.in-Ok.ensures.wants in
     let m = rw c.into_bytes.ensures at o.gives in
-    rw (o.left, o.store, inv.log) (text_given S _ start _ _ c.args.self.now.context.program.now c.text.draft c.args.at k sc c.args.depth _ p _ _ w.0 m (inv.came S start k sc p a))
+    rw (o.left, o.store) (text_given S _ start _ _ c.args.self.now.context.program.now c.text.draft c.args.at k sc c.args.depth _ p _ _ w.0 m (inv.came S start k sc p a))
 
 pub returns-then-is_left-clause-came : goal.returns-then-is_left-clause-came
 returns-then-is_left-clause-came g c = λ S start k sc p a.
     let inv = c.text.invariant in
     let y = c.advance-came.ensures in
-    let f = rw (inv.context, inv.log) at y.came in
+    let f = rw inv.context at y.came in
     let w = rw inv.context at c.in-Ok.ensures.wants in
-    rw (y.log, inv.log) ((f _ S start k sc p w (inv.came S start k sc p a)).0 (sym c.is_left.ensures ∙ c.if-is_left.true))
+    (f _ S start k sc p w (inv.came S start k sc p a)).0 (sym c.is_left.ensures ∙ c.if-is_left.true)

@@ -14,10 +14,9 @@ invariant-text g l =
       base : l.self.base ≡ l.fn.self.base;
       context : l.self.context ≡ l.fn.self.context;
       less : l.self.left ≤ l.fn.self.left;
-      log : g.O.ThreadStore.log l.self.store ≡ g.O.ThreadStore.log l.fn.self.store;
       came : (S : Script) (start : State) (k : List Cont) (sc : Scope) → S.program ≡ l.fn.self.context.program.now
           → At S l.fn.self.context.steps start (g.O.ThreadStore.log l.fn.self.store) (g.O.ThreadStore.private l.fn.self.store) (On (Drafting (draft_of Inspected (To (thing_of l.fn.thing))) l.fn.at) k sc l.fn.depth l.fn.self.left)
-          → At S l.fn.self.context.steps start (g.O.ThreadStore.log l.fn.self.store) (g.O.ThreadStore.private l.self.store) (On (Drafting l.draft l.fn.at) k sc l.fn.depth l.self.left);
+          → At S l.fn.self.context.steps start (g.O.ThreadStore.log l.self.store) (g.O.ThreadStore.private l.self.store) (On (Drafting l.draft l.fn.at) k sc l.fn.depth l.self.left);
     }
 
 abbrev pub decreases-text : goal.decreases-text

@@ -1,6 +1,5 @@
-use Rattle.std.proofs.Common.{refl, ap}
+use Rattle.std.proofs.Common.{ap}
 use Rattle.std.specs.Prelude.{Err}
-use Rattle.rb_model.specs.Ends as ending
 use Rattle.rb_model.specs.Doing.{said}
 use Rattle.rb_builtin.specs.Deeds.{thing_of}
 use Rattle.rb_walk.specs.Outcome.{is_left}
@@ -33,9 +32,10 @@ returns-in-Err-give_copy-clause-work g c = λ q.
 pub returns-in-Err-clause-opens : goal.returns-in-Err-clause-opens
 returns-in-Err-clause-opens g c = λ S start k sc d a.
     let y = c.in-Err.ensures in
-    rw (y.wants, y.private) (left_only (is_left c.in-Err.came) (over_left c.in-Err.came _ _ ending.Memory y.wants) (_, a, refl))
+    left_only (is_left c.in-Err.came) (over_left c.in-Err.came _ _ y.over.0 y.over.1) (y.ends _ c.args.at S start k sc d a)
 
 pub returns-in-Err-clause-work : goal.returns-in-Err-clause-work
 returns-in-Err-clause-work g c = λ q.
-    let t = over_left c.in-Err.came _ _ ending.Memory c.in-Err.ensures.wants in
+    let y = c.in-Err.ensures in
+    let t = over_left c.in-Err.came _ _ y.over.0 y.over.1 in
     absurd (cc)

@@ -13,7 +13,7 @@ returns-then-is_left-clause-came g c =
     let v = plain c.args.value in
     let f = rw (z, c.in-Ok.ensures.value) at y.ensures.came in
     let come = f S start (Then (Instead v) ∷ k) sc depth a in
-    rw y.ensures.log (passes S _ start _ y.result y.new.self.value y.new.self.leave _ (Instead v) k sc _ _ (sym c.is_left.ensures ∙ c.if-is_left.true) come)
+    (passes S _ start _ y.result y.new.self.value y.new.self.leave _ (Instead v) k sc _ _ (sym c.is_left.ensures ∙ c.if-is_left.true) come)
 
 pub returns-clause-came : goal.returns-clause-came
 returns-clause-came g c =
@@ -24,4 +24,4 @@ returns-clause-came g c =
     let f = rw (z, c.in-Ok.ensures.value) at y.ensures.came in
     let come = f S start (Then (Instead v) ∷ k) sc depth a in
     let g1 = given y.result y.new.self.value y.new.self.leave (sym c.is_left.ensures ∙ c.if-is_left.false) come in
-    rw (c.hand.ensures.gives, c.hand.ensures.store, y.ensures.log) (on _ g1 refl)
+    rw (c.hand.ensures.gives, c.hand.ensures.store) (on _ g1 refl)

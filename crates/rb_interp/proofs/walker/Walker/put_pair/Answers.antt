@@ -1,4 +1,4 @@
-use Rattle.std.proofs.Common.{◌∷◌, ◌∙◌, refl, sym, ap}
+use Rattle.std.proofs.Common.{◌∷◌, ◌∙◌, refl, sym}
 use Rattle.rb_machine.specs.Control.{Then, Instead}
 use Rattle.rb_walk.specs.Outcome.{value_of}
 use Rattle.rb_walk.proofs.Moves.{on}
@@ -12,8 +12,7 @@ returns-then-is_left-clause-came g c = λ depth S start k sc p a.
     let v = value_of c.args.came c.args.self.now.value in
     let f = rw (c.in-Ok.ensures.value, t.value, t.context, t.left, t.store) at y.ensures.came in
     let come = f S start (Then (Instead v) ∷ k) sc depth a in
-    let log = y.ensures.log ∙ ap (g.O.ThreadStore.log) t.store in
-    rw log (passes S _ start _ y.result y.new.self.value y.new.self.leave _ (Instead v) k sc _ _ (sym c.is_left.ensures ∙ c.if-is_left.true) come)
+    passes S _ start _ y.result y.new.self.value y.new.self.leave _ (Instead v) k sc _ _ (sym c.is_left.ensures ∙ c.if-is_left.true) come
 
 pub returns-clause-came : goal.returns-clause-came
 returns-clause-came g c = λ depth S start k sc p a.
@@ -22,6 +21,5 @@ returns-clause-came g c = λ depth S start k sc p a.
     let v = value_of c.args.came c.args.self.now.value in
     let f = rw (c.in-Ok.ensures.value, t.value, t.context, t.left, t.store) at y.ensures.came in
     let come = f S start (Then (Instead v) ∷ k) sc depth a in
-    let log = y.ensures.log ∙ ap (g.O.ThreadStore.log) t.store in
     let g1 = given y.result y.new.self.value y.new.self.leave (sym c.is_left.ensures ∙ c.if-is_left.false) come in
-    rw (c.hand.ensures.gives, c.hand.ensures.store, log, t.value) (on _ g1 refl)
+    rw (c.hand.ensures.gives, c.hand.ensures.store, t.value) (on _ g1 refl)

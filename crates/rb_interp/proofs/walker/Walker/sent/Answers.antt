@@ -27,4 +27,4 @@ returns-in-Some-clause-came g c = λ S start k names size st e m f len a.
     let deep : c.args.depth < 1000 = omega (arith, c.if-depth-ge-MAX_DEPTH.false) in
     let e1 = c.in-Some.ensures.held S _ names size c.args.depth c.args.self.now.left start _ _ waits (me_of c.args.self.now.context.me) f len more deep a in
     let none = c.in-Some.ensures.alone c.args.self.now.context.script.now c.args.name S st in
-    rw o.log (calls_builtin S _ start _ _ _ _ _ _ _ _ _ c.args.self.now.context.program.now c.args.method to (text_of S c.args.name) [] c.args.at none m e o.came (on _ (on _ e1 refl) refl))
+    (calls_builtin S _ start _ _ _ _ _ _ _ _ _ _ c.args.self.now.context.program.now c.args.method to (text_of S c.args.name) [] c.args.at none m e o.came (on _ (on _ e1 refl) refl))

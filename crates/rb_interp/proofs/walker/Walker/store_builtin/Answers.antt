@@ -16,7 +16,7 @@ returns-then-is_left-clause-came g c = λ name e S start k sc p a.
     let y = c.call_any-came in
     let step = Instead (last_value S (map plain c.args.args.now)) in
     let come = y.ensures.came name e S start (Then step ∷ k) sc p a in
-    rw y.ensures.log (passes S _ start _ y.result y.new.self.value y.new.self.leave _ step k sc _ _ (sym c.is_left.ensures ∙ c.if-is_left.true) come)
+    (passes S _ start _ y.result y.new.self.value y.new.self.leave _ step k sc _ _ (sym c.is_left.ensures ∙ c.if-is_left.true) come)
 
 pub returns-clause-came : goal.returns-clause-came
 returns-clause-came g c = λ name e S start k sc p a.
@@ -24,7 +24,7 @@ returns-clause-came g c = λ name e S start k sc p a.
     let step = Instead (last_value S (map plain c.args.args.now)) in
     let come = y.ensures.came name e S start (Then step ∷ k) sc p a in
     let g1 = given y.result y.new.self.value y.new.self.leave (sym c.is_left.ensures ∙ c.if-is_left.false) come in
-    rw (c.give.ensures.gives, c.give.ensures.store, c.give.ensures.left, y.ensures.log, c.in-Ok.ensures S) (on _ g1 refl)
+    rw (c.give.ensures.gives, c.give.ensures.store, c.give.ensures.left, c.in-Ok.ensures S) (on _ g1 refl)
 
 pub returns-in-Some-clause-came : goal.returns-in-Some-clause-came
 returns-in-Some-clause-came g c =
