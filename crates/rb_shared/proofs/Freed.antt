@@ -1,6 +1,5 @@
 -- A thread that has ended owns no mutex.
 use Rattle.std.proofs.Common.{◌≡◌, ℕ, ◌==◌, Bool, true, false, cond, List, [], ◌∷◌, ◌++◌, map, Option, Some, None, refl, sym, ap, ◌∙◌, subst}
-use Rattle.std.proofs.lemmas.Bool.{eqb-true, eq-eqb}
 use Rattle.rb_model.specs.declared.value.Id.{Id}
 use Rattle.rb_model.specs.Values.{Value, same_id}
 use Rattle.rb_model.specs.Acts.{Act, SetField, Put, Push, Unshift, Pop, Shift, DeleteAt, KPut, KDelete, Clear, Join, Lock, Unlock}
@@ -10,7 +9,7 @@ use Rattle.rb_model.specs.Private.{Item}
 use Rattle.rb_model.specs.Log.{Call, On, Start, Gather, Print, End}
 use Rattle.rb_shared.specs.Lists.{Each}
 use Rattle.rb_shared.specs.Store.{Store, found, with_thing, is_full}
-use Rattle.rb_shared.specs.Step.{Steps, behind_act, store_behind, with_act, ended_item, ended_thing, new_thread}
+use Rattle.rb_shared.specs.Step.{behind_act, store_behind, with_act, ended_item, ended_thing, new_thread}
 use Rattle.rb_shared.specs.History.{Event, Leads}
 use Rattle.rb_shared.specs.Laws.{IsOwnMutex, MovesOwnMutexes, EndedOwnNothing}
 use Rattle.rb_shared.proofs.Runs.{each_append}

@@ -16,8 +16,8 @@ use Rattle.rb_model.specs.Started.{to_thread, started_by}
 use Rattle.rb_shared.specs.Lists.{Has, Each}
 use Rattle.rb_shared.specs.Store.{Store, opening, found, with_thing, threads, is_full}
 use Rattle.rb_shared.specs.Step.{Steps, behind_act, join_reply, joined_by, gathered_by, reply_of, reply_to, store_behind, with_act, ended_item, ended_thing, new_thread}
-use Rattle.rb_shared.specs.History.{Event, all_started}
-use Rattle.rb_shared.specs.Laws.{MovesNoThread, IsNoThread, HasEndedSo, IsJoin, JoinsComeBehindEnds}
+use Rattle.rb_shared.specs.History.{Event, all_started, IsNoThread, MovesNoThread}
+use Rattle.rb_shared.specs.Laws.{HasEndedSo, IsJoin, JoinsComeBehindEnds}
 use Rattle.rb_shared.proofs.Runs.{has_front, has_behind, each_has, each_append, each_front, each_more, found_has, leads_split, run_keeps}
 
 -- ---- what is known of threads behind a front of the events

@@ -14,7 +14,7 @@ use Rattle.rb_model.specs.Values.{same_id}
 use Rattle.rb_shared.specs.Lists.{Has, Each}
 use Rattle.rb_shared.specs.Store.{Store, opening, found, with_thing}
 use Rattle.rb_shared.specs.Step.{Steps, behind_act, store_behind, with_act}
-use Rattle.rb_shared.specs.History.{Event, Placed, is_event, is_read, is_read_act, moves_none, ArePoints, reads_at, all_reads_at, merged, merge, Leads, by, entries_of, all_started, IsBegun, EndsOnce}
+use Rattle.rb_shared.specs.History.{Event, Placed, is_event, is_read, is_read_act, moves_none, ArePoints, reads_at, all_reads_at, merged, merge, Leads, by, entries_of, all_started, IsBegun, EndsOnce, MovesNoThread}
 use Rattle.rb_shared.specs.Placing.{events_in, points_from, placed_log, placed_logs, history_of}
 use Rattle.rb_shared.specs.Laws.{OneOrderIsLegal}
 use Rattle.rb_shared.proofs.Runs.{has_front, has_behind, leads_split, each_append, each_more}
@@ -488,6 +488,15 @@ are_events (e ∷ es) = by_kind (is_event e.entry) refl (are_events es)
     by_kind true is more = (is, more)
     by_kind false is more = more
 
+-- those entries of an order that are events move no thread either
+none_moves : (es : List Event) → Each MovesNoThread es → Each MovesNoThread (events_in es)
+none_moves [] u = tt
+none_moves (e ∷ es) (u, us) = by_kind (is_event e.entry) (none_moves es us)
+  where
+    by_kind : (b : Bool) → Each MovesNoThread (events_in es) → Each MovesNoThread (cond b (e ∷ events_in es) (events_in es))
+    by_kind true more = (u, more)
+    by_kind false more = more
+
 are_points : (t k : ℕ) (es : List Event) → ArePoints (by t es) (points_from t k es)
 are_points t k [] = tt
 are_points t k (e ∷ es) = by_kind (e.thread == t) (is_event e.entry) refl (λ j. are_points t j es)
@@ -530,7 +539,7 @@ nobody n t (e ∷ es) (w, ws) le = by_one t e es (ne_eqb e.thread t (λ h. omega
 -- ---- the law
 
 pub one_order_is_legal : OneOrderIsLegal
-one_order_is_legal slots es refusals z leads counted within begun ends = record {
+one_order_is_legal slots es refusals z leads counted within begun ends unmoved = record {
   last = z;
   steps = subst (λ l. Leads slots opening l z) (sym same) (leads_woven slots refusals es 0 opening z within leads);
   logs = λ t. ap (by t) same ∙ (by_woven t refusals es 0 within ∙ sym (log_of t));
@@ -538,6 +547,7 @@ one_order_is_legal slots es refusals z leads counted within begun ends = record 
   points = all_points es 0 refusals;
   threads = count_logs es 0 refusals ∙ (counted ∙ ap (λ l. suc (length l)) (sym (ap all_started same ∙ started_woven refusals es 0 within)));
   begun = λ front behind e h. each_begun front [] behind (woven 0 es refusals) e (begun_woven refusals es 0 [] within (all_begun es [] begun)) (sym same ∙ h);
+  unmoved = none_moves es unmoved;
   ends = all_end es 0 (length refusals) refusals (omega arith) ends;
 }
   where

@@ -1,11 +1,10 @@
 -- What the answers of a store say, and the view behind them.
-use Rattle.std.specs.Prelude.{◌≡◌, ℕ, Bool, true, false, List, [], ◌∷◌, ◌++◌, map, Some, None}
+use Rattle.std.specs.Prelude.{◌≡◌, ℕ, true, List, [], ◌∷◌, ◌++◌, map, Some, None}
 use Rattle.rb_model.specs.declared.call.Call.{Call as Held}
 use Rattle.rb_model.specs.declared.moved.MovedItem.{MovedItem}
 use Rattle.rb_model.specs.Acts.{Reply}
 use Rattle.rb_model.specs.Doing.{said}
-use Rattle.rb_model.specs.Ends.{Value}
-use Rattle.rb_model.specs.Log.{Call, On, Start, End, Entry, asked, is_print, is_sure}
+use Rattle.rb_model.specs.Log.{Entry, asked, is_print, is_sure}
 use Rattle.rb_model.specs.Moving.{items_of, ref_of, refs_in_reply}
 use Rattle.rb_shared.specs.declared.answer.Answer.{Answer}
 use Rattle.rb_shared.specs.declared.answer.Answer.TheVariants as answer

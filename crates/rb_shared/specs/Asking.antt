@@ -8,7 +8,7 @@ use Rattle.rb_model.specs.declared.value.Id.{Id}
 use Rattle.rb_model.specs.declared.value.Ref.{Ref}
 use Rattle.rb_model.specs.Acts.{Join}
 use Rattle.rb_model.specs.Ends as ending
-use Rattle.rb_model.specs.Values.{Value, Reference, same_id, same}
+use Rattle.rb_model.specs.Values.{Value, Reference, same_id}
 use Rattle.rb_model.specs.Things.{Thing, Field, Object, Elements, Pairs, Mutex, Thread, is_integer, max_elements, has_key}
 use Rattle.rb_model.specs.Private.{Item}
 use Rattle.rb_model.specs.Log.{Call, On, Start, Gather, End, Entry, asked}

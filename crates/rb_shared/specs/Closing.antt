@@ -2,14 +2,16 @@
 use Rattle.std.specs.Prelude.{◌≡◌, ◌<◌, ◌⊎◌, ℕ, true, List, [], ◌++◌, length, take, slice_get, Option, Some, None}
 use Rattle.std.specs.List.{flat_map}
 use Rattle.rb_edge.specs.Edge.{Adds, Rose}
-use Rattle.rb_model.specs.Log.{Refusal, printed}
+use Rattle.rb_model.specs.Log.{Entry, Refusal, printed}
 use Rattle.rb_shared.specs.Lists.{Has}
 use Rattle.rb_shared.specs.History.{History, Placed, prints}
 use Rattle.rb_shared.specs.Threads.{ThreadLog}
 
--- The logs of a history are those that are known: each whole log is that of its thread, and each thread of the history is one of them.
+-- The logs of a history are those that are known: each whole log is that of its thread, what is known of another is a front of its log, and each
+-- thread of the history is one of them.
 pub record Shows (h : History) (ts : List ThreadLog) : Type 0 where
   pub known : (t : ThreadLog) → Has ts t → t.ended ≡ true → (p : Placed) × (slice_get h.threads t.thread ≡ Some p) × (p.log ≡ t.log)
+  pub fronts : (t : ThreadLog) → Has ts t → (p : Placed) × (behind : List Entry) × (slice_get h.threads t.thread ≡ Some p) × (p.log.entries ≡ t.log.entries ++ behind)
   pub all : (n : ℕ) (p : Placed) → slice_get h.threads n ≡ Some p → (t : ThreadLog) × Has ts t × (t.thread ≡ n) × (t.ended ≡ true)
 
 -- what all threads were refused

@@ -5,6 +5,7 @@ use Rattle.rb_model.specs.Values.{Value, Reference}
 use Rattle.rb_model.specs.declared.value.Id.{Id}
 use Rattle.rb_model.specs.Acts.{Act, GetField, At, Len, Copy, KGet, KHas, Started}
 use Rattle.rb_model.specs.Ends.{End as Ending}
+use Rattle.rb_model.specs.Things.{Thing, ThreadState, Thread}
 use Rattle.rb_model.specs.Private.{Item}
 use Rattle.rb_model.specs.Log.{Call, On, Start, End, Entry, Log, has_end, printed}
 use Rattle.rb_model.specs.Started.{started}
@@ -107,6 +108,13 @@ IsBegun front e = (e.thread ≡ 0) ⊎ ((thread : Reference) × Has (all_started
 abbrev pub EndsOnce : List Entry → Type 0
 EndsOnce entries = (front : List Entry) × (last : Entry) × (how : Ending) × (entries ≡ front ++ last ∷ []) × (last.call ≡ End how) × (has_end front ≡ false)
 
+-- no entry moves a thread: threads are shared from their start
+abbrev pub IsNoThread : Thing → Type 0
+IsNoThread thing = (s : ThreadState) → thing ≡ Thread s → ⊥
+
+abbrev pub MovesNoThread : Event → Type 0
+MovesNoThread e = Each (λ (x : Item). IsNoThread x.thing) e.entry.moved
+
 -- A history is legal where, over so many slots for threads:
 pub record IsLegal (slots : ℕ) (h : History) : Type 0 where
   -- the plain steps of the merge follow one another from the opening store
@@ -121,6 +129,8 @@ pub record IsLegal (slots : ℕ) (h : History) : Type 0 where
   pub threads : length h.threads ≡ suc (length (all_started (merge h)))
   -- a thread's first entry stands behind its start
   pub begun : (front behind : List Event) (e : Event) → merge h ≡ front ++ e ∷ behind → IsBegun front e
+  -- no entry moves a thread: threads are shared from their start
+  pub unmoved : Each MovesNoThread h.events
   -- the last entry of each log is its one End
   pub ends : Each (λ (p : Placed). EndsOnce p.log.entries) h.threads
 

@@ -12,14 +12,7 @@ use Rattle.rb_shared.specs.Lists.{Has, Each}
 use Rattle.rb_shared.specs.Store.{Store, opening, found, ungathered_count}
 use Rattle.rb_shared.specs.Step.{Steps}
 use Rattle.rb_shared.specs.Placing.{history_of}
-use Rattle.rb_shared.specs.History.{Event, Leads, by, all_started, IsBegun, EndsOnce, IsLegal}
-
--- no entry moves a thread: threads are shared from their start
-abbrev pub IsNoThread : Thing → Type 0
-IsNoThread thing = (s : ThreadState) → thing ≡ Thread s → ⊥
-
-abbrev pub MovesNoThread : Event → Type 0
-MovesNoThread e = Each (λ (x : Item). IsNoThread x.thing) e.entry.moved
+use Rattle.rb_shared.specs.History.{Event, Leads, by, all_started, IsBegun, EndsOnce, MovesNoThread, IsLegal}
 
 -- ---- threads
 
@@ -90,8 +83,8 @@ EndedOwnNothing = (slots : ℕ) (y y' z : Store) (last : Event) (behind : List E
 -- ---- one order
 
 -- The history of one order is legal: where the steps of the order are the plain ones, each thread began behind its start and ended with its one
--- End, and there are refusals, if none, of each thread. The reads at one point may be those of many threads, and then stand by the numbers of
--- these in the merge.
+-- End, no entry moves a thread, and there are refusals, if none, of each thread. The reads at one point may be those of many threads, and then
+-- stand by the numbers of these in the merge.
 abbrev pub OneOrderIsLegal : Type 0
 OneOrderIsLegal = (slots : ℕ) (es : List Event) (refusals : List (List Refusal)) (z : Store)
     → Leads slots opening es z
@@ -99,4 +92,5 @@ OneOrderIsLegal = (slots : ℕ) (es : List Event) (refusals : List (List Refusal
     → Each (λ (e : Event). e.thread < length refusals) es
     → ((front behind : List Event) (e : Event) → es ≡ front ++ e ∷ behind → IsBegun front e)
     → ((t : ℕ) → t < length refusals → EndsOnce (by t es))
+    → Each MovesNoThread es
     → IsLegal slots (history_of es refusals)

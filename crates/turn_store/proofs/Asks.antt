@@ -22,8 +22,7 @@ use Rattle.rb_model.specs.Things.{Thing, ThreadState, Object, Elements, Pairs, M
 use Rattle.rb_model.specs.Values.{Value, same_id, truth}
 use Rattle.rb_shared.specs.Answers.{entry_of, AreLaid}
 use Rattle.rb_shared.specs.Asking.{Knows as Holds, NamesOne, IsOwnId, HasNextId, IsNoneOf, ids_moved, MayMove, ReceivesAct, MayAsk}
-use Rattle.rb_shared.specs.History.{Event, by}
-use Rattle.rb_shared.specs.Laws.{IsNoThread}
+use Rattle.rb_shared.specs.History.{Event, IsNoThread, by}
 use Rattle.rb_shared.specs.Lists.{Has, Each}
 use Rattle.rb_shared.specs.Replies.{Serves, MayGive, ActMayGive, IsEnded}
 use Rattle.rb_shared.specs.Step.{AreNew, Steps, reply_to, reply_of, store_behind, waits, is_waiting, waits_on, join_reply, new_thread, ids_in, ids_in_call}
@@ -31,14 +30,14 @@ use Rattle.rb_shared.specs.Store.{Store, found, is_there, threads, generation_of
 use Rattle.rb_shared.specs.View.{View}
 use Rattle.rb_shared.proofs.Runs.{each_append, each_front, each_behind, each_more, each_has, same_is, same_self, found_has}
 use Rattle.thing_store.specs.Counted.{StartsNew}
-use Rattle.turn_store.specs.Standing.{sort_in, sort_at, Names, NamesHeld, Fits, MentionIn, IsSized, AreSized, values_in_call, values_in_reply}
-use Rattle.turn_store.specs.Run.{Run, IsRun, Knows, MayEnter, ComesFrom, EndsSo, IsOver}
+use Rattle.shared_run.specs.Standing.{sort_in, sort_at, Names, NamesHeld, Fits, MentionIn, IsSized, AreSized, values_in_call, values_in_reply}
+use Rattle.shared_run.specs.Run.{Run, IsRun, Knows, MayEnter, ComesFrom, EndsSo, IsOver}
 use Rattle.turn_store.specs.Slot.{GathersAnother, another}
-use Rattle.turn_store.proofs.Behind.{fits_more, fits_behind, sort_more, sort_behind}
+use Rattle.shared_run.proofs.Behind.{fits_more, fits_behind, sort_more, sort_behind}
 use Rattle.turn_store.proofs.Fitting.{call_fits, moved_fit, reply_names, names_there, ids_fit, moved_ids, sort_past, moved_named, names_itself, are_new}
-use Rattle.turn_store.proofs.Gives.{act_gives}
-use Rattle.turn_store.proofs.Makers.{makers_moved, generation_same, room_left}
-use Rattle.turn_store.proofs.Values.{reply_tells}
+use Rattle.shared_run.proofs.Gives.{act_gives}
+use Rattle.shared_run.proofs.Makers.{makers_moved, generation_same, room_left}
+use Rattle.shared_run.proofs.Values.{reply_tells}
 
 -- ---- ids that no thing has
 

@@ -17,13 +17,12 @@ use Rattle.rb_shared.specs.Threads.{ThreadLog, HasEnded, AllGathered}
 use Rattle.rb_shared.specs.View.{View, known_logs}
 use Rattle.rb_shared.proofs.Placed.{one_order_is_legal}
 use Rattle.rb_shared.proofs.Runs.{each_has}
-use Rattle.turn_store.specs.Run.{Run, Sunk, IsRun, IsThread, Knows, IsTold, IsOver, Stands, WasMade, AreBegun, refused_at, all_refused}
+use Rattle.shared_run.specs.Run.{Run, Sunk, IsRun, IsThread, Knows, IsTold, IsOver, IsMeant, Stands, WasMade, AreBegun, refused_at, all_refused}
 use Rattle.turn_store.specs.Holding.{Holder, with_front, front_holder}
-use Rattle.turn_store.specs.Turns.{At, Claims, ShowsRun, Free, Taken, Kept}
+use Rattle.turn_store.specs.Turns.{Never, At, Claims, ShowsRun, Free, Taken, Kept}
 use Rattle.turn_store.specs.Fronts.{ShowsAll, ShowsNow, SinkClosed}
-use Rattle.turn_store.specs.Calls.{Never}
-use Rattle.turn_store.proofs.Events.{once_ends}
-use Rattle.turn_store.proofs.Knowing.{all_told}
+use Rattle.shared_run.proofs.Events.{once_ends}
+use Rattle.shared_run.proofs.Knowing.{all_told}
 use Rattle.turn_store.proofs.Keeps.{each_set, each_snoc, apart_set}
 use Rattle.turn_store.proofs.Passing.{turn_views}
 
@@ -90,8 +89,8 @@ module _ (slots : ℕ) (run : Run) (v : View) (r : IsRun slots run) (k : Knows s
       of_maker m rec =
           let below = m.2 in
           let x = rec m.0 (omega (arith, below, lt)) (omega (arith, below, is)) in
-          let p = told_is x.0 x.1 x.3 in
-          gathered x.0 x.1 x.3 (suc t) m.1 (subst (λ (l : List Entry). Has (started l) (suc t, m.1)) (sym (ap (λ (l : Log). l.entries) p.1 ∙ ap (λ n. by n run.events) x.2)) m.3)
+          let p = (told_is x.0 x.1).1 x.3 in
+          gathered x.0 x.1 x.3 (suc t) m.1 (subst (λ (l : List Entry). Has (started l) (suc t, m.1)) (sym (ap (λ (l : Log). l.entries) p.0 ∙ ap (λ n. by n run.events) x.2)) m.3)
 
   pub known_all : (t : ℕ) → IsThread run t → HasEnded (known_logs v) t
   known_all t is = known_below (suc t) t (omega arith) is
@@ -99,21 +98,24 @@ module _ (slots : ℕ) (run : Run) (v : View) (r : IsRun slots run) (k : Knows s
   ends_once : (t : ℕ) → IsThread run t → EndsOnce (by t run.events)
   ends_once t is =
       let x = known_all t is in
-      let p = told_is x.0 x.1 x.3 in
-      subst EndsOnce (ap (λ (l : Log). l.entries) p.1 ∙ ap (λ n. by n run.events) x.2) p.2
+      let p = (told_is x.0 x.1).1 x.3 in
+      subst EndsOnce (ap (λ (l : Log). l.entries) p.0 ∙ ap (λ n. by n run.events) x.2) p.1
 
   pub all_ended : (t : ℕ) → IsThread run t → has_end (by t run.events) ≡ true
   all_ended t is = once_ends (by t run.events) (ends_once t is)
 
   legal : IsLegal slots (history_of run.events run.refusals)
   legal = one_order_is_legal slots run.events run.refusals run.store r.leads (r.counted ∙ ap suc (sym r.started)) r.within
-      (λ front behind e h. begun_at front [] behind run.events e r.begun h) ends_once
+      (λ front behind e h. begun_at front [] behind run.events e r.begun h) ends_once r.unmoved
 
   shown : Shows (history_of run.events run.refusals) (known_logs v)
   shown = record {
     known = λ t h ended.
-        let p = told_is t h ended in
-        (placed_log run.events t.thread (refused_at run.refusals t.thread), log_first run.events t.thread run.refusals p.0, sym p.1);
+        let p = told_is t h in
+        (placed_log run.events t.thread (refused_at run.refusals t.thread), log_first run.events t.thread run.refusals p.0, sym (p.1 ended).0);
+    fronts = λ t h.
+        let p = told_is t h in
+        (placed_log run.events t.thread (refused_at run.refusals t.thread), p.2.0, log_first run.events t.thread run.refusals p.0, p.2.1);
     all = λ n p e.
         let x = known_all n (log_beyond run.events 0 n run.refusals p e) in (x.0, x.1, x.2, x.3);
   }
@@ -123,19 +125,18 @@ module _ (slots : ℕ) (run : Run) (v : View) (r : IsRun slots run) (k : Knows s
 
 -- ---- the sink at the close
 
-pub written_of : (begun : Sunk) (run : Run) (sink : Sunk) → Stands begun run.events run.refusals sink → Written begun.told sink.told (history_of run.events run.refusals)
-written_of begun run sink s = (
+pub written_of : (Overflows : ℕ → ℕ → Type 0) (begun : Sunk) (run : Run) (sink : Sunk) → Stands Overflows begun run.events run.refusals sink → Written begun.told sink.told (history_of run.events run.refusals)
+written_of Overflows begun run sink s = (
   s.rest,
   subst (λ l. (s.rest ≡ []) ⊎ IsFront l s.rest) (sym (refusals_are run.events 0 run.refusals)) s.front,
   subst (λ l. Adds begun.told sink.told (l ++ s.rest)) (sym (prints_same run.events)) s.told,
 )
 
-pub caused_of : (begun : Sunk) (run : Run) (sink : Sunk) → Stands begun run.events run.refusals sink → Caused begun.faults sink.faults (history_of run.events run.refusals)
-caused_of begun run sink s q h failed = s.cause (s.refused q (subst (λ l. Has l q) (refusals_are run.events 0 run.refusals) h)).0
+pub caused_of : (Overflows : ℕ → ℕ → Type 0) (begun : Sunk) (run : Run) (sink : Sunk) → Stands Overflows begun run.events run.refusals sink → Caused begun.faults sink.faults (history_of run.events run.refusals)
+caused_of Overflows begun run sink s q h failed = s.cause (subst (IsMeant Overflows sink.failed) failed (s.refused q (subst (λ l. Has l q) (refusals_are run.events 0 run.refusals) h)))
 
-pub never_full : (Overflows : ℕ → ℕ → Type 0) (begun : Sunk) (run : Run) (sink : Sunk) → Stands begun run.events run.refusals sink → AreFull Overflows (history_of run.events run.refusals)
-never_full Overflows begun run sink s q h used wanted words =
-    let none_told = (s.refused q (subst (λ l. Has l q) (refusals_are run.events 0 run.refusals) h)).1 in absurd (let e : None ≡ Some (used, wanted) = sym none_told ∙ words in cc)
+pub full_of : (Overflows : ℕ → ℕ → Type 0) (begun : Sunk) (run : Run) (sink : Sunk) → Stands Overflows begun run.events run.refusals sink → AreFull Overflows (history_of run.events run.refusals)
+full_of Overflows begun run sink s q h used wanted words = subst (IsMeant Overflows sink.failed) words (s.refused q (subst (λ l. Has l q) (refusals_are run.events 0 run.refusals) h))
 
 module _ {S : Type 0} (store_of : S → Store) (sink_of : S → Sunk) (slots : ℕ) (begun : Sunk) where
   abbrev Rule : State S Holder → Type 0
@@ -208,7 +209,7 @@ module _ {S : Type 0} (store_of : S → Store) (sink_of : S → Sunk) (slots : �
 
   -- what the slot has at the close
   pub final : (ws : List ℕ) (xs : List S) (id : ℕ) (k : Holder) (y : S) (h : History) → Final (Seen Rule id k) ws xs → get_elem? xs 0 ≡ some y → k.live ≡ true → k.view.thread ≡ 0 → k.view.ended ≡ true
-      → AllGathered (known_logs k.view) → k.front ≡ Some h → (run : Run) × (h ≡ history_of run.events run.refusals) × Stands begun run.events run.refusals (sink_of y)
+      → AllGathered (known_logs k.view) → k.front ≡ Some h → (run : Run) × (h ≡ history_of run.events run.refusals) × Stands Never begun run.events run.refusals (sink_of y)
   final ws xs id k y h f at live main over gathered shown =
       let s = f.0 in
       let r = f.1.0 in
@@ -216,7 +217,7 @@ module _ {S : Type 0} (store_of : S → Store) (sink_of : S → Sunk) (slots : �
       let home : get_elem? s.homes 0 ≡ some (some c.value) = ap (λ hs. get_elem? hs 0) c.home in
       let there : get_elem? xs 0 ≡ some c.value = f.4 0 c.value home in
       let same : c.value ≡ y = some-injective c.value y (sym there ∙ at) in
-      (r.run, (r.shows id k f.1.1 h shown).0, subst (λ x. Stands begun r.run.events r.run.refusals (sink_of x)) same c.is_of.1)
+      (r.run, (r.shows id k f.1.1 h shown).0, subst (λ x. Stands Never begun r.run.events r.run.refusals (sink_of x)) same c.is_of.1)
 
   -- the same, for a count that is named otherwise
   pub shows_as : (n : ℕ) → n ≡ slots → (count id : ℕ) (me : Me S Holder) → me.0.live ≡ true → me.0.view.thread ≡ 0 → me.0.view.ended ≡ true → AllGathered (known_logs me.0.view)
@@ -230,4 +231,4 @@ module _ {S : Type 0} (store_of : S → Store) (sink_of : S → Sunk) (slots : �
       let r = final ws xs id k y h f at (ap (λ (x : Holder). x.live) same ∙ live) (ap (λ (x : Holder). x.view.thread) same ∙ main) (ap (λ (x : Holder). x.view.ended) same ∙ over)
       (subst (λ (x : Holder). AllGathered (known_logs x.view)) (sym same) gathered) (ap (λ (x : Holder). x.front) same) in
       subst (SinkClosed begun (sink_of y)) (sym r.1)
-      (written_of begun r.0 (sink_of y) r.2, r.2.rises, caused_of begun r.0 (sink_of y) r.2, never_full Never begun r.0 (sink_of y) r.2)
+      (written_of Never begun r.0 (sink_of y) r.2, r.2.rises, caused_of Never begun r.0 (sink_of y) r.2, full_of Never begun r.0 (sink_of y) r.2)

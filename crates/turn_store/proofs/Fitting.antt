@@ -33,7 +33,7 @@ use Rattle.rb_shared.specs.Lists.{Each}
 use Rattle.rb_shared.specs.Step.{AreNew, ids_in}
 use Rattle.rb_shared.specs.Store.{Store, found, is_there}
 use Rattle.rb_shared.proofs.Runs.{each_append, each_front, each_behind, same_is, same_self}
-use Rattle.turn_store.specs.Standing.{sort_in, sort_at, NamesHeld, Fits, MentionIn, values_in_call, values_in_reply}
+use Rattle.shared_run.specs.Standing.{sort_in, sort_at, NamesHeld, Fits, MentionIn, values_in_call, values_in_reply}
 
 -- ---- values and the references that they hold
 

@@ -15,12 +15,13 @@ use Rattle.rb_shared.specs.Lists.{Each}
 use Rattle.rb_shared.specs.Step.{Steps}
 use Rattle.rb_shared.specs.Store.{Store}
 use Rattle.rb_shared.specs.View.{View, with_entry, with_refused, started_number}
-use Rattle.turn_store.specs.Standing.{NamesHeld}
-use Rattle.turn_store.specs.Run.{Run, Sunk, IsThread, Knows, MayEnter, Stands, IsOver, run_after, run_refused}
+use Rattle.shared_run.specs.Standing.{NamesHeld}
+use Rattle.shared_run.specs.Run.{Run, Sunk, IsThread, Knows, MayEnter, Stands, IsOver, run_after, run_refused}
 use Rattle.turn_store.specs.Holding.{Found, Holder, with_found, released}
-use Rattle.turn_store.specs.Turns.{At, Claims, Apart, ShowsRun, IsNote, Free, Taken, Kept, Takes, Makes, Refuses, GivesUp, found_in, SinkDid, SinkRefused, MayMake, MayRefuse, MayGiveUp}
-use Rattle.turn_store.proofs.Knowing.{knows_on, noted, refusal_grows, refused_knows}
-use Rattle.turn_store.proofs.Enters.{run_on, entry_grows, entry_knows, unended, new_is_past}
+use Rattle.turn_store.specs.Turns.{Never, At, Claims, Apart, ShowsRun, Free, Taken, Kept, Takes, Makes, Refuses, GivesUp, found_in, SinkDid, SinkRefused, MayMake, MayRefuse, MayGiveUp}
+use Rattle.shared_run.specs.Run.{IsNote}
+use Rattle.shared_run.proofs.Knowing.{knows_on, noted, refusal_grows, refused_knows}
+use Rattle.shared_run.proofs.Enters.{run_on, entry_grows, entry_knows, unended, new_is_past}
 use Rattle.turn_store.proofs.Sinking.{stands_did, stands_refused}
 
 -- ---- lists of holders
@@ -222,7 +223,7 @@ module _ {S : Type 0} (store_of : S → Store) (sink_of : S → Sunk) (slots : �
             word = refl;
             value = y;
             home = refl;
-            is_of = (refl, stands_did begun r.run.events r.run.refusals v.thread e f.sink (sink_of y) (subst (Stands begun r.run.events r.run.refusals) (ap (λ (x : Found). x.sink) (sym g.3)) t.is_of.1) did);
+            is_of = (refl, stands_did Never begun r.run.events r.run.refusals v.thread e f.sink (sink_of y) (subst (Stands Never begun r.run.events r.run.refusals) (ap (λ (x : Found). x.sink) (sym g.3)) t.is_of.1) did);
             none_holds = each_set (λ j u. u.holding ≡ None) s.views id w refl (λ j u ne a. t.others j u (λ is. ne (is ∙ sym g.1)) a);
           };
         },
@@ -260,17 +261,18 @@ module _ {S : Type 0} (store_of : S → Store) (sink_of : S → Sunk) (slots : �
           run = new;
           is_run = record {
             leads = r.is_run.leads;
-            counted = Rattle.turn_store.proofs.Events.refused_count r.run.refusals v.thread q ∙ r.is_run.counted;
+            counted = Rattle.shared_run.proofs.Events.refused_count r.run.refusals v.thread q ∙ r.is_run.counted;
             started = r.is_run.started;
             begun = r.is_run.begun;
             within = Rattle.rb_shared.proofs.Runs.each_more (λ (x : Event). IsThread r.run x.thread) (λ (x : Event). IsThread new x.thread) (λ x lt. let le = grows.more in omega (arith, lt, le)) r.run.events r.is_run.within;
-            made = λ n pos lt. r.is_run.made n pos (let c = Rattle.turn_store.proofs.Events.refused_count r.run.refusals v.thread q in omega (arith, lt, c));
+            made = λ n pos lt. r.is_run.made n pos (let c = Rattle.shared_run.proofs.Events.refused_count r.run.refusals v.thread q in omega (arith, lt, c));
+            unmoved = r.is_run.unmoved;
             from = r.is_run.from;
             ended = r.is_run.ended;
             mentions = r.is_run.mentions;
             sized = r.is_run.sized;
           };
-          knows = each_set (λ j u. u.live ≡ true → Knows slots new u.view) s.views id w (λ _. refused_knows slots r.run v call moved q own going refl)
+          knows = each_set (λ j u. u.live ≡ true → Knows slots new u.view) s.views id w (λ _. refused_knows slots r.run v call moved None q own going refl)
               (λ j u ne a l. knows_on slots r.run new v.thread u.view grows open_log (r.knows j u a l)
               (λ is. ne (r.apart j id v.thread u k a at (l, inl is) (live, inl refl)))
               (λ is. ne (r.apart j id v.thread u k a at (l, inr is) (live, inl refl))));
@@ -284,8 +286,8 @@ module _ {S : Type 0} (store_of : S → Store) (sink_of : S → Sunk) (slots : �
             home = refl;
             is_of = (
               same ∙ here,
-              stands_refused begun r.run.events r.run.refusals v.thread q call f.sink (sink_of y)
-                  (subst (Stands begun r.run.events r.run.refusals) (ap (λ (x : Found). x.sink) (sym g.3)) t.is_of.1) did (refl, refl) own.within,
+              stands_refused Never begun r.run.events r.run.refusals v.thread q call f.sink (sink_of y)
+                  (subst (Stands Never begun r.run.events r.run.refusals) (ap (λ (x : Found). x.sink) (sym g.3)) t.is_of.1) did (refl, refl) own.within,
             );
             none_holds = each_set (λ j u. u.holding ≡ None) s.views id w refl (λ j u ne a. t.others j u (λ is. ne (is ∙ sym g.1)) a);
           };
@@ -321,7 +323,7 @@ module _ {S : Type 0} (store_of : S → Store) (sink_of : S → Sunk) (slots : �
             word = refl;
             value = y;
             home = refl;
-            is_of = (same ∙ (ap (λ (x : Found). x.store) g.3 ∙ t.is_of.0), subst (Stands begun r.run.events r.run.refusals) (sym (sunk ∙ ap (λ (x : Found). x.sink) g.3)) t.is_of.1);
+            is_of = (same ∙ (ap (λ (x : Found). x.store) g.3 ∙ t.is_of.0), subst (Stands Never begun r.run.events r.run.refusals) (sym (sunk ∙ ap (λ (x : Found). x.sink) g.3)) t.is_of.1);
             none_holds = each_set (λ j u. u.holding ≡ None) s.views id w refl (λ j u ne a. t.others j u (λ is. ne (is ∙ sym g.1)) a);
           };
         },

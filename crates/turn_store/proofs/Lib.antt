@@ -1,11 +1,3 @@
-mod Values
-mod Sizes
-mod Gives
-mod Behind
-mod Makers
-mod Events
-mod Knowing
-mod Enters
 mod Sinking
 mod Keeps
 mod Passing

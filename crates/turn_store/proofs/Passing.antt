@@ -10,50 +10,17 @@ use Rattle.rb_edge.specs.Edge.{Adds}
 use Rattle.rb_shared.specs.History.{History}
 use Rattle.rb_shared.specs.Store.{Store, globals}
 use Rattle.rb_shared.specs.Store as store
-use Rattle.rb_shared.specs.View.{View, first_view}
-use Rattle.turn_store.specs.Run.{Run, Sunk, IsRun, Knows, Stands}
+use Rattle.rb_shared.specs.View.{View}
+use Rattle.shared_run.specs.Run.{Sunk, Knows, Stands}
 use Rattle.turn_store.specs.Holding.{Found, Holder, main_holder, spent_holder, with_view, maker, child, child_of, joined}
-use Rattle.turn_store.specs.Turns.{At, Claims, Apart, ShowsRun, IsNote, Free, Taken, Kept, Noted}
-use Rattle.turn_store.proofs.Knowing.{noted, maker_knows, newborn_knows, joined_knows}
+use Rattle.turn_store.specs.Turns.{Never, At, Claims, Apart, ShowsRun, Free, Taken, Kept, Noted}
+use Rattle.shared_run.specs.Run.{IsNote}
+use Rattle.shared_run.proofs.Starting.{first_run, first_is_run, first_knows}
+use Rattle.shared_run.proofs.Knowing.{noted, maker_knows, newborn_knows, joined_knows}
 use Rattle.turn_store.proofs.Keeps.{each_set, each_snoc, apart_set, set_there, one_holder, note_claims, note_ended}
 
--- ---- the run at its start
-
-pub first_run : Run
-first_run = record { events = []; refusals = [] ∷ []; store = store.opening }
-
-pub first_is_run : (slots : ℕ) → IsRun slots first_run
-unfolding first_run
-first_is_run slots = record {
-  leads = refl;
-  counted = refl;
-  started = refl;
-  begun = tt;
-  within = tt;
-  made = λ n pos lt. absurd (omega (arith, pos, lt));
-  from = (inl refl, tt);
-  ended = (λ s how e end. absurd (cc), tt);
-  mentions = (tt, tt);
-  sized = (tt, tt);
-}
-
-pub first_knows : (slots : ℕ) → Knows slots first_run (first_view slots)
-unfolding first_run
-first_knows slots = record {
-  same_slots = refl;
-  within = omega arith;
-  begun = inl refl;
-  generation = refl;
-  log = refl;
-  over = refl;
-  known = (refl, tt);
-  told = tt;
-  due = λ n e. absurd (let h : None ≡ Some n = e in cc);
-}
-
 -- nothing was printed and nothing refused
-pub first_stands : (begun : Sunk) → begun.failed ≡ false → Stands begun first_run.events first_run.refusals begun
-unfolding first_run
+pub first_stands : (begun : Sunk) → begun.failed ≡ false → Stands Never begun first_run.events first_run.refusals begun
 first_stands begun fine = record {
   rest = [];
   told = same begun.told;
@@ -83,7 +50,6 @@ module _ {S : Type 0} (store_of : S → Store) (sink_of : S → Sunk) (slots : �
 
   -- the rule at the start
   pub begins : (y : S) → store_of y ≡ store.opening → sink_of y ≡ begun → begun.failed ≡ false → Rule (opening (0 ∷ []) (y ∷ []) (main_holder slots))
-  unfolding first_run
   begins y same sunk fine = record {
     run = first_run;
     is_run = first_is_run slots;
@@ -94,7 +60,7 @@ module _ {S : Type 0} (store_of : S → Store) (sink_of : S → Sunk) (slots : �
       word = refl;
       value = y;
       home = refl;
-      is_of = (same, subst (Stands begun first_run.events first_run.refusals) (sym sunk) (first_stands begun fine));
+      is_of = (same, subst (Stands Never begun first_run.events first_run.refusals) (sym sunk) (first_stands begun fine));
       none_holds = λ j k at. ap (λ (u : Holder). u.holding) (sym (only j k at).1);
     };
   }

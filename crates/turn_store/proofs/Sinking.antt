@@ -6,9 +6,9 @@ use Rattle.rb_model.specs.Started.{started_by}
 use Rattle.rb_shared.specs.Closing.{IsFront}
 use Rattle.rb_shared.specs.History.{Event, prints}
 use Rattle.rb_shared.specs.Lists.{Has}
-use Rattle.turn_store.specs.Run.{Sunk, Stands, event_of, opened, refused_more, all_refused}
+use Rattle.shared_run.specs.Run.{Sunk, IsMeant, Stands, event_of, opened, refused_more, all_refused}
 use Rattle.turn_store.specs.Turns.{SinkDid, SinkRefused}
-use Rattle.turn_store.proofs.Events.{prints_more, refused_either, refused_stays, refused_new, all_refused_opened}
+use Rattle.shared_run.proofs.Events.{prints_more, refused_either, refused_stays, refused_new, all_refused_opened}
 
 adds_both : (a b c : Option (List ℕ)) (xs ys : List ℕ) → Adds a b xs → Adds b c ys → Adds a c (xs ++ ys)
 adds_both None None None xs ys p q = tt
@@ -30,23 +30,28 @@ rose_from : (a b c : ℕ) → Rose b c → a ≤ b → Rose a c
 rose_from a b c (inl lt) le = inl (omega (arith, lt, le))
 rose_from a b c (inr top) le = inr top
 
+-- what a refusal means stays so once the sink has failed
+meant_failed : (Overflows : ℕ → ℕ → Type 0) (before now : Bool) (words : Option (ℕ × ℕ)) → now ≡ true → IsMeant Overflows before words → IsMeant Overflows now words
+meant_failed Overflows before now None is meant = is
+meant_failed Overflows before now (Some (used, wanted)) is meant = meant
+
 -- what was added to the prints, where the sink had not failed
-behind_all : (begun : Sunk) (events : List Event) (refusals : List (List Refusal)) (old new : Sunk) (more : List ℕ) → Stands begun events refusals old → old.failed ≡ false
+behind_all : (Overflows : ℕ → ℕ → Type 0) (begun : Sunk) (events : List Event) (refusals : List (List Refusal)) (old new : Sunk) (more : List ℕ) → Stands Overflows begun events refusals old → old.failed ≡ false
     → Adds old.told new.told more → Adds begun.told new.told (prints events ++ more)
-behind_all begun events refusals old new more s fine adds =
+behind_all Overflows begun events refusals old new more s fine adds =
     let told : Adds begun.told old.told (prints events) = subst (Adds begun.told old.told) (ap (λ l. prints events ++ l) (s.whole fine) ∙ append-nil (prints events)) s.told in
     adds_both begun.told old.told new.told (prints events) more told adds
 
-pub stands_did : (begun : Sunk) (events : List Event) (refusals : List (List Refusal)) (t : ℕ) (e : Entry) (old new : Sunk) → Stands begun events refusals old → SinkDid e.call old new
-    → Stands begun (events ++ event_of t e ∷ []) (opened refusals (started_by e.call e.reply)) new
-stands_did begun events refusals t e old new s did = record {
+pub stands_did : (Overflows : ℕ → ℕ → Type 0) (begun : Sunk) (events : List Event) (refusals : List (List Refusal)) (t : ℕ) (e : Entry) (old new : Sunk) → Stands Overflows begun events refusals old → SinkDid e.call old new
+    → Stands Overflows begun (events ++ event_of t e ∷ []) (opened refusals (started_by e.call e.reply)) new
+stands_did Overflows begun events refusals t e old new s did = record {
   rest = s.rest;
   told = ⊎_elim silent printing did.2;
   rises = let a = s.rises in let b = did.0 in omega (arith, a, b);
   cause = λ h. rose_on begun.faults old.faults new.faults (s.cause (sym did.1 ∙ h)) s.rises did.0;
   whole = λ h. s.whole (sym did.1 ∙ h);
   front = ⊎_elim (λ x. inl x) (λ (f : IsFront (all_refused refusals) s.rest). inr (subst (λ l. IsFront l s.rest) (sym same) f)) s.front;
-  refused = λ q h. let p = s.refused q (subst (λ l. Has l q) same h) in (did.1 ∙ p.0, p.1);
+  refused = λ q h. subst (λ b. IsMeant Overflows b q.words) (sym did.1) (s.refused q (subst (λ l. Has l q) same h));
 }
   where
     same : all_refused (opened refusals (started_by e.call e.reply)) ≡ all_refused refusals
@@ -61,7 +66,7 @@ stands_did begun events refusals t e old new s did = record {
     printing p =
         let whole : prints events ++ printed e.call ≡ prints (events ++ event_of t e ∷ []) ++ s.rest =
         sym (prints_more t e events) ∙ sym (ap (λ l. prints (events ++ event_of t e ∷ []) ++ l) (s.whole p.0) ∙ append-nil (prints (events ++ event_of t e ∷ []))) in
-        subst (Adds begun.told new.told) whole (behind_all begun events refusals old new (printed e.call) s p.0 p.1)
+        subst (Adds begun.told new.told) whole (behind_all Overflows begun events refusals old new (printed e.call) s p.0 p.1)
 
 -- a refusal of a call, since the sink failed
 abbrev pub IsRefusalOf : Call → Refusal → Type 0
@@ -73,17 +78,20 @@ Before call old new = (old.failed ≡ true) × (new.told ≡ old.told)
 abbrev pub Now : Call → Sunk → Sunk → Type 0
 Now call old new = (old.failed ≡ false) × Rose old.faults new.faults × ((n : ℕ) × (n < length (printed call)) × Adds old.told new.told (take n (printed call)))
 
-pub stands_refused : (begun : Sunk) (events : List Event) (refusals : List (List Refusal)) (t : ℕ) (r : Refusal) (call : Call) (old new : Sunk) → Stands begun events refusals old → SinkRefused call old new
-    → IsRefusalOf call r → t < length refusals → Stands begun events (refused_more refusals t r) new
-stands_refused begun events refusals t r call old new s did is lt = ⊎_elim before now did.2
+pub stands_refused : (Overflows : ℕ → ℕ → Type 0) (begun : Sunk) (events : List Event) (refusals : List (List Refusal)) (t : ℕ) (r : Refusal) (call : Call) (old new : Sunk) → Stands Overflows begun events refusals old → SinkRefused call old new
+    → IsRefusalOf call r → t < length refusals → Stands Overflows begun events (refused_more refusals t r) new
+stands_refused Overflows begun events refusals t r call old new s did is lt = ⊎_elim before now did.2
   where
     more : List (List Refusal)
     more = refused_more refusals t r
 
-    refused_now : (q : Refusal) → Has (all_refused (refused_more refusals t r)) q → (new.failed ≡ true) × (q.words ≡ None)
-    refused_now q h = ⊎_elim (λ (same : q ≡ r). (did.1, ap (λ (x : Refusal). x.words) same ∙ is.1)) (λ (old : Has (all_refused refusals) q). (did.1, (s.refused q old).1)) (refused_either refusals t r q h)
+    refused_now : (q : Refusal) → Has (all_refused (refused_more refusals t r)) q → IsMeant Overflows new.failed q.words
+    refused_now q h = ⊎_elim
+        (λ (same : q ≡ r). subst (λ (x : Refusal). IsMeant Overflows new.failed x.words) (sym same) (subst (IsMeant Overflows new.failed) (sym is.1) did.1))
+        (λ (had : Has (all_refused refusals) q). meant_failed Overflows old.failed new.failed q.words did.1 (s.refused q had))
+        (refused_either refusals t r q h)
 
-    before : Before call old new → Stands begun events (refused_more refusals t r) new
+    before : Before call old new → Stands Overflows begun events (refused_more refusals t r) new
     before b = record {
       rest = s.rest;
       told = subst (λ x. Adds begun.told x (prints events ++ s.rest)) (sym b.1) s.told;
@@ -94,10 +102,10 @@ stands_refused begun events refusals t r call old new s did is lt = ⊎_elim bef
       refused = refused_now;
     }
 
-    now : Now call old new → Stands begun events (refused_more refusals t r) new
+    now : Now call old new → Stands Overflows begun events (refused_more refusals t r) new
     now n = record {
       rest = take n.2.0 (printed call);
-      told = behind_all begun events refusals old new (take n.2.0 (printed call)) s n.0 n.2.2;
+      told = behind_all Overflows begun events refusals old new (take n.2.0 (printed call)) s n.0 n.2.2;
       rises = let x = s.rises in let y = did.0 in omega (arith, x, y);
       cause = λ h. rose_from begun.faults old.faults new.faults n.1 s.rises;
       whole = λ h. absurd (true≢false (sym did.1 ∙ h));

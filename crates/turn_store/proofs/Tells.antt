@@ -17,12 +17,13 @@ use Rattle.rb_shared.specs.Store.{Store}
 use Rattle.rb_shared.specs.View.{View}
 use Rattle.turn_store.specs.declared.slot.Attempt.TheVariants as attempt
 use Rattle.turn_store.specs.declared.slot.Slot.{Slot}
-use Rattle.turn_store.specs.Calls.{HasEntered, HasReturned, Never, started_in, refs_of}
+use Rattle.turn_store.specs.Calls.{HasEntered, HasReturned, started_in, refs_of}
 use Rattle.turn_store.specs.Holding.{Holder, with_found, released}
-use Rattle.turn_store.specs.Run.{Run, IsRun, Knows, MayEnter}
+use Rattle.shared_run.specs.Run.{Run, IsRun, Knows, MayEnter}
 use Rattle.turn_store.specs.Slot.{Attempts, IsDone, MayTry, Stays, with_moved, things_of, sunk_of}
-use Rattle.turn_store.specs.Standing.{NamesHeld}
-use Rattle.turn_store.specs.Turns.{Known, Takes, HasTurn, InHand, IsNote, MayMake, MayRefuse, MayGiveUp, found_in}
+use Rattle.shared_run.specs.Standing.{NamesHeld}
+use Rattle.turn_store.specs.Turns.{Never, Known, Takes, HasTurn, InHand, MayMake, MayRefuse, MayGiveUp, found_in}
+use Rattle.shared_run.specs.Run.{IsNote}
 use Rattle.turn_store.proofs.Asks.{asks_new, asks_starts, asks_steps, asks_enters, asks_refs, asks_gives}
 
 -- ---- plain stores
@@ -55,7 +56,7 @@ module _ {S : Type 0} where
   pub one_in_hand : (m : Me S Holder) (x y : S) → m.1 ≡ (0, x) ∷ [] → m.1 ≡ (0, y) ∷ [] → x ≡ y
   one_in_hand m x y a b = ap (λ (l : List (ℕ × S)). (get_or l 0 (0, x)).1) (sym a ∙ b)
 
-module _ {S : Type 0} (store_of : S → Store) (sink_of : S → Rattle.turn_store.specs.Run.Sunk) where
+module _ {S : Type 0} (store_of : S → Store) (sink_of : S → Rattle.shared_run.specs.Run.Sunk) where
   pub took : (slots : ℕ) (m0 m m' : Me S Holder) (n : ℕ) → m ≡ m0 → m0.1 ≡ [] → n ≡ 0 → Takes store_of sink_of slots m n m' → HasTurn store_of sink_of m0.0 m' (λ y. Known slots m0.0.view (store_of y))
   took slots m0 m m' n same nothing zero_is t =
       let u = subst (λ (x : Me S Holder). Takes store_of sink_of slots x n m') same t in
@@ -66,7 +67,7 @@ module _ {S : Type 0} (store_of : S → Store) (sink_of : S → Rattle.turn_stor
   in_hand k m P Q h f = (h.0, ap (λ (x : Me S Holder). x.1) h.1, f h.0 h.2)
 
 module _ {K : Type 0} (told : K → Option (List ℕ)) (faults : K → ℕ) where
-  abbrev pub sink : Slot K → Rattle.turn_store.specs.Run.Sunk
+  abbrev pub sink : Slot K → Rattle.shared_run.specs.Run.Sunk
   sink = sunk_of told faults
 
   abbrev pub Turn : ℕ → Holder → Me (Slot K) Holder → Type 0

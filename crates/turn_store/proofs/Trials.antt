@@ -32,7 +32,7 @@ use Rattle.rb_shared.specs.View.{View, polled_view, asking, ask_of, unasked, wit
 use Rattle.rb_shared.proofs.Runs.{has_front}
 use Rattle.turn_store.specs.Calls.{started_in}
 use Rattle.turn_store.specs.Trial.{IsReady, IsPlain, Leaves, IsAsBefore, StillKnows}
-use Rattle.turn_store.proofs.Events.{started_more}
+use Rattle.shared_run.proofs.Events.{started_more}
 
 -- ---- what may be asked
 

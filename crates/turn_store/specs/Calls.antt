@@ -37,10 +37,6 @@ module _ {S : Type 0} where
 abbrev pub refs_of : Reply → List MovedItem → List Ref
 refs_of r moved = refs_in_reply r ++ map ref_of moved
 
--- no words in use and asked for are more than there are
-abbrev pub Never : ℕ → ℕ → Type 0
-Never used wanted = ⊥
-
 -- the thread that an answer says was started
 abbrev pub started_in : Answer → Option ℕ
 started_in (answer.Done r) = started_number (said r)

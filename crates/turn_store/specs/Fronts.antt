@@ -5,8 +5,8 @@ use Rattle.rb_shared.specs.Closing.{Shows, Written, Caused, AreFull}
 use Rattle.rb_shared.specs.History.{History, IsLegal}
 use Rattle.rb_shared.specs.Threads.{ThreadLog}
 use Rattle.rb_shared.specs.View.{known_logs}
-use Rattle.turn_store.specs.Calls.{Never}
-use Rattle.turn_store.specs.Run.{Sunk}
+use Rattle.turn_store.specs.Turns.{Never}
+use Rattle.shared_run.specs.Run.{Sunk}
 use Rattle.turn_store.specs.Holding.{Holder, with_front}
 
 -- it is legal, and its logs are those that are known

@@ -3,7 +3,7 @@ use Rattle.std.specs.Prelude.{ℕ, Bool, true, false, Option, Some, None}
 use Rattle.rb_shared.specs.History.{History}
 use Rattle.rb_shared.specs.Store.{Store}
 use Rattle.rb_shared.specs.View.{View, first_view, split_view, newborn, joined_view}
-use Rattle.turn_store.specs.Run.{Sunk}
+use Rattle.shared_run.specs.Run.{Sunk}
 
 -- what was found where the turn was taken
 pub record Found : Type 0 where

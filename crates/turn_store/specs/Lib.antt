@@ -1,5 +1,3 @@
-pub mod Standing
-pub mod Run
 pub mod Holding
 pub mod Turns
 pub mod Slot

@@ -6,7 +6,7 @@ use Rattle.rb_shared.specs.declared.answer.Answer.{Answer}
 use Rattle.rb_shared.specs.Answers.{AnswersIn}
 use Rattle.rb_shared.specs.History.{History}
 use Rattle.rb_shared.specs.View.{View, newborn}
-use Rattle.turn_store.specs.Calls.{Never}
+use Rattle.turn_store.specs.Turns.{Never}
 use Rattle.turn_store.specs.Holding.{Holder, spent_holder}
 
 abbrev pub holder_of : List Holder → Holder

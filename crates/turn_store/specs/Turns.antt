@@ -1,5 +1,5 @@
 -- The rule of the turn word and its slot, and what each step tells.
-use Rattle.std.specs.Prelude.{◌≡◌, ◌≢◌, ◌≤◌, ◌<◌, ◌⊎◌, ℕ, true, false, List, [], ◌∷◌, length, take, Option, Some, None}
+use Rattle.std.specs.Prelude.{◌≡◌, ◌≢◌, ◌≤◌, ◌<◌, ◌⊎◌, ℕ, true, false, List, [], ◌∷◌, length, take, Some, None}
 use mathlib.Core.Option.{some, none}
 use lib.ListN.{get_elem?}
 use Rattle.atomic_table.specs.Table.{State, Me, rest}
@@ -14,8 +14,12 @@ use Rattle.rb_shared.specs.Step.{Steps}
 use Rattle.rb_shared.specs.Store.{Store}
 use Rattle.rb_shared.specs.View.{View, with_entry, with_refused}
 use Rattle.turn_store.specs.Holding.{Found, Holder, with_found, with_view, released}
-use Rattle.turn_store.specs.Run.{Run, Sunk, IsRun, IsThread, Knows, MayEnter, Stands}
-use Rattle.turn_store.specs.Standing.{NamesHeld}
+use Rattle.shared_run.specs.Run.{Run, Sunk, IsNote, IsRun, IsThread, Knows, MayEnter, Stands}
+use Rattle.shared_run.specs.Standing.{NamesHeld}
+
+-- no words in use and asked for are more than there are
+abbrev pub Never : ℕ → ℕ → Type 0
+Never used wanted = ⊥
 
 abbrev pub At : List Holder → ℕ → Holder → Type 0
 At holders j k = get_elem? holders j ≡ some k
@@ -38,10 +42,6 @@ ShowsRun run h = (h ≡ history_of run.events run.refusals) × ((n : ℕ) → Is
 abbrev pub ShowAll : Run → List Holder → Type 0
 ShowAll run holders = (j : ℕ) (k : Holder) → At holders j k → (h : History) → k.front ≡ Some h → ShowsRun run h
 
--- a view that differs in what was polled and asked alone, or has forgotten which thread was started last
-abbrev pub IsNote : View → View → Type 0
-IsNote v w = (u : Option ℕ) × ((u ≡ v.unsplit) ⊎ (u ≡ None)) × (w ≡ record v { polled = w.polled; asked = w.asked; unsplit = u })
-
 -- what is known of a store that was found, by the pass that found it
 abbrev pub Known : ℕ → View → Store → Type 0
 Known slots v z = (run : Run) × (run.store ≡ z) × IsRun slots run × Knows slots run v
@@ -52,7 +52,7 @@ module _ {S : Type 0} (store_of : S → Store) (sink_of : S → Sunk) where
 
   -- what was found stands for the run
   abbrev pub IsOf : Sunk → Run → Found → Type 0
-  IsOf begun run f = (f.store ≡ run.store) × Stands begun run.events run.refusals f.sink
+  IsOf begun run f = (f.store ≡ run.store) × Stands Never begun run.events run.refusals f.sink
 
   -- the turn is free, and the slot stands for the run
   pub record Free (begun : Sunk) (run : Run) (s : State S Holder) : Type 0 where

@@ -4,7 +4,7 @@ ghost use Rattle.std.specs.Prelude.{◌≡◌, ◌≤◌, true};
 ghost use Rattle.rb_shared.specs.Closing.{AreFull, Caused, Written};
 ghost use Rattle.rb_shared.specs.Threads.{AllGathered};
 ghost use Rattle.rb_shared.specs.View.{known_logs};
-ghost use Rattle.turn_store.specs.Calls.{Never};
+ghost use Rattle.turn_store.specs.Turns.{Never};
 ghost use Rattle.turn_store.specs.Fronts.{ShowsAll, ShowsNow};
 ghost use Rattle.turn_store.specs.Passes.{history_in, view_of};
 

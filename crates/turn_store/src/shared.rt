@@ -9,7 +9,7 @@ use std::marker::Brand;
 use std::sync::Wait;
 
 impl<K: Sink + Send> SharedStore for TurnStore<K> {
-    ghost use Rattle.turn_store.specs.Calls.{Never};
+    ghost use Rattle.turn_store.specs.Turns.{Never};
     ghost use Rattle.turn_store.specs.Passes.{view_of};
 
     type Pass = TurnPass;

@@ -11,8 +11,8 @@ ghost use Rattle.rb_shared.specs.View.{View, first_view, unasked};
 ghost use Rattle.turn_store.specs.Holding.{Holder};
 ghost use Rattle.turn_store.specs.Passes.{IsPass, holder_of, view_of};
 ghost use Rattle.turn_store.specs.Slot.{Attempts, MayTry, begun_of, sunk_of, things_of};
-ghost use Rattle.turn_store.specs.Turns.{InHand, IsAtRest, MayGiveUp, MayMake, MayRefuse, TookTurn};
-ghost use Rattle.turn_store.specs.Calls.{HasEntered, HasLeft, HasRefused, HasReturned, IsGoing, Never, refs_of};
+ghost use Rattle.turn_store.specs.Turns.{Never, InHand, IsAtRest, MayGiveUp, MayMake, MayRefuse, TookTurn};
+ghost use Rattle.turn_store.specs.Calls.{HasEntered, HasLeft, HasRefused, HasReturned, IsGoing, refs_of};
 
 use crate::rule::{
     Counting, Forget, GiveUp, Known, Law, Leave, Made, Naming, Refuse, Refusing, Take,

@@ -3,7 +3,7 @@ use Rattle.rb_shared.specs.Closing.{AreFull, Caused, Written}
 use Rattle.rb_shared.specs.History.{History}
 use Rattle.rb_shared.specs.Threads.{AllGathered}
 use Rattle.rb_shared.specs.View.{known_logs}
-use Rattle.turn_store.specs.Calls.{Never}
+use Rattle.turn_store.specs.Turns.{Never}
 use Rattle.turn_store.specs.Fronts.{ShowsAll, SinkClosed}
 use Rattle.turn_store.specs.Holding.{Holder, front_holder}
 use Rattle.turn_store.specs.Passes.{history_in, holder_of}

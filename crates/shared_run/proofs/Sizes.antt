@@ -7,7 +7,7 @@ use Rattle.rb_model.specs.Acts.{Act, SetField, Put, Push, Unshift, Pop, Shift, D
 use Rattle.rb_model.specs.Ends.{End as Ending}
 use Rattle.rb_model.specs.Things.{Thing, Object, Elements, Pairs, Mutex, Thread, index_of, last_place, with_element, put, has_room, without_element, with_pair, without_key, has_key, max_elements}
 use Rattle.rb_shared.specs.Step.{behind_act, ended_thing}
-use Rattle.turn_store.specs.Standing.{sort_in, IsSized}
+use Rattle.shared_run.specs.Standing.{sort_in, IsSized}
 
 -- ---- lengths
 

@@ -18,8 +18,8 @@ use Rattle.rb_shared.specs.Step.{Steps, reply_to}
 use Rattle.rb_shared.specs.Store.{Store, found, threads, is_full}
 use Rattle.rb_shared.specs.View.{started_number}
 use Rattle.rb_shared.proofs.Runs.{has_front, has_behind}
-use Rattle.turn_store.proofs.Gives.{no_start}
-use Rattle.turn_store.specs.Run.{event_of, refused_at, refused_more, opened, all_refused, AreBegun}
+use Rattle.shared_run.proofs.Gives.{no_start}
+use Rattle.shared_run.specs.Run.{event_of, refused_at, refused_more, opened, all_refused, AreBegun}
 
 -- ---- the entries of one thread
 

@@ -14,8 +14,8 @@ use Rattle.rb_shared.specs.Lists.{Each}
 use Rattle.rb_shared.specs.Store.{Store, found, with_thing, is_full}
 use Rattle.rb_shared.specs.Step.{behind_act, store_behind, with_act, ended_item, ended_thing, new_thread}
 use Rattle.rb_shared.proofs.Runs.{each_append}
-use Rattle.turn_store.specs.Standing.{sort_in, sort_at, Fits}
-use Rattle.turn_store.proofs.Sizes.{behind_sort, ended_sort}
+use Rattle.shared_run.specs.Standing.{sort_in, sort_at, Fits}
+use Rattle.shared_run.proofs.Sizes.{behind_sort, ended_sort}
 
 -- ---- each thing
 

@@ -12,13 +12,13 @@ use Rattle.rb_model.specs.Things.{ThreadState, Thread}
 use Rattle.rb_model.specs.Values.{Reference}
 use Rattle.rb_shared.specs.Asking.{IsOwnId, HasNextId, ids_moved}
 use Rattle.rb_shared.specs.Closing.{IsFront}
-use Rattle.rb_shared.specs.History.{Event, Leads, EndsOnce, IsBegun, all_started, by, prints}
-use Rattle.rb_shared.specs.Laws.{IsNoThread}
+use Rattle.rb_shared.specs.History.{Event, Leads, EndsOnce, IsBegun, IsNoThread, MovesNoThread, all_started, by, is_read, prints}
 use Rattle.rb_shared.specs.Lists.{Has, Each}
+use Rattle.rb_shared.specs.Step.{Steps}
 use Rattle.rb_shared.specs.Store.{Store, globals, opening, threads, generation_of}
 use Rattle.rb_shared.specs.Threads.{ThreadLog}
 use Rattle.rb_shared.specs.View.{View}
-use Rattle.turn_store.specs.Standing.{NamesHeld, Fits, MentionIn, AreSized, values_in_call}
+use Rattle.shared_run.specs.Standing.{NamesHeld, Fits, MentionIn, AreSized, values_in_call}
 
 -- The run so far: the entries of all threads in their one order, what each thread was refused, by the numbers of the threads, and the store
 -- that the entries lead to.
@@ -82,6 +82,8 @@ pub record IsRun (slots : ℕ) (run : Run) : Type 0 where
   pub begun : AreBegun [] run.events
   pub within : Each (λ (e : Event). IsThread run e.thread) run.events
   pub made : (n : ℕ) → 0 < n → IsThread run n → WasMade run.events n
+  -- no entry moved a thread
+  pub unmoved : Each MovesNoThread run.events
   -- the things of the store
   pub from : Each (ComesFrom run.events) run.store
   pub ended : Each (EndsSo run.events) run.store
@@ -95,9 +97,13 @@ abbrev pub IsOver : Bool → Log → Type 0
 IsOver true log = EndsOnce log.entries
 IsOver false log = has_end log.entries ≡ false
 
--- a log that was told, once it has ended, is the whole log of its thread
+-- a log that has ended is the whole log of its thread
+abbrev pub IsWhole : Run → ThreadLog → Type 0
+IsWhole run t = t.ended ≡ true → (t.log ≡ log_of run t.thread) × EndsOnce t.log.entries
+
+-- a log that was told is a front of the log of its thread, and the whole of it once it has ended
 abbrev pub IsTold : Run → ThreadLog → Type 0
-IsTold run t = t.ended ≡ true → IsThread run t.thread × (t.log ≡ log_of run t.thread) × EndsOnce t.log.entries
+IsTold run t = IsThread run t.thread × IsWhole run t × ((behind : List Entry) × (by t.thread run.events ≡ t.log.entries ++ behind))
 
 -- thread n waits for the pass that is to be split off for it, one generation behind its maker
 abbrev pub IsDue : Run → View → ℕ → Type 0
@@ -113,6 +119,10 @@ pub record Knows (slots : ℕ) (run : Run) (v : View) : Type 0 where
   pub known : Each (NamesHeld run.store) v.known
   pub told : Each (IsTold run) v.told
   pub due : ForSome v.unsplit (IsDue run v)
+
+-- a view that differs in what was polled and asked alone, or has forgotten which thread was started last
+abbrev pub IsNote : View → View → Type 0
+IsNote v w = (u : Option ℕ) × ((u ≡ v.unsplit) ⊎ (u ≡ None)) × (w ≡ record v { polled = w.polled; asked = w.asked; unsplit = u })
 
 -- ---- one entry, or one refusal, more
 
@@ -136,6 +146,37 @@ refused_more (rs ∷ more) (suc t) r = rs ∷ refused_more more t r
 abbrev pub run_refused : Run → ℕ → Refusal → Run
 run_refused run t r = record { events = run.events; refusals = refused_more run.refusals t r; store = run.store }
 
+-- a read of thread t, put in between these events
+abbrev pub run_read : Run → List Event → List Event → ℕ → Entry → Run
+run_read run front behind t e = record { events = front ++ event_of t e ∷ behind; refusals = run.refusals; store = run.store }
+
+-- What a thread reads late may stand behind the front of a run: the thread had begun by then and made no entry since, and its plain step there
+-- is this read, which moves nothing and leaves the store as it was.
+pub record MayRead (slots : ℕ) (run : Run) (t : ℕ) (e : Entry) (front behind : List Event) : Type 0 where
+  pub split : run.events ≡ front ++ behind
+  pub begun : WasBegun front t
+  pub since : by t behind ≡ []
+  pub reads : is_read e.call ≡ true
+  pub bare : e.moved ≡ []
+  pub store : Store
+  pub leads : Leads slots opening front store
+  pub steps : Steps slots store t e store
+
+-- A point of a run behind which thread t may still put in a read: it had begun by then and made no entry since. There the store was so.
+pub record Point (slots : ℕ) (run : Run) (t : ℕ) (P : Store → Type 0) : Type 0 where
+  pub front : List Event
+  pub behind : List Event
+  pub split : run.events ≡ front ++ behind
+  pub begun : WasBegun front t
+  pub since : by t behind ≡ []
+  pub store : Store
+  pub leads : Leads slots opening front store
+  pub holds : P store
+
+-- a read, with the reply that it had at a point behind which thread t may still put it in
+abbrev pub MayStill : ℕ → Run → ℕ → Entry → Type 0
+MayStill slots run t e = (is_read e.call ≡ true) × (e.moved ≡ []) × Point slots run t (λ y. Steps slots y t e y)
+
 -- What moves with an entry of a pass, and what it mentions, is as the rule of the store asks.
 pub record MayEnter (v : View) (z : Store) (e : Entry) : Type 0 where
   pub hands : Each (Fits (z ++ e.moved)) (values_in_call e.call)
@@ -157,13 +198,17 @@ pub record Sunk : Type 0 where
 abbrev pub all_refused : List (List Refusal) → List Refusal
 all_refused refusals = flat_map (λ (rs : List Refusal). rs) refusals
 
--- The sink has taken the prints in their order, and where it failed a front of one print that was refused. Prints alone are refused, and only
--- once it has failed.
-pub record Stands (begun : Sunk) (events : List Event) (refusals : List (List Refusal)) (sink : Sunk) : Type 0 where
+-- A refusal without numbers came of a sink that has failed. What the numbers of another mean, each store says: none are ever told where that is never so.
+abbrev pub IsMeant : (ℕ → ℕ → Type 0) → Bool → Option (ℕ × ℕ) → Type 0
+IsMeant Overflows failed None = failed ≡ true
+IsMeant Overflows failed (Some (used, wanted)) = Overflows used wanted
+
+-- The sink has taken the prints in their order, and where it failed a front of one print that was refused. Each refusal is meant.
+pub record Stands (Overflows : ℕ → ℕ → Type 0) (begun : Sunk) (events : List Event) (refusals : List (List Refusal)) (sink : Sunk) : Type 0 where
   pub rest : List ℕ
   pub told : Adds begun.told sink.told (prints events ++ rest)
   pub rises : begun.faults ≤ sink.faults
   pub cause : sink.failed ≡ true → Rose begun.faults sink.faults
   pub whole : sink.failed ≡ false → rest ≡ []
   pub front : (rest ≡ []) ⊎ IsFront (all_refused refusals) rest
-  pub refused : (r : Refusal) → Has (all_refused refusals) r → (sink.failed ≡ true) × (r.words ≡ None)
+  pub refused : (r : Refusal) → Has (all_refused refusals) r → IsMeant Overflows sink.failed r.words

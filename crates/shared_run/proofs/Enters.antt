@@ -11,22 +11,21 @@ use Rattle.rb_model.specs.Private.{Item}
 use Rattle.rb_model.specs.Log.{Call, On, Start, Gather, Print, End, Entry, Refusal, Log, logged, has_end, is_end}
 use Rattle.rb_model.specs.Started.{started, started_by, to_thread, thread_id}
 use Rattle.rb_shared.specs.Asking.{IsOwnId, HasNextId, ids_moved}
-use Rattle.rb_shared.specs.History.{Event, all_started, by}
-use Rattle.rb_shared.specs.Laws.{IsNoThread}
+use Rattle.rb_shared.specs.History.{Event, IsNoThread, MovesNoThread, all_started, by}
 use Rattle.rb_shared.specs.Lists.{Has, Each}
 use Rattle.rb_shared.specs.Step.{Steps, ended_item, ended_thing, new_thread, reply_to}
 use Rattle.rb_shared.specs.Store.{Store, found, threads, generation_of, is_full}
 use Rattle.rb_shared.specs.View.{View, with_entry, started_number}
 use Rattle.rb_shared.proofs.Joins.{act_keeps, thread_is}
 use Rattle.rb_shared.proofs.Runs.{each_append, each_more, has_front, has_behind}
-use Rattle.turn_store.specs.Standing.{NamesHeld, Fits, MentionIn, IsSized, AreSized, values_in_call}
-use Rattle.turn_store.specs.Run.{Run, IsRun, IsThread, Knows, MayEnter, WasMade, ComesFrom, EndsSo, IsOver, IsTold, IsDue, run_after, event_of, opened}
-use Rattle.turn_store.proofs.Values.{behind_mentions, ended_mentions}
-use Rattle.turn_store.proofs.Sizes.{behind_sized, ended_sized}
-use Rattle.turn_store.proofs.Behind.{Asks, behind_each, fits_more, fits_behind, sort_more, sort_behind}
-use Rattle.turn_store.proofs.Makers.{makers, makers_count, makers_moved, makers_behind, made_by, generation_same, generation_old, generation_new}
-use Rattle.turn_store.proofs.Events.{by_append, by_own, by_other, by_nobody, started_append, started_more, all_started_more, Starts, StartsNone, starts, starts_one, has_end_front, has_end_last, no_end_more, ends_once, ids_append, ids_more, leads_on, begun_more, refused_opened, refused_past}
-use Rattle.turn_store.proofs.Knowing.{Grows, told_on, begun_on}
+use Rattle.shared_run.specs.Standing.{NamesHeld, Fits, MentionIn, IsSized, AreSized, values_in_call}
+use Rattle.shared_run.specs.Run.{Run, IsRun, IsThread, Knows, MayEnter, WasMade, ComesFrom, EndsSo, IsOver, IsTold, IsDue, run_after, event_of, opened}
+use Rattle.shared_run.proofs.Values.{behind_mentions, ended_mentions}
+use Rattle.shared_run.proofs.Sizes.{behind_sized, ended_sized}
+use Rattle.shared_run.proofs.Behind.{Asks, behind_each, fits_more, fits_behind, sort_more, sort_behind}
+use Rattle.shared_run.proofs.Makers.{makers, makers_count, makers_moved, makers_behind, made_by, generation_same, generation_old, generation_new}
+use Rattle.shared_run.proofs.Events.{by_append, by_own, by_other, by_nobody, started_append, started_more, all_started_more, Starts, StartsNone, starts, starts_one, has_end_front, has_end_last, no_end_more, ends_once, ids_append, ids_more, leads_on, begun_more, refused_opened, refused_past}
+use Rattle.shared_run.proofs.Knowing.{Grows, told_on, begun_on}
 
 -- ---- lists
 
@@ -291,6 +290,7 @@ module _ (slots : ℕ) (run : Run) (v : View) (e : Entry) (z' : Store) (r : IsRu
     begun = begun_more [] run.events (event_of v.thread e) r.begun k.begun;
     within = within_now;
     made = made_now;
+    unmoved = each_append MovesNoThread run.events (event_of v.thread e ∷ []) r.unmoved (may.no_threads, tt);
     from = from_now;
     ended = ended_now;
     mentions = mentions_now;
@@ -315,6 +315,7 @@ module _ (slots : ℕ) (run : Run) (v : View) (e : Entry) (z' : Store) (r : IsRu
     logs = λ n lt other i. record { entries = by_other v.thread n e run.events other i; refusals = refused_opened run.refusals ps n i };
     names = λ x f. subst (λ s. NamesHeld s x) (sym st.store_is)
         (sort_behind slots w v.thread e.call x.id x.sort (sort_more run.store e.moved x.id x.sort f));
+    own = (e ∷ [], by_own v.thread e run.events);
   }
 
   -- ---- what the pass itself knows

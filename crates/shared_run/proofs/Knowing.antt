@@ -1,19 +1,18 @@
 -- What a view says of a run stays where the run grows.
-use Rattle.std.proofs.Common.{◌≡◌, ◌≤◌, ◌⊎◌, ℕ, Bool, true, false, List, [], ◌∷◌, ◌++◌, length, Option, Some, None, refl, sym, ap, ◌∙◌, subst, inl, inr, ⊎_elim, arith, true≢false}
+use Rattle.std.proofs.Common.{◌≡◌, ◌≤◌, ◌⊎◌, ℕ, ◌==◌, Bool, true, false, List, [], ◌∷◌, ◌++◌, length, Option, Some, None, refl, sym, ap, ◌∙◌, subst, inl, inr, ⊎_elim, arith, true≢false, append-nil, append_assoc, eqb-true, eq-eqb}
 use Rattle.rb_model.specs.declared.value.Ref.{Ref}
 use Rattle.rb_model.specs.Values.{Reference}
 use Rattle.rb_model.specs.Private.{Item}
-use Rattle.rb_model.specs.Log.{Call, Refusal, Log, has_end, with_refusal}
+use Rattle.rb_model.specs.Log.{Call, Entry, Refusal, Log, has_end, with_refusal}
 use Rattle.rb_shared.specs.History.{all_started, by}
 use Rattle.rb_shared.specs.Lists.{Has, Each}
 use Rattle.rb_shared.specs.Store.{generation_of}
 use Rattle.rb_shared.specs.Threads.{ThreadLog}
 use Rattle.rb_shared.specs.View.{View, own_log, known_logs, with_refused, split_view, newborn, joined_view}
 use Rattle.rb_shared.proofs.Runs.{each_append, each_more}
-use Rattle.turn_store.specs.Standing.{NamesHeld}
-use Rattle.turn_store.specs.Run.{Run, Knows, IsThread, WasBegun, IsOver, IsTold, log_of, run_refused}
-use Rattle.turn_store.specs.Turns.{IsNote}
-use Rattle.turn_store.proofs.Events.{once_ends, refused_own, refused_other, refused_count}
+use Rattle.shared_run.specs.Standing.{NamesHeld}
+use Rattle.shared_run.specs.Run.{Run, IsNote, Knows, IsThread, WasBegun, IsOver, IsTold, IsWhole, log_of, run_refused}
+use Rattle.shared_run.proofs.Events.{once_ends, refused_own, refused_other, refused_count}
 
 -- a run grows by what thread t did
 pub record Grows (run new : Run) (t : ℕ) : Type 0 where
@@ -22,18 +21,37 @@ pub record Grows (run new : Run) (t : ℕ) : Type 0 where
   pub generation : (n : ℕ) → IsThread run n → generation_of new.store n ≡ generation_of run.store n
   pub logs : (n : ℕ) → IsThread run n → (n ≡ t → ⊥) → log_of new n ≡ log_of run n
   pub names : (r : Ref) → NamesHeld run.store r → NamesHeld new.store r
+  pub own : (behind : List Entry) × (by t new.events ≡ by t run.events ++ behind)
 
 pub begun_on : (run new : Run) (t n : ℕ) → Grows run new t → WasBegun run.events n → WasBegun new.events n
 begun_on run new t n g (inl e) = inl e
 begun_on run new t n g (inr b) = inr (b.0, g.started (n, b.0) b.1)
 
 -- a log that has ended is of another thread
-pub told_on : (run new : Run) (t : ℕ) → Grows run new t → has_end (by t run.events) ≡ false → (x : ThreadLog) → IsTold run x → IsTold new x
-told_on run new t g going x told ended =
-    let p = told ended in
-    let over : has_end (by x.thread run.events) ≡ true = ap (λ (l : Log). has_end l.entries) (sym p.1) ∙ once_ends x.log.entries p.2 in
+whole_on : (run new : Run) (t : ℕ) → Grows run new t → has_end (by t run.events) ≡ false → (x : ThreadLog) → IsTold run x → IsWhole new x
+whole_on run new t g going x told ended =
+    let p = told.1 ended in
+    let over : has_end (by x.thread run.events) ≡ true = ap (λ (l : Log). has_end l.entries) (sym p.0) ∙ once_ends x.log.entries p.1 in
     let other : x.thread ≡ t → ⊥ = (λ same. true≢false (sym over ∙ (ap (λ n. has_end (by n run.events)) same ∙ going))) in
-    (let lt = p.0 in let le = g.more in omega (arith, lt, le), p.1 ∙ sym (g.logs x.thread p.0 other), p.2)
+    (p.0 ∙ sym (g.logs x.thread told.0 other), p.1)
+
+-- and a front stays a front
+front_on : (run new : Run) (t : ℕ) → Grows run new t → (x : ThreadLog) → IsTold run x → (behind : List Entry) × (by x.thread new.events ≡ x.log.entries ++ behind)
+front_on run new t g x told = of_thread (x.thread == t) refl
+  where
+    of_thread : (b : Bool) → (x.thread == t) ≡ b → (behind : List Entry) × (by x.thread new.events ≡ x.log.entries ++ behind)
+    of_thread true is =
+        let same = eqb-true x.thread t is in
+        let q = told.2 in (
+          q.0 ++ g.own.0,
+          ap (λ n. by n new.events) same ∙ (g.own.1 ∙ (ap (λ l. l ++ g.own.0) (ap (λ n. by n run.events) (sym same) ∙ q.1) ∙ append_assoc x.log.entries q.0 g.own.0)),
+        )
+    of_thread false is =
+        let other : x.thread ≡ t → ⊥ = (λ same. true≢false (sym (eq-eqb x.thread t same) ∙ is)) in
+        (told.2.0, ap (λ (l : Log). l.entries) (g.logs x.thread told.0 other) ∙ told.2.1)
+
+pub told_on : (run new : Run) (t : ℕ) → Grows run new t → has_end (by t run.events) ≡ false → (x : ThreadLog) → IsTold run x → IsTold new x
+told_on run new t g going x told = (let lt = told.0 in let le = g.more in omega (arith, lt, le), whole_on run new t g going x told, front_on run new t g x told)
 
 pub knows_on : (slots : ℕ) (run new : Run) (t : ℕ) (u : View) → Grows run new t → has_end (by t run.events) ≡ false → Knows slots run u → (u.thread ≡ t → ⊥) → (u.unsplit ≡ Some t → ⊥) → Knows slots new u
 knows_on slots run new t u g going k other not_due = record {
@@ -73,7 +91,8 @@ noted slots run v w i k = subst (Knows slots run) (sym i.2) (note_at slots run v
 -- ---- split and join
 
 pub own_told : (slots : ℕ) (run : Run) (v : View) → Knows slots run v → IsTold run (own_log v)
-own_told slots run v k ended = (k.within, k.log, subst (λ b. IsOver b v.log) ended k.over)
+own_told slots run v k =
+    (k.within, (λ ended. (k.log, subst (λ b. IsOver b v.log) ended k.over)), ([], ap (λ (l : Log). l.entries) (sym k.log) ∙ sym (append-nil v.log.entries)))
 
 pub all_told : (slots : ℕ) (run : Run) (v : View) → Knows slots run v → Each (IsTold run) (known_logs v)
 all_told slots run v k = (own_told slots run v k, k.told)
@@ -116,11 +135,12 @@ refusal_grows run t r = record {
   generation = λ n lt. refl;
   logs = λ n lt other. ap (λ (rs : List Refusal). record { entries = by n run.events; refusals = rs }) (refused_other run.refusals t n r other);
   names = λ r n. n;
+  own = ([], sym (append-nil (by t run.events)));
 }
 
-pub refused_knows : (slots : ℕ) (run : Run) (v : View) (call : Call) (moved : List Item) (r : Refusal) → Knows slots run v → v.ended ≡ false
-    → r ≡ record { call = call; moved = moved; before = length v.log.entries; words = None } → Knows slots (run_refused run v.thread r) (with_refused v call moved None)
-refused_knows slots run v call moved r k going is =
+pub refused_knows : (slots : ℕ) (run : Run) (v : View) (call : Call) (moved : List Item) (words : Option (ℕ × ℕ)) (r : Refusal) → Knows slots run v → v.ended ≡ false
+    → r ≡ record { call = call; moved = moved; before = length v.log.entries; words = words } → Knows slots (run_refused run v.thread r) (with_refused v call moved words)
+refused_knows slots run v call moved words r k going is =
     let g = refusal_grows run v.thread r in
     let open_log : has_end v.log.entries ≡ false = subst (λ b. IsOver b v.log) going k.over in
     let unended : has_end (by v.thread run.events) ≡ false = ap (λ (l : Log). has_end l.entries) (sym k.log) ∙ open_log in record {
@@ -132,7 +152,7 @@ refused_knows slots run v call moved r k going is =
         entries = (k.log i).entries;
         refusals = (ap (λ (q : Refusal). v.log.refusals ++ q ∷ []) (sym is) ∙ (ap (λ (l : Log). l.refusals ++ r ∷ []) k.log ∙ sym (refused_own run.refusals v.thread r k.within))) i;
       };
-      over = subst (λ b. IsOver b (with_refusal v.log call moved None)) (sym going) open_log;
+      over = subst (λ b. IsOver b (with_refusal v.log call moved words)) (sym going) open_log;
       known = k.known;
       told = each_more (IsTold run) (IsTold (run_refused run v.thread r)) (told_on run (run_refused run v.thread r) v.thread g unended) v.told k.told;
       due = λ n e. absurd (let h : None ≡ Some n = e in cc);

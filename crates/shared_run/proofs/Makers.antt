@@ -12,7 +12,7 @@ use Rattle.rb_model.specs.Things.{Thing, ThreadState, Object, Elements, Pairs, M
 use Rattle.rb_model.specs.Private.{Item}
 use Rattle.rb_model.specs.Log.{Call, On, Start, Gather, Print, End}
 use Rattle.rb_model.specs.Started.{to_thread, started_by}
-use Rattle.rb_shared.specs.Laws.{IsNoThread}
+use Rattle.rb_shared.specs.History.{IsNoThread}
 use Rattle.rb_shared.specs.Lists.{Each}
 use Rattle.rb_shared.specs.Store.{Store, found, with_thing, thread_in, threads, generations, generation_of, ungathered_count, is_full}
 use Rattle.rb_shared.specs.Step.{behind_act, joined_by, gathered_by, store_behind, reply_to, with_act, ended_item, ended_thing, new_thread}

@@ -9,7 +9,7 @@ use Rattle.rb_model.specs.Things.{Thing, ThreadState, Object, Elements, Pairs, M
 use Rattle.rb_shared.specs.Replies.{Serves, ActMayGive, IsEnded}
 use Rattle.rb_shared.specs.Step.{act_reply, join_reply, reply_of}
 use Rattle.rb_shared.specs.View.{started_number}
-use Rattle.turn_store.specs.Standing.{sort_in, IsSized}
+use Rattle.shared_run.specs.Standing.{sort_in, IsSized}
 
 put_gives : (i : Option ℕ) → (put_reply i ≡ Done) ⊎ ((put_reply i ≡ Failed IndexTooSmall) ⊎ (put_reply i ≡ Failed ArrayTooLong))
 put_gives None = inr (inl refl)

@@ -12,7 +12,7 @@ use Rattle.rb_model.specs.Things.{Thing, ThreadState, Field, Object, Elements, P
 use Rattle.rb_shared.specs.Lists.{Each}
 use Rattle.rb_shared.specs.Step.{behind_act, act_reply, join_reply, joined_by, gathered_by, ended_thing}
 use Rattle.rb_shared.proofs.Runs.{each_append}
-use Rattle.turn_store.specs.Standing.{values_in_reply}
+use Rattle.shared_run.specs.Standing.{values_in_reply}
 
 module _ (P : Value → Type 0) (plain : (b : Bool) → P (truth b)) (nil : P Nil) (int : (n : ℤ) → P (Int n)) where
   one_of : (b : Bool) (x y : Value) → P x → P y → P (cond b x y)

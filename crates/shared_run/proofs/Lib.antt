@@ -1,0 +1,11 @@
+pub mod Values
+pub mod Sizes
+pub mod Gives
+pub mod Behind
+pub mod Makers
+pub mod Events
+pub mod Knowing
+pub mod Enters
+pub mod Starting
+pub mod Pointed
+pub mod Points
