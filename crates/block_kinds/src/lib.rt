@@ -1,0 +1,17 @@
+//! The blocks of values that do not fit a word: texts and wide integers.
+#![tactic(auto)]
+
+mod bytes;
+mod laying;
+mod loaded;
+mod loading;
+mod size;
+#[cfg(test)]
+mod tests;
+mod text;
+
+pub use laying::build;
+pub use loaded::Loaded;
+pub use loading::load;
+pub use size::words_for;
+pub use text::read_text;

@@ -1,0 +1,226 @@
+-- A step that leaves the words of a block and of its parts, its thing and what is in progress there leaves its rule.
+use Rattle.std.proofs.Common.{◌≡◌, ◌≤◌, ◌<◌, ◌⊎◌, ◌==◌, ◌/◌, ◌%◌, ℕ, zero, suc, ◌+◌, Bool, true, false, cond, List, [], ◌∷◌, Option, Some, None, refl, sym, ap, ◌∙◌, subst, inl, inr, ⊎_elim, arith, eq-eqb, ne_eqb}
+use Rattle.std.specs.Option.{option_map}
+use mathlib.Core.Logic.{dite}
+use native.Mathlib.Decide.{ℕ_discrete}
+use Rattle.rb_model.specs.declared.value.Id.{Id}
+use Rattle.rb_model.specs.Ends.{End as Ending}
+use Rattle.rb_model.specs.Things.{Field, Mutex}
+use Rattle.rb_model.specs.Values.{Value as Val, Nil, False, True, Int, Sym, Str, To}
+use Rattle.rb_shared.specs.Lists.{Has, Each}
+use Rattle.rb_shared.specs.Step.{ended_thing}
+use Rattle.shape_core.specs.declared.edge.Kind.{Kind}
+use Rattle.shape_core.specs.declared.edge.Kind.TheVariants.{IntLoc, AnyLoc}
+use Rattle.shape_core.specs.Path.{Path}
+use Rattle.shape_core.specs.Shape.{Shape, child_of}
+use Rattle.heap_core.specs.Blocks.{Block, ObjectAt, ChunkAt, MutexAt, TextAt, BoxAt, ShapeAt, LockAt, home_of, id_of, InFamily}
+use Rattle.heap_core.specs.Sizes.{Size, Shaped}
+use Rattle.heap_core.specs.Spelling.{Spells, SpellsAt}
+use Rattle.heap_core.specs.View.{Holder, Idle, Locked, busy_at}
+use Rattle.heap_core.specs.Moment.{Moment, At, word, thing_at, size_at, is_over, owner_in}
+use Rattle.heap_core.specs.Locks.{LockStands}
+use Rattle.heap_core.specs.Objects.{ObjectStands, FieldStands, LinksChunk, IsPlace, lock_of, shape_of, chunk_of}
+use Rattle.heap_core.specs.Shapes.{ShapeStands, Leads, LinksChild, LinksSibling}
+use Rattle.heap_core.specs.Mutexes.{MutexStands, owner_of}
+use Rattle.heap_core.specs.Rule.{Stands}
+
+-- each of the one list is in the other
+abbrev pub Among : List Block → List Block → Type 0
+Among bs cs = (b : Block) → Has bs b → Has cs b
+
+-- a thread has ended where it had
+abbrev pub SameOver : Moment → Moment → Type 0
+SameOver m m' = (t : ℕ) → is_over m' t ≡ is_over m t
+
+-- thread t has ended now, and of any other the same holds as before
+abbrev pub EndsNow : Moment → Moment → ℕ → Type 0
+EndsNow m m' t = (is_over m' t ≡ true) × ((u : ℕ) → (u ≡ t → ⊥) → is_over m' u ≡ is_over m u)
+
+-- the thing of an id is as it was, or it is what the end of a thread makes of it
+abbrev pub Follows : Moment → Moment → Id → Type 0
+Follows m m' id =
+    ((thing_at m' id ≡ thing_at m id) × SameOver m m')
+    ⊎ ((t : ℕ) × (how : Ending) × (thing_at m' id ≡ option_map (ended_thing t how) (thing_at m id)) × EndsNow m m' t)
+
+-- what is in progress at a place afterwards was in progress there before, at the same live seat
+abbrev pub Stays : Moment → Moment → ℕ → Type 0
+Stays m m' at = (j : ℕ) (k' : Holder) → At m'.holders j k' → k'.live ≡ true
+    → (busy_at at k'.doing ≡ Idle) ⊎ ((k : Holder) × At m.holders j k × (k.live ≡ true) × (busy_at at k.doing ≡ busy_at at k'.doing))
+
+-- What a step leaves of a block.
+pub record Leaves (m m' : Moment) (b : Block) : Type 0 where
+  pub words : (i : ℕ) → InFamily m.blocks (home_of b) i → word m' i ≡ word m i
+  pub blocks : Among m.blocks m'.blocks
+  pub thing : (id : Id) → id_of b ≡ Some id → Follows m m' id
+  pub size : (id : Id) (x : Size) → id_of b ≡ Some id → size_at m id ≡ Some x → size_at m' id ≡ Some x
+  pub stays : Stays m m' (home_of b)
+
+-- ---- values
+
+pub spells_among : (bs cs : List Block) → Among bs cs → (w : ℕ) (v : Val) → Spells bs w v → Spells cs w v
+spells_among bs cs all w Nil p = p
+spells_among bs cs all w False p = p
+spells_among bs cs all w True p = p
+spells_among bs cs all w (Int n) (inl p) = inl p
+spells_among bs cs all w (Int n) (inr p) = inr (p.0, (p.1.0, all (BoxAt n p.1.0) p.1.1, p.1.2))
+spells_among bs cs all w (Sym name) p = p
+spells_among bs cs all w (Str bytes) p = (p.0, all (TextAt bytes p.0) p.1, p.2)
+spells_among bs cs all w (To r) p = (p.0, all p.0 p.1, p.2, p.3)
+
+pub spells_at_among : (bs cs : List Block) → Among bs cs → (kind : Kind) (w : ℕ) (v : Val) → SpellsAt bs kind w v → SpellsAt cs kind w v
+spells_at_among bs cs all IntLoc w v p = p
+spells_at_among bs cs all AnyLoc w v p = spells_among bs cs all w v p
+
+-- ---- each kind
+
+module _ (m m' : Moment) where
+  -- a lock
+  idle_locked : Idle ≡ Locked → ⊥
+  idle_locked e = cc
+
+  pub lock_frame : (place i : ℕ) → word m' i ≡ word m i → Stays m m' place → LockStands m place i → LockStands m' place i
+  lock_frame place i same stays l = (
+    l.0,
+    λ j k' at live busy. ⊎_elim
+        (λ (idle : busy_at place k'.doing ≡ Idle). absurd (idle_locked (sym idle ∙ busy)))
+        (λ (p : (k : Holder) × At m.holders j k × (k.live ≡ true) × (busy_at place k.doing ≡ busy_at place k'.doing)). let h = l.1 j p.0 p.1 p.2 (p.3 ∙ busy) in (same ∙ h.0, h.1))
+        (stays j k' at live),
+  )
+
+  links_chunk : Among m.blocks m'.blocks → (at number w w' : ℕ) → w' ≡ w → LinksChunk m.blocks at number w → LinksChunk m'.blocks at number w'
+  links_chunk all at number w w' same (inl e) = inl (same ∙ e)
+  links_chunk all at number w w' same (inr h) = inr (subst (λ (x : ℕ). Has m'.blocks (ChunkAt at number x)) (sym same) (all (ChunkAt at number w) h))
+
+  links_child : Among m.blocks m'.blocks → (shape : Shape) (w w' : ℕ) → w' ≡ w → LinksChild m.blocks shape w → LinksChild m'.blocks shape w'
+  links_child all shape w w' same (inl e) = inl (same ∙ e)
+  links_child all shape w w' same (inr p) = inr (p.0, subst (λ (x : ℕ). Has m'.blocks (ShapeAt (child_of shape p.0) x)) (sym same) (all (ShapeAt (child_of shape p.0) w) p.1))
+
+  links_sibling : Among m.blocks m'.blocks → (shape : Shape) (w w' : ℕ) → w' ≡ w → LinksSibling m.blocks shape w → LinksSibling m'.blocks shape w'
+  links_sibling all shape w w' same (inl e) = inl (same ∙ e)
+  links_sibling all shape w w' same (inr p) = inr (p.0, p.1, subst (λ (x : ℕ). Has m'.blocks (ShapeAt p.0 x)) (sym same) (all (ShapeAt p.0 w) p.2))
+
+  -- an object
+  module _ (id : Id) (at : ℕ) (here : Has m.blocks (ObjectAt id at)) (l : Leaves m m' (ObjectAt id at)) where
+    own : (i : ℕ) → at ≤ i → i < at + 14 → word m' i ≡ word m i
+    own i lo hi = l.words i (ObjectAt id at, here, refl, (lo, hi))
+
+    place_on : (number i : ℕ) → IsPlace m.blocks at number i → IsPlace m'.blocks at number i × (word m' i ≡ word m i)
+    place_on number i (inl p) = let lt = p.0 in let is = p.1 in (inl p, own i (omega (arith, is)) (omega (arith, is, lt)))
+    place_on number i (inr p) =
+        let has = p.1.1 in
+        let is = p.1.2 in
+        let low : number % 8 < 8 = omega arith in (
+          inr (p.0, (p.1.0, l.blocks (ChunkAt at (number / 8) p.1.0) has, is)),
+          l.words i (ChunkAt at (number / 8) p.1.0, has, refl, (omega (arith, is), omega (arith, is, low))),
+        )
+
+    fields_on : (path : Path) (fs : List Field) → Each (FieldStands m at path) fs → Each (FieldStands m' at path) fs
+    fields_on path [] s = tt
+    fields_on path (f ∷ fs) (s, more) =
+        let p = place_on s.0.0 s.2 s.5 in (
+          (s.0, s.1, s.2, s.3, s.4, p.0, subst (λ (w : ℕ). SpellsAt m'.blocks s.1 w f.value) (sym p.1) (spells_at_among m.blocks m'.blocks l.blocks s.1 (word m s.2) f.value s.6)),
+          fields_on path fs more,
+        )
+
+    pub object_frame : ObjectStands m id at → ObjectStands m' id at
+    object_frame s = record {
+      class = s.class;
+      fields = s.fields;
+      path = s.path;
+      thing = ⊎_elim
+          (λ (f : (thing_at m' id ≡ thing_at m id) × SameOver m m'). f.0 ∙ s.thing)
+          (λ (f : (t : ℕ) × (how : Ending) × (thing_at m' id ≡ option_map (ended_thing t how) (thing_at m id)) × EndsNow m m' t). f.2 ∙ ap (option_map (ended_thing f.0 f.1)) s.thing)
+          (l.thing id refl);
+      size = l.size id (Shaped (record { class = s.class; path = s.path })) refl s.size;
+      names = s.names;
+      tag = own at (omega arith) (omega arith) ∙ s.tag;
+      made_by = own (at + 1) (omega arith) (omega arith) ∙ s.made_by;
+      serial = own (at + 2) (omega arith) (omega arith) ∙ s.serial;
+      lock = lock_frame at (lock_of at) (own (at + 3) (omega arith) (omega arith)) l.stays s.lock;
+      shape = subst (λ (x : ℕ). Has m'.blocks (ShapeAt (record { class = s.class; path = s.path }) x)) (sym (own (at + 4) (omega arith) (omega arith)))
+          (l.blocks (ShapeAt (record { class = s.class; path = s.path }) (word m (shape_of at))) s.shape);
+      chunk = links_chunk l.blocks at 1 (word m (chunk_of at)) (word m' (chunk_of at)) (own (at + 5) (omega arith) (omega arith)) s.chunk;
+      stands = fields_on s.path s.fields s.stands;
+    }
+
+  -- a shape
+  module _ (shape : Shape) (at : ℕ) (here : Has m.blocks (ShapeAt shape at)) (l : Leaves m m' (ShapeAt shape at)) where
+    shape_word : (i : ℕ) → at ≤ i → i < at + 7 → word m' i ≡ word m i
+    shape_word i lo hi = l.words i (ShapeAt shape at, here, refl, (lo, hi))
+
+    leads_on : (class : ℕ) (path : Path) → Leads m class path at → Leads m' class path at
+    leads_on class [] s = (shape_word (at + 1) (omega arith) (omega arith) ∙ s.0, shape_word (at + 2) (omega arith) (omega arith) ∙ s.1, shape_word (at + 3) (omega arith) (omega arith) ∙ s.2)
+    leads_on class (e ∷ path) s = (
+      subst (λ (x : ℕ). Has m'.blocks (ShapeAt (record { class = class; path = path }) x)) (sym (shape_word (at + 1) (omega arith) (omega arith)))
+          (l.blocks (ShapeAt (record { class = class; path = path }) (word m (at + 1))) s.0),
+      shape_word (at + 2) (omega arith) (omega arith) ∙ s.1,
+      shape_word (at + 3) (omega arith) (omega arith) ∙ s.2,
+    )
+
+    pub shape_frame : ShapeStands m shape at → ShapeStands m' shape at
+    shape_frame s = record {
+      tag = shape_word at (omega arith) (omega arith) ∙ s.tag;
+      leads = leads_on shape.class shape.path s.leads;
+      count = shape_word (at + 4) (omega arith) (omega arith) ∙ s.count;
+      child = links_child l.blocks shape (word m (at + 5)) (word m' (at + 5)) (shape_word (at + 5) (omega arith) (omega arith)) s.child;
+      sibling = links_sibling l.blocks shape (word m (at + 6)) (word m' (at + 6)) (shape_word (at + 6) (omega arith) (omega arith)) s.sibling;
+    }
+
+  -- a mutex
+  same_owner : SameOver m m' → (n : ℕ) → owner_in m' n ≡ owner_in m n
+  same_owner same zero = refl
+  same_owner same (suc t) = ap (λ b. cond b None (Some t)) (same t)
+
+  ended_owner : (t : ℕ) (how : Ending) → EndsNow m m' t → (n : ℕ) → ended_thing t how (Mutex (owner_in m n)) ≡ Mutex (owner_in m' n)
+  ended_owner t how ends zero = refl
+  ended_owner t how ends (suc u) = dite (ℕ_discrete u t) mine other
+    where
+      freed : (b : Bool) → ended_thing t how (Mutex (cond b None (Some u))) ≡ Mutex (cond b None (cond (u == t) None (Some u)))
+      freed true = refl
+      freed false = refl
+
+      mine : u ≡ t → ended_thing t how (Mutex (owner_in m (suc u))) ≡ Mutex (owner_in m' (suc u))
+      mine is = freed (is_over m u) ∙ ap Mutex (ap (λ b. cond (is_over m u) None (cond b None (Some u))) (eq-eqb u t is) ∙ (both (is_over m u) ∙ sym (ap (λ b. cond b None (Some u)) (ap (is_over m') is ∙ ends.0))))
+        where
+          both : (b : Bool) → ◌≡◌ {A = Option ℕ} (cond b None None) None
+          both true = refl
+          both false = refl
+
+      other : (u ≡ t → ⊥) → ended_thing t how (Mutex (owner_in m (suc u))) ≡ Mutex (owner_in m' (suc u))
+      other ne = freed (is_over m u) ∙ ap Mutex (ap (λ b. cond (is_over m u) None (cond b None (Some u))) (ne_eqb u t ne) ∙ sym (ap (λ b. cond b None (Some u)) (ends.1 u ne)))
+
+  module _ (id : Id) (at : ℕ) (here : Has m.blocks (MutexAt id at)) (l : Leaves m m' (MutexAt id at)) where
+    mutex_word : (i : ℕ) → at ≤ i → i < at + 4 → word m' i ≡ word m i
+    mutex_word i lo hi = l.words i (MutexAt id at, here, refl, (lo, hi))
+
+    pub mutex_frame : MutexStands m id at → MutexStands m' id at
+    mutex_frame s =
+        let owner = mutex_word (at + 3) (omega arith) (omega arith) in record {
+          thing = ⊎_elim
+              (λ (f : (thing_at m' id ≡ thing_at m id) × SameOver m m'). f.0 ∙ (s.thing ∙ ap (λ o. Some (Mutex o)) (sym (same_owner f.1 (word m (owner_of at))) ∙ ap (owner_in m') (sym owner))))
+              (λ (f : (t : ℕ) × (how : Ending) × (thing_at m' id ≡ option_map (ended_thing t how) (thing_at m id)) × EndsNow m m' t).
+              f.2 ∙ (ap (option_map (ended_thing f.0 f.1)) s.thing ∙ ap Some (ended_owner f.0 f.1 f.3 (word m (owner_of at)) ∙ ap (λ n. Mutex (owner_in m' n)) (sym owner))))
+              (l.thing id refl);
+          tag = mutex_word at (omega arith) (omega arith) ∙ s.tag;
+          made_by = mutex_word (at + 1) (omega arith) (omega arith) ∙ s.made_by;
+          serial = mutex_word (at + 2) (omega arith) (omega arith) ∙ s.serial;
+        }
+
+  -- ---- all kinds
+
+  pub stands_frame : (b : Block) → Has m.blocks b → Leaves m m' b → Stands m b → Stands m' b
+  stands_frame (ObjectAt id at) here l s = object_frame id at here l s
+  stands_frame (ChunkAt object number at) here l s =
+      links_chunk l.blocks object (suc number) (word m at) (word m' at) (l.words at (ChunkAt object number at, here, refl, (omega arith, omega arith))) s
+  stands_frame (MutexAt id at) here l s = mutex_frame id at here l s
+  stands_frame (TextAt bytes at) here l s = (
+    l.words at (TextAt bytes at, here, refl, (omega arith, omega arith)) ∙ s.0,
+    l.words (at + 1) (TextAt bytes at, here, refl, (omega arith, omega arith)) ∙ s.1,
+    λ k lt. l.words (at + 2 + k) (TextAt bytes at, here, refl, (omega arith, omega (arith, lt))) ∙ s.2 k lt,
+  )
+  stands_frame (BoxAt n at) here l s = (
+    l.words at (BoxAt n at, here, refl, (omega arith, omega arith)) ∙ s.0,
+    l.words (at + 1) (BoxAt n at, here, refl, (omega arith, omega arith)) ∙ s.1,
+  )
+  stands_frame (ShapeAt shape at) here l s = shape_frame shape at here l s
+  stands_frame (LockAt at) here l s = lock_frame at at (l.words at (LockAt at, here, refl, (omega arith, omega arith))) l.stays s

@@ -1,0 +1,16 @@
+pub mod Frames
+pub mod Holders
+pub mod Things
+pub mod Tallies
+pub mod Owes
+pub mod Rooms
+pub mod Seats
+pub mod Steps
+pub mod Reading
+pub mod Opens
+pub mod Takes
+pub mod Passing
+pub mod Fitting
+pub mod Fixing
+pub mod Doings
+pub mod Locking

@@ -1,0 +1,333 @@
+-- The law at the opening.
+use Rattle.std.proofs.Common.{◌≡◌, ◌≢◌, ◌≤◌, ◌⊎◌, ◌==◌, ◌||◌, ◌-◌, ℕ, zero, suc, ◌+◌, ◌*◌, Bool, true, false, List, [], ◌∷◌, length, set, get_or, replicate, Option, Some, None, refl, sym, ap, ◌∙◌, subst, inl, inr, ⊎_elim, arith, length-set, eq-eqb, true≢false, get_or-set_other}
+use Rattle.std.proofs.lemmas.List.{length-replicate, get_or-set_same}
+use mathlib.Core.Option.{some, some-injective, some-ne-none}
+use lib.ListN.{get_elem?}
+use Rattle.atomic_table.specs.Table.{opening}
+use Rattle.rb_model.specs.declared.value.Id.{Id}
+use Rattle.rb_shared.specs.Lists.{Has, Each}
+use Rattle.rb_shared.specs.Store.{globals}
+use Rattle.shape_core.specs.declared.edge.Edge.TheVariants.{Share}
+use Rattle.shape_core.specs.Shape.{Shape, root_of}
+use Rattle.shared_run.specs.Run as runs
+use Rattle.shared_run.proofs.Starting.{first_run, first_is_run, first_knows}
+use Rattle.heap_core.specs.Places.{opening_words, used_word, first_root, first_shared, tree_lock, shape_words}
+use Rattle.heap_core.specs.Blocks.{Block, ObjectAt, ShapeAt, LockAt, place_of, size_of, id_of, HasHome, Inside}
+use Rattle.heap_core.specs.Charges.{globals_shape}
+use Rattle.heap_core.specs.declared.holder.Plan.{Plan}
+use Rattle.heap_core.specs.View.{Region, Holder, Idle, Locked, InOwn, opening_blocks, first_holder, busy_at}
+use Rattle.heap_core.specs.Moment.{Moment, At}
+use Rattle.heap_core.specs.Locks.{LockStands}
+use Rattle.heap_core.specs.Objects.{object_tag, shape_of}
+use Rattle.heap_core.specs.Shapes.{flagged, edge_word, first_child}
+use Rattle.heap_core.specs.Opening.{IsOpening, globals_class, laid_in, first_lines}
+use Rattle.heap_core.specs.Rule.{Stands, Kept, LiesIn, Below, moment}
+
+-- ---- the words
+
+zeros : (n i : ℕ) → ◌≡◌ {A = ℕ} (get_or (replicate n 0) i 0) 0
+zeros zero i = refl
+zeros (suc n) zero = refl
+zeros (suc n) (suc i) = zeros n i
+
+or_left : (a b : Bool) → (a || b) ≡ false → a ≡ false
+or_left true b e = e
+or_left false b e = refl
+
+or_right : (a b : Bool) → (a || b) ≡ false → b ≡ false
+or_right true b e = absurd (true≢false e)
+or_right false b e = e
+
+not_at : (i j : ℕ) → (i == j) ≡ false → i ≢ j
+not_at i j off e = true≢false (sym (eq-eqb i j e) ∙ off)
+
+-- a word that is stored keeps what it is until another is stored there
+module _ (ws : List ℕ) (fit : opening_words ≤ length ws) where
+  abbrev ws_a : List ℕ
+  ws_a = set ws 0 (object_tag globals_class)
+
+  abbrev ws_b : List ℕ
+  ws_b = set ws_a (shape_of 0) first_shared
+
+  abbrev ws_c : List ℕ
+  ws_c = set ws_b used_word opening_words
+
+  abbrev ws_d : List ℕ
+  ws_d = set ws_c first_root (flagged globals_class false)
+
+  abbrev ws_e : List ℕ
+  ws_e = set ws_d (first_child first_root) first_shared
+
+  abbrev ws_f : List ℕ
+  ws_f = set ws_e first_shared (flagged globals_class true)
+
+  abbrev ws_g : List ℕ
+  ws_g = set ws_f 25 first_root
+
+  abbrev ws_h : List ℕ
+  ws_h = set ws_g 26 (edge_word Share)
+
+  la : length ws_a ≡ length ws
+  la = length-set ws 0 (object_tag globals_class)
+
+  lb : length ws_b ≡ length ws
+  lb = length-set ws_a (shape_of 0) first_shared ∙ la
+
+  lc : length ws_c ≡ length ws
+  lc = length-set ws_b used_word opening_words ∙ lb
+
+  ld : length ws_d ≡ length ws
+  ld = length-set ws_c first_root (flagged globals_class false) ∙ lc
+
+  le : length ws_e ≡ length ws
+  le = length-set ws_d (first_child first_root) first_shared ∙ ld
+
+  lf : length ws_f ≡ length ws
+  lf = length-set ws_e first_shared (flagged globals_class true) ∙ le
+
+  lg : length ws_g ≡ length ws
+  lg = length-set ws_f 25 first_root ∙ lf
+
+  pub laid_length : length (laid_in ws) ≡ length ws
+  laid_length = length-set ws_g 26 (edge_word Share) ∙ lg
+
+  past_h : (i : ℕ) → i ≢ 26 → get_or ws_h i 0 ≡ get_or ws_g i 0
+  past_h i ne = get_or-set_other ws_g 26 i (edge_word Share) 0 ne
+
+  past_g : (i : ℕ) → i ≢ 25 → i ≢ 26 → get_or ws_h i 0 ≡ get_or ws_f i 0
+  past_g i ng nh = past_h i nh ∙ get_or-set_other ws_f 25 i first_root 0 ng
+
+  past_f : (i : ℕ) → i ≢ 24 → i ≢ 25 → i ≢ 26 → get_or ws_h i 0 ≡ get_or ws_e i 0
+  past_f i nf ng nh = past_g i ng nh ∙ get_or-set_other ws_e first_shared i (flagged globals_class true) 0 nf
+
+  past_e : (i : ℕ) → i ≢ 22 → i ≢ 24 → i ≢ 25 → i ≢ 26 → get_or ws_h i 0 ≡ get_or ws_d i 0
+  past_e i ne nf ng nh = past_f i nf ng nh ∙ get_or-set_other ws_d (first_child first_root) i first_shared 0 ne
+
+  past_d : (i : ℕ) → i ≢ 17 → i ≢ 22 → i ≢ 24 → i ≢ 25 → i ≢ 26 → get_or ws_h i 0 ≡ get_or ws_c i 0
+  past_d i nd ne nf ng nh = past_e i ne nf ng nh ∙ get_or-set_other ws_c first_root i (flagged globals_class false) 0 nd
+
+  past_c : (i : ℕ) → i ≢ 14 → i ≢ 17 → i ≢ 22 → i ≢ 24 → i ≢ 25 → i ≢ 26 → get_or ws_h i 0 ≡ get_or ws_b i 0
+  past_c i nc nd ne nf ng nh = past_d i nd ne nf ng nh ∙ get_or-set_other ws_b used_word i opening_words 0 nc
+
+  past_b : (i : ℕ) → i ≢ 4 → i ≢ 14 → i ≢ 17 → i ≢ 22 → i ≢ 24 → i ≢ 25 → i ≢ 26 → get_or ws_h i 0 ≡ get_or ws_a i 0
+  past_b i nb nc nd ne nf ng nh = past_c i nc nd ne nf ng nh ∙ get_or-set_other ws_a (shape_of 0) i first_shared 0 nb
+
+  pub is_opening : ((i : ℕ) → get_or ws i 0 ≡ 0) → IsOpening (λ i. get_or (laid_in ws) i 0)
+  is_opening empty = record {
+    globals = past_b 0 (λ q. omega (arith, q)) (λ q. omega (arith, q)) (λ q. omega (arith, q)) (λ q. omega (arith, q)) (λ q. omega (arith, q)) (λ q. omega (arith, q)) (λ q. omega (arith, q)) ∙ get_or-set_same ws 0 (object_tag globals_class) 0 (omega (arith, fit));
+    shape = past_c 4 (λ q. omega (arith, q)) (λ q. omega (arith, q)) (λ q. omega (arith, q)) (λ q. omega (arith, q)) (λ q. omega (arith, q)) (λ q. omega (arith, q)) ∙ get_or-set_same ws_a (shape_of 0) first_shared 0 (omega (arith, fit, la));
+    used = past_d 14 (λ q. omega (arith, q)) (λ q. omega (arith, q)) (λ q. omega (arith, q)) (λ q. omega (arith, q)) (λ q. omega (arith, q)) ∙ get_or-set_same ws_b used_word opening_words 0 (omega (arith, fit, lb));
+    root = past_e 17 (λ q. omega (arith, q)) (λ q. omega (arith, q)) (λ q. omega (arith, q)) (λ q. omega (arith, q)) ∙ get_or-set_same ws_c first_root (flagged globals_class false) 0 (omega (arith, fit, lc));
+    child = past_f 22 (λ q. omega (arith, q)) (λ q. omega (arith, q)) (λ q. omega (arith, q)) ∙ get_or-set_same ws_d (first_child first_root) first_shared 0 (omega (arith, fit, ld));
+    shared = past_g 24 (λ q. omega (arith, q)) (λ q. omega (arith, q)) ∙ get_or-set_same ws_e first_shared (flagged globals_class true) 0 (omega (arith, fit, le));
+    parent = past_h 25 (λ q. omega (arith, q)) ∙ get_or-set_same ws_f 25 first_root 0 (omega (arith, fit, lf));
+    edge = get_or-set_same ws_g 26 (edge_word Share) 0 (omega (arith, fit, lg));
+    rest = λ i off.
+        let o1 = or_right (i == 0) (i == 4 || (i == 14 || (i == 17 || (i == 22 || (i == 24 || (i == 25 || i == 26)))))) off in
+        let o2 = or_right (i == 4) (i == 14 || (i == 17 || (i == 22 || (i == 24 || (i == 25 || i == 26))))) o1 in
+        let o3 = or_right (i == 14) (i == 17 || (i == 22 || (i == 24 || (i == 25 || i == 26)))) o2 in
+        let o4 = or_right (i == 17) (i == 22 || (i == 24 || (i == 25 || i == 26))) o3 in
+        let o5 = or_right (i == 22) (i == 24 || (i == 25 || i == 26)) o4 in
+        let o6 = or_right (i == 24) (i == 25 || i == 26) o5 in
+        past_b i (not_at i 4 (or_left (i == 4) (i == 14 || (i == 17 || (i == 22 || (i == 24 || (i == 25 || i == 26))))) o1))
+        (not_at i 14 (or_left (i == 14) (i == 17 || (i == 22 || (i == 24 || (i == 25 || i == 26)))) o2))
+        (not_at i 17 (or_left (i == 17) (i == 22 || (i == 24 || (i == 25 || i == 26))) o3))
+        (not_at i 22 (or_left (i == 22) (i == 24 || (i == 25 || i == 26)) o4))
+        (not_at i 24 (or_left (i == 24) (i == 25 || i == 26) o5))
+        (not_at i 25 (or_left (i == 25) (i == 26) o6))
+        (not_at i 26 (or_right (i == 25) (i == 26) o6))
+        ∙ (get_or-set_other ws 0 i (object_tag globals_class) 0 (not_at i 0 (or_left (i == 0) (i == 4 || (i == 14 || (i == 17 || (i == 22 || (i == 24 || (i == 25 || i == 26)))))) off)) ∙ empty i);
+  }
+
+pub opened_words : (n : ℕ) → opening_words ≤ n → (length (laid_in (replicate n 0)) ≡ n) × IsOpening (λ i. get_or (laid_in (replicate n 0)) i 0)
+opened_words n fit =
+    let z : ℕ = 0 in
+    let long : length (replicate n z) ≡ n = length-replicate n z in
+    (laid_length (replicate n z) (omega (arith, long, fit)) ∙ long, is_opening (replicate n z) (omega (arith, long, fit)) (zeros n))
+
+-- ---- the blocks
+
+pub first_each : (P : Block → Type 0) → P (ObjectAt globals 0) → P (LockAt tree_lock) → P (ShapeAt (root_of globals_class) first_root) → P (ShapeAt globals_shape first_shared) → (b : Block) → Has opening_blocks b → P b
+first_each P object lock root shared b (inl e) = subst P (sym e) object
+first_each P object lock root shared b (inr (inl e)) = subst P (sym e) lock
+first_each P object lock root shared b (inr (inr (inl e))) = subst P (sym e) root
+first_each P object lock root shared b (inr (inr (inr (inl e)))) = subst P (sym e) shared
+first_each P object lock root shared b (inr (inr (inr (inr h)))) = absurd h
+
+-- blocks that follow one another share no word
+abbrev Ordered : List Block → Type 0
+Ordered [] = Unit {0}
+Ordered (b ∷ bs) = Each (λ c. place_of b + size_of b ≤ place_of c) bs × Ordered bs
+
+ordered_apart : (bs : List Block) → Ordered bs → (i : ℕ) (b c : Block) → Has bs b → Has bs c → Inside i b → Inside i c → b ≡ c
+ordered_apart [] o i b c h g ib ic = absurd h
+ordered_apart (x ∷ xs) o i b c (inl p) (inl q) ib ic = p ∙ sym q
+ordered_apart (x ∷ xs) o i b c (inl p) (inr q) ib ic =
+    let behind = Rattle.rb_shared.proofs.Runs.each_has (λ c. place_of x + size_of x ≤ place_of c) xs c o.0 q in
+    let hi = ib.1 in let lo = ic.0 in let pp = ap place_of p in let ps = ap size_of p in absurd (omega (arith, behind, hi, lo, pp, ps))
+ordered_apart (x ∷ xs) o i b c (inr p) (inl q) ib ic =
+    let behind = Rattle.rb_shared.proofs.Runs.each_has (λ c. place_of x + size_of x ≤ place_of c) xs b o.0 p in
+    let hi = ic.1 in let lo = ib.0 in let pp = ap place_of q in let ps = ap size_of q in absurd (omega (arith, behind, hi, lo, pp, ps))
+ordered_apart (x ∷ xs) o i b c (inr p) (inr q) ib ic = ordered_apart xs o.1 i b c p q ib ic
+
+first_ordered : Ordered opening_blocks
+first_ordered = ((omega arith, (omega arith, (omega arith, tt))), ((omega arith, (omega arith, tt)), ((omega arith, tt), (tt, tt))))
+
+-- one of them is a thing
+only_object : (b : Block) → Has opening_blocks b → (id : Id) → id_of b ≡ Some id → b ≡ ObjectAt globals 0
+only_object b h id is = first_each (λ b. id_of b ≡ Some id → b ≡ ObjectAt globals 0) (λ _. refl) (λ e. absurd (gone e)) (λ e. absurd (gone e)) (λ e. absurd (gone e)) b h is
+  where
+    gone : ◌≡◌ {A = Option Id} None (Some id) → ⊥
+    gone e = cc
+
+abbrev shape_in : Block → Shape
+shape_in (ShapeAt shape at) = shape
+shape_in b = root_of 0
+
+-- a shape is in one place alone
+first_shapes : (shape : Shape) (at : ℕ) → Has opening_blocks (ShapeAt shape at) → ((shape ≡ root_of globals_class) × (at ≡ first_root)) ⊎ ((shape ≡ globals_shape) × (at ≡ first_shared))
+first_shapes shape at (inl e) = absurd (cc)
+first_shapes shape at (inr (inl e)) = absurd (cc)
+first_shapes shape at (inr (inr (inl e))) = inl (ap shape_in e, ap place_of e)
+first_shapes shape at (inr (inr (inr (inl e)))) = inr (ap shape_in e, ap place_of e)
+first_shapes shape at (inr (inr (inr (inr h)))) = absurd h
+
+two_shapes : (shape : Shape) → shape ≡ root_of globals_class → shape ≡ globals_shape → ⊥
+two_shapes shape p q = let h : [] ≡ Share ∷ [] = ap (λ (x : Shape). x.path) (sym p ∙ q) in cc
+
+abbrev lines_none : ℕ → List (Option ℕ)
+lines_none n = replicate n None
+
+none_at : (n i t : ℕ) → get_elem? (lines_none n) i ≡ some (Some t) → ⊥
+none_at zero i t e = some-ne-none (Some t) (sym e)
+none_at (suc n) zero t e = let h : None ≡ Some t = some-injective None (Some t) e in cc
+none_at (suc n) (suc i) t e = none_at n i t e
+
+first_line : (slots i t : ℕ) → get_elem? (first_lines slots) i ≡ some (Some t) → i ≡ 0
+first_line slots zero t e = refl
+first_line slots (suc i) t e = absurd (none_at (slots - 1) i t e)
+
+main_line : (slots i t : ℕ) → get_elem? (first_lines slots) i ≡ some (Some t) → t ≡ 0
+main_line slots zero t e = sym (number 0 t (some-injective (Some 0) (Some t) e))
+  where
+    number : (n m : ℕ) → Some n ≡ Some m → n ≡ m
+    number n m h = cc
+main_line slots (suc i) t e = absurd (none_at (slots - 1) i t e)
+
+-- ---- the law
+
+module _ {S : Type 0} where
+  pub starts : (ws : List ℕ) (hs : List S) (p : Plan) → 1 ≤ p.slots → opening_words ≤ p.words → length ws ≡ p.words → IsOpening (λ i. get_or ws i 0) → Kept p.slots (opening ws hs (first_holder p))
+  starts ws hs p some_slots some_words size o = record {
+    run = first_run;
+    blocks = opening_blocks;
+    lines = first_lines p.slots;
+    is_run = first_is_run p.slots;
+    knows = λ j k a _. subst (λ (u : Holder). runs.Knows p.slots first_run u.view) (only j k a).1 (first_knows p.slots);
+    apart = λ i j n k l a b _ _. (only i k a).0 ∙ sym (only j l b).0;
+    seated = record {
+      long = let z : ℕ = p.slots - 1 in let long : length (lines_none z) ≡ z = length-replicate z None in omega (arith, long, some_slots);
+      main = refl;
+      taken = λ i t a. inl (main_line p.slots i t a);
+      once = λ i j t a b. first_line p.slots i t a ∙ sym (first_line p.slots j t b);
+      mine = λ j k a _. subst (λ (u : Holder). get_elem? (first_lines p.slots) u.line ≡ some (Some u.view.thread)) (only j k a).1 refl;
+      due = λ j n k a _ e. absurd (let h : None ≡ Some n = ap (λ (u : Holder). u.view.unsplit) (only j k a).1 ∙ e in cc);
+    };
+    laid = record {
+      apart = ordered_apart opening_blocks first_ordered;
+      beside = λ i j k b a _ own _. nobody i j k a own;
+      alone = λ i j l k u a b own _. absurd (nobody i j k a own);
+      blocks_in = λ b h. first_each (λ b. (place_of b + size_of b ≤ get_or ws used_word 0) × (Inside used_word b → ⊥))
+          (omega (arith, used), λ i. let hi = i.1 in omega (arith, hi)) (omega (arith, used), λ i. let lo = i.0 in omega (arith, lo))
+          (omega (arith, used), λ i. let lo = i.0 in omega (arith, lo)) (omega (arith, used), λ i. let lo = i.0 in omega (arith, lo)) b h;
+      single = λ i j k o p a h. absurd (empty j k o a h);
+      own_in = λ j k o a h. absurd (empty j k o a h);
+      opening_in = omega (arith, used);
+      used_in = omega (arith, used, some_words, size);
+      size = λ j k a _. subst (λ (u : Holder). u.size ≡ length ws) (only j k a).1 (sym size);
+    };
+    each = first_stands;
+    one = λ id b c hb hc ib ic. only_object b hb id ib ∙ sym (only_object c hc id ic);
+    one_shape = λ shape at to ha ht. ⊎_elim
+        (λ (x : (shape ≡ root_of globals_class) × (at ≡ first_root)). ⊎_elim
+        (λ (y : (shape ≡ root_of globals_class) × (to ≡ first_root)). x.1 ∙ sym y.1)
+        (λ (y : (shape ≡ globals_shape) × (to ≡ first_shared)). absurd (two_shapes shape x.0 y.0))
+        (first_shapes shape to ht))
+        (λ (x : (shape ≡ globals_shape) × (at ≡ first_shared)). ⊎_elim
+        (λ (y : (shape ≡ root_of globals_class) × (to ≡ first_root)). absurd (two_shapes shape y.0 x.0))
+        (λ (y : (shape ≡ globals_shape) × (to ≡ first_shared)). x.1 ∙ sym y.1)
+        (first_shapes shape to ht))
+        (first_shapes shape at ha);
+    homes = first_each (HasHome opening_blocks) tt tt tt tt;
+    known = λ j k b a kn. subst (λ (u : Holder). Has u.blocks b) (sym (only j k a).1) kn;
+    lie = λ j k a _. subst (λ (u : Holder). Each (LiesIn u.blocks) u.view.known) (only j k a).1 ((ObjectAt globals 0, inl refl, refl, refl), tt);
+    own = λ i j k o a h. absurd (empty j k o a h);
+    used = let z : get_or ws used_word 0 + shape_words * 2 ≡ opening_words + 0 + 14 + 0 = omega (arith, used) in z;
+    made = λ shape at h. ⊎_elim
+        (λ (x : (shape ≡ root_of globals_class) × (at ≡ first_root)). inl (inl x.0))
+        (λ (x : (shape ≡ globals_shape) × (at ≡ first_shared)). inl (inr (inl x.0)))
+        (first_shapes shape at h);
+    late = λ j k a _. subst (λ (u : Holder). Each (runs.MayStill p.slots first_run u.view.thread) u.late) (only j k a).1 tt;
+    refused = none_refused;
+    spent = λ j k a e. absurd (true≢false (ap (λ (u : Holder). u.live) (only j k a).1 ∙ e));
+  }
+    where
+      w : ℕ → ℕ
+      w i = get_or ws i 0
+
+      m : Moment
+      m = moment p.slots (opening ws hs (first_holder p)) first_run opening_blocks
+
+      used : get_or ws used_word 0 ≡ opening_words
+      used = o.used
+
+      only : (j : ℕ) (k : Holder) → At (first_holder p ∷ []) j k → (j ≡ 0) × (first_holder p ≡ k)
+      only zero k e = (refl, some-injective (first_holder p) k e)
+      only (suc j) k e = absurd (some-ne-none k (sym e))
+
+      empty : (j : ℕ) (k : Holder) (o : Region) → At (first_holder p ∷ []) j k → Has k.own o → ⊥
+      empty j k o a h = subst (λ (u : Holder). Has u.own o) (sym (only j k a).1) h
+
+      nobody : (i j : ℕ) (k : Holder) → At (first_holder p ∷ []) j k → InOwn i k → ⊥
+      nobody i j k a own = empty j k own.0 a own.1
+
+      none_refused : (t : ℕ) → Each (Below (get_or ws used_word 0) (length ws)) (runs.refused_at ([] ∷ []) t)
+      none_refused zero = tt
+      none_refused (suc t) = tt
+
+      no_lock : (place i : ℕ) → LockStands (moment p.slots (opening ws hs (first_holder p)) first_run opening_blocks) place i
+      no_lock place i = (0, λ j k a _ busy. absurd (let h : Idle ≡ Locked = ap (λ (u : Holder). busy_at place u.doing) (only j k a).1 ∙ busy in cc))
+
+      first_stands : (b : Block) → Has opening_blocks b → Stands (moment p.slots (opening ws hs (first_holder p)) first_run opening_blocks) b
+      first_stands b h = first_each (Stands (moment p.slots (opening ws hs (first_holder p)) first_run opening_blocks))
+          record {
+            class = globals_class;
+            fields = [];
+            path = Share ∷ [];
+            thing = refl;
+            size = refl;
+            names = refl;
+            tag = o.globals;
+            made_by = o.rest 1 refl;
+            serial = o.rest 2 refl;
+            lock = no_lock 0 3;
+            shape = subst (λ x. Has opening_blocks (ShapeAt globals_shape x)) (sym o.shape) (inr (inr (inr (inl refl))));
+            chunk = inl (o.rest 5 refl);
+            stands = tt;
+          }
+          (no_lock tree_lock tree_lock)
+          record {
+            tag = o.root;
+            leads = (o.rest 18 refl, o.rest 19 refl, o.rest 20 refl);
+            count = o.rest 21 refl;
+            child = inr (Share, subst (λ x. Has opening_blocks (ShapeAt globals_shape x)) (sym o.child) (inr (inr (inr (inl refl)))));
+            sibling = inl (o.rest 23 refl);
+          }
+          record {
+            tag = o.shared;
+            leads = (subst (λ x. Has opening_blocks (ShapeAt (root_of globals_class) x)) (sym o.parent) (inr (inr (inl refl))), o.edge, o.rest 27 refl);
+            count = o.rest 28 refl;
+            child = inl (o.rest 29 refl);
+            sibling = inl (o.rest 30 refl);
+          }
+          b h

@@ -1,0 +1,99 @@
+-- One seat takes a step: what of the law speaks of seats stays.
+use Rattle.std.proofs.Common.{◌≡◌, ℕ, true, List, length, set, Option, Some, None, refl, sym, ap, ◌∙◌, subst, inl, inr, ⊎_elim, arith}
+use mathlib.Core.Option.{some}
+use lib.ListN.{get_elem?}
+use Rattle.atomic_table.specs.Table.{State}
+use Rattle.rb_model.specs.declared.value.Id.{Id}
+use Rattle.rb_model.specs.declared.value.Ref.{Ref}
+use Rattle.rb_model.specs.Things.{Thing, Object, Mutex}
+use Rattle.rb_shared.specs.Lists.{Has, Each}
+use Rattle.rb_shared.specs.Store.{found}
+use Rattle.rb_shared.specs.View.{View}
+use Rattle.rb_shared.proofs.Runs.{each_more}
+use Rattle.shared_run.specs.Run.{IsNote}
+use Rattle.heap_core.specs.Blocks.{Block, ObjectAt, ChunkAt, MutexAt, TextAt, BoxAt, ShapeAt, LockAt, id_of, Inside}
+use Rattle.heap_core.specs.View.{Holder, Knows}
+use Rattle.heap_core.specs.Moment.{At, owner_in, word}
+use Rattle.heap_core.specs.Mutexes.{owner_of}
+use Rattle.heap_core.specs.Rule.{Stands, Claims, Seated, LiesIn, Kept, moment}
+use Rattle.heap_core.proofs.Holders.{each_set}
+
+-- ---- notes
+
+pub note_thread : (v w : View) → IsNote v w → w.thread ≡ v.thread
+note_thread v w i = ap (λ (x : View). x.thread) i.2
+
+pub note_known : (v w : View) → IsNote v w → w.known ≡ v.known
+note_known v w i = ap (λ (x : View). x.known) i.2
+
+-- what a note says is still unsplit was so before
+pub note_unsplit : (v w : View) (n : ℕ) → IsNote v w → w.unsplit ≡ Some n → v.unsplit ≡ Some n
+note_unsplit v w n i e =
+    let u : w.unsplit ≡ i.0 = ap (λ (x : View). x.unsplit) i.2 in ⊎_elim
+    (λ (same : i.0 ≡ v.unsplit). sym same ∙ (sym u ∙ e))
+    (λ (none_left : i.0 ≡ None). absurd (let h : None ≡ Some n = sym none_left ∙ (sym u ∙ e) in cc))
+    i.1
+
+pub note_same : (v w : View) → w ≡ v → IsNote v w
+note_same v w is = (v.unsplit, inl refl, subst (λ (x : View). x ≡ record v { polled = x.polled; asked = x.asked; unsplit = v.unsplit }) (sym is) refl)
+
+-- a note claims no more
+pub note_claims : (k w : Holder) (n : ℕ) → w.live ≡ k.live → IsNote k.view w.view → Claims w n → Claims k n
+note_claims k w n live i c = (
+  sym live ∙ c.0,
+  ⊎_elim
+      (λ (e : w.view.thread ≡ n). inl (sym (note_thread k.view w.view i) ∙ e))
+      (λ (e : w.view.unsplit ≡ Some n). inr (note_unsplit k.view w.view n i e))
+      c.1,
+)
+
+pub seated_note : (slots : ℕ) (z : Rattle.rb_shared.specs.Store.Store) (lines : List (Option ℕ)) (views : List Holder) (id : ℕ) (k w : Holder) → Seated slots z lines views → At views id k → w.live ≡ k.live → w.line ≡ k.line → w.due ≡ k.due → IsNote k.view w.view
+    → Seated slots z lines (set views id w)
+seated_note slots z lines views id k w s at live line due note = record {
+  long = s.long;
+  main = s.main;
+  taken = s.taken;
+  once = s.once;
+  mine = each_set (λ j u. u.live ≡ true → get_elem? lines u.line ≡ some (Some u.view.thread)) views id w
+      (λ l. ap (get_elem? lines) line ∙ (s.mine id k at (sym live ∙ l) ∙ ap (λ t. some (Some t)) (sym (note_thread k.view w.view note)))) (λ j u _ a. s.mine j u a);
+  due = λ j n u a. each_set (λ j u. u.live ≡ true → u.view.unsplit ≡ Some n → get_elem? lines u.due ≡ some (Some n)) views id w
+      (λ l e. ap (get_elem? lines) due ∙ s.due id n k at (sym live ∙ l) (note_unsplit k.view w.view n note e)) (λ j u _ a. s.due j n u a) j u a;
+}
+
+-- references lie where they lay, in more blocks
+pub lies_more : (bs cs : List Block) → ((b : Block) → Has bs b → Has cs b) → (rs : List Ref) → Each (LiesIn bs) rs → Each (LiesIn cs) rs
+lies_more bs cs more rs l = each_more (LiesIn bs) (LiesIn cs) (λ r p. (p.0, more p.0 p.1, p.2, p.3)) rs l
+
+-- ---- the things that blocks stand for
+
+module _ {S : Type 0} (slots : ℕ) (s : State S Holder) (r : Kept slots s) where
+  some_is : (id id' : Id) → Some id ≡ Some id' → id ≡ id'
+  some_is id id' e = cc
+
+  none_is : (id : Id) → None ≡ Some id → ⊥
+  none_is id e = cc
+
+  -- a block stands for a thing that is there
+  pub there : (b : Block) (id : Id) → Has r.blocks b → id_of b ≡ Some id → (thing : Thing) × (found r.run.store id ≡ Some thing)
+  there b id here is = by_kind b is (r.each b here)
+    where
+      by_kind : (b : Block) → id_of b ≡ Some id → Stands (moment slots s r.run r.blocks) b → (thing : Thing) × (found r.run.store id ≡ Some thing)
+      by_kind (ObjectAt x at) is k = (Object k.class k.fields, ap (found r.run.store) (sym (some_is x id is)) ∙ k.thing)
+      by_kind (MutexAt x at) is k = (Mutex (owner_in (moment slots s r.run r.blocks) (word (moment slots s r.run r.blocks) (owner_of at))), ap (found r.run.store) (sym (some_is x id is)) ∙ k.thing)
+      by_kind (ChunkAt object number at) is k = absurd (none_is id is)
+      by_kind (TextAt bytes at) is k = absurd (none_is id is)
+      by_kind (BoxAt n at) is k = absurd (none_is id is)
+      by_kind (ShapeAt shape at) is k = absurd (none_is id is)
+      by_kind (LockAt at) is k = absurd (none_is id is)
+
+  -- no seat claims a number that no thread has
+  pub nobody_claims : (n : ℕ) → n ≡ length r.run.refusals → (j : ℕ) (u : Holder) → At s.views j u → Claims u n → ⊥
+  nobody_claims n last j u a c =
+      let k = r.knows j u a c.0 in ⊎_elim
+      (λ (is : u.view.thread ≡ n). let lt = k.within in omega (arith, lt, is, last))
+      (λ (is : u.view.unsplit ≡ Some n). let d = k.due n is in let lt = d.0 in omega (arith, lt, last))
+      c.1
+
+  -- of the blocks that a view knows, a word is in one alone
+  pub only_block : (id i : ℕ) (k : Holder) (b c : Block) → At s.views id k → Knows k b → Knows k c → Inside i b → Inside i c → b ≡ c
+  only_block id i k b c at kb kc ib ic = r.laid.apart i b c (r.known id k b at kb) (r.known id k c at kc) ib ic

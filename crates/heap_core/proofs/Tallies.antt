@@ -1,0 +1,80 @@
+-- What is counted stays where a read is put in.
+use Rattle.std.proofs.Common.{◌≡◌, ◌||◌, ℕ, ◌+◌, Bool, true, false, cond, List, [], ◌∷◌, ◌++◌, refl, sym, ap, ◌∙◌, subst, arith, append-nil}
+use Rattle.rb_model.specs.Acts.{Reply}
+use Rattle.rb_model.specs.Log.{Call, Entry}
+use Rattle.rb_shared.specs.History.{Event, Leads}
+use Rattle.rb_shared.specs.Step.{store_behind}
+use Rattle.rb_shared.specs.Store.{Store, opening}
+use Rattle.shared_run.specs.Run.{Run, MayRead, event_of}
+use Rattle.std.specs.List.{list_any}
+use Rattle.rb_shared.specs.Lists.{Has}
+use Rattle.rb_shared.proofs.Runs.{has_front}
+use Rattle.shape_core.specs.Shape.{Shape, same_shape, with_shape}
+use Rattle.heap_core.specs.Charges.{with_shapes, shapes_of, shapes_moved, receiver_size, sizes_behind, Tally, is_fault, takes_nothing, tally_moved, tally_call, tally_entry, tally_on, opening_tally, tally_of}
+
+pub tally_append : (slots : ℕ) (t : Tally) (xs ys : List Event) → tally_on slots t (xs ++ ys) ≡ tally_on slots (tally_on slots t xs) ys
+tally_append slots t [] ys = refl
+tally_append slots t (x ∷ xs) ys = tally_append slots (tally_entry slots t x) xs ys
+
+-- the store that is counted on is the one that the plain steps lead to
+tally_store : (slots : ℕ) (t : Tally) (z z' : Store) (es : List Event) → t.store ≡ z → Leads slots z es z' → (tally_on slots t es).store ≡ z'
+tally_store slots t z z' [] same l = same ∙ sym l
+tally_store slots t z z' (e ∷ es) same (y, s, l) =
+    tally_store slots (tally_entry slots t e) y z' es (ap (λ x. store_behind slots (x ++ e.entry.moved) e.thread e.entry.call) same ∙ sym s.store_is) l
+
+moved_none : (t : Tally) → tally_moved t [] ≡ t
+moved_none t i = record {
+  words = (let z : t.words + 0 ≡ t.words = omega arith in z) i;
+  shapes = t.shapes;
+  sizes = append-nil t.sizes i;
+  store = append-nil t.store i;
+}
+
+-- where a call takes nothing and leaves the store, it leaves the counts
+call_none : (slots : ℕ) (made : List Rattle.shape_core.specs.Shape.Shape) (t : Tally) (thread : ℕ) (c : Call) (r : Reply) → takes_nothing c r ≡ true → store_behind slots t.store thread c ≡ t.store → tally_call slots made t thread c r ≡ t
+call_none slots made t thread c r takes same i = record {
+  words = (ap (λ b. t.words + cond b 0 (Rattle.heap_core.specs.Charges.call_charge made t c)) takes ∙ (let z : t.words + 0 ≡ t.words = omega arith in z)) i;
+  shapes = ap (λ b. cond b t.shapes (Rattle.heap_core.specs.Charges.with_shapes t.shapes (Rattle.heap_core.specs.Charges.shapes_of (Rattle.heap_core.specs.Charges.receiver_size c (Rattle.heap_core.specs.Charges.sizes_behind t c))))) takes i;
+  sizes = ap (λ b. cond b t.sizes (Rattle.heap_core.specs.Charges.sizes_behind t c)) takes i;
+  store = same i;
+}
+
+or_true : (b : Bool) → (b || true) ≡ true
+or_true true = refl
+or_true false = refl
+
+pub tally_read : (slots : ℕ) (run : Run) (t : ℕ) (e : Entry) (front behind : List Event) → MayRead slots run t e front behind → tally_of slots (front ++ event_of t e ∷ behind) ≡ tally_of slots run.events
+tally_read slots run t e front behind may =
+    let old = tally_of slots front in
+    let here : old.store ≡ may.store = tally_store slots opening_tally opening may.store front refl may.leads in
+    let moved : tally_moved old e.moved ≡ old = ap (tally_moved old) may.bare ∙ moved_none old in
+    let bare : may.store ++ e.moved ≡ may.store = ap (λ ms. may.store ++ ms) may.bare ∙ append-nil may.store in
+    let stays : store_behind slots old.store t e.call ≡ old.store = ap (λ z. store_behind slots z t e.call) (here ∙ sym bare) ∙ (sym may.steps.store_is ∙ sym here) in
+    let nothing : takes_nothing e.call e.reply ≡ true = ap (λ b. is_fault e.reply || b) may.reads ∙ or_true (is_fault e.reply) in
+    let same : tally_entry slots old (event_of t e) ≡ old = ap (λ x. tally_call slots old.shapes x t e.call e.reply) moved ∙ call_none slots old.shapes old t e.call e.reply nothing stays in
+    tally_append slots opening_tally front (event_of t e ∷ behind)
+    ∙ (ap (λ x. tally_on slots x behind) same ∙ (sym (tally_append slots opening_tally front behind) ∙ ap (tally_of slots) (sym may.split)))
+
+-- ---- shapes that are made stay made
+
+with_one : (made : List Shape) (x y : Shape) → Has made x → Has (with_shape made y) x
+with_one made x y h = by_test (list_any (same_shape y) made)
+  where
+    by_test : (b : Bool) → Has (cond b made (made ++ y ∷ [])) x
+    by_test true = h
+    by_test false = has_front made (y ∷ []) x h
+
+with_all : (made ys : List Shape) (x : Shape) → Has made x → Has (with_shapes made ys) x
+with_all made [] x h = h
+with_all made (y ∷ ys) x h = with_all (with_shape made y) ys x (with_one made x y h)
+
+pub made_after : (slots : ℕ) (events : List Event) (t : ℕ) (e : Entry) (x : Shape) → Has (tally_of slots events).shapes x → Has (tally_of slots (events ++ event_of t e ∷ [])).shapes x
+made_after slots events t e x h =
+    let old = tally_of slots events in
+    let moved = with_all old.shapes (shapes_moved e.moved) x h in
+    subst (λ (y : Tally). Has y.shapes x) (sym (tally_append slots opening_tally events (event_of t e ∷ []))) (by_test (takes_nothing e.call e.reply) moved)
+  where
+    by_test : (b : Bool) → Has (tally_moved (tally_of slots events) e.moved).shapes x
+        → Has (cond b (tally_moved (tally_of slots events) e.moved).shapes (with_shapes (tally_moved (tally_of slots events) e.moved).shapes (shapes_of (receiver_size e.call (sizes_behind (tally_moved (tally_of slots events) e.moved) e.call))))) x
+    by_test true m = m
+    by_test false m = with_all (tally_moved (tally_of slots events) e.moved).shapes (shapes_of (receiver_size e.call (sizes_behind (tally_moved (tally_of slots events) e.moved) e.call))) x m

@@ -1,0 +1,136 @@
+-- What an entry leaves of the things and sizes that it does not touch.
+use Rattle.std.proofs.Common.{◌≡◌, ◌⊎◌, ◌||◌, ℕ, Bool, true, false, cond, List, [], ◌∷◌, ◌++◌, map, Option, Some, None, refl, sym, ap, ◌∙◌, inl, inr, true≢false}
+use Rattle.std.specs.Option.{option_map}
+use mathlib.Core.Logic.{dite}
+use native.Mathlib.Decide.{ℕ_discrete}
+use Rattle.rb_model.specs.declared.value.Id.{Id}
+use Rattle.rb_model.specs.Acts.{Act, Join}
+use Rattle.rb_model.specs.Ends.{End as Ending}
+use Rattle.rb_model.specs.Log.{Call, On, Start, Gather, Print, End, Entry, has_end, is_end}
+use Rattle.rb_model.specs.Things.{Thing}
+use Rattle.rb_model.specs.Values.{same_id}
+use Rattle.rb_shared.specs.History.{Event, by}
+use Rattle.rb_shared.specs.Step.{store_behind, with_act, ended_item, ended_thing, new_thread}
+use Rattle.rb_shared.specs.Store.{Store, found, with_thing, is_full}
+use Rattle.rb_shared.proofs.Runs.{found_more}
+use Rattle.shared_run.specs.Run.{event_of}
+use Rattle.shared_run.proofs.Events.{by_own, by_other, has_end_append, has_end_last}
+use Rattle.heap_core.specs.Sizes.{Size, Sized, size_of_id, with_size}
+use Rattle.heap_core.specs.Charges.{Tally, tally_moved, tally_entry, tally_on, opening_tally, tally_of, resized, sizes_behind, sized_of, takes_nothing}
+
+-- the call is on this thing
+abbrev pub Touches : Call → Id → Type 0
+Touches (On thing act) id = same_id thing.id id ≡ true
+Touches (Gather thread) id = same_id thread.id id ≡ true
+Touches call id = ⊥
+
+either_way : (b : Bool) → (b ≡ true) ⊎ (b ≡ false)
+either_way true = inl refl
+either_way false = inr refl
+
+not_touched : (b : Bool) → (b ≡ true → ⊥) → b ≡ false
+not_touched true no_way = absurd (no_way refl)
+not_touched false no_way = refl
+
+-- ---- things
+
+found_else : (z : Store) (a id : Id) (thing : Thing) → same_id a id ≡ false → found (with_thing z a thing) id ≡ found z id
+found_else [] a id thing off = refl
+found_else (x ∷ xs) a id thing off = by_test (found_else xs a id thing off) (same_id x.id a) refl
+  where
+    by_test : found (with_thing xs a thing) id ≡ found xs id → (b : Bool) → same_id x.id a ≡ b → found (cond b (record { id = x.id; thing = thing } ∷ xs) (x ∷ with_thing xs a thing)) id ≡ cond (same_id x.id id) (Some x.thing) (found xs id)
+    by_test more true is = let far : same_id x.id id ≡ false = ap (λ (y : Id). same_id y id) (Rattle.rb_shared.proofs.Runs.same_is x.id a is) ∙ off in
+        ap (λ b. cond b (Some thing) (found xs id)) far ∙ sym (ap (λ b. cond b (Some x.thing) (found xs id)) far)
+    by_test more false is = ap (λ (o : Option Thing). cond (same_id x.id id) (Some x.thing) o) more
+
+found_act : (z : Store) (t : ℕ) (a id : Id) (o : Option Thing) (act : Act) → same_id a id ≡ false → found (with_act t z a o act) id ≡ found z id
+found_act z t a id None act off = refl
+found_act z t a id (Some thing) act off = found_else z a id (Rattle.rb_shared.specs.Step.behind_act t thing act) off
+
+found_ended : (z : Store) (t : ℕ) (how : Ending) (id : Id) → found (map (ended_item t how) z) id ≡ option_map (ended_thing t how) (found z id)
+found_ended [] t how id = refl
+found_ended (x ∷ xs) t how id = by_test (found_ended xs t how id) (same_id x.id id)
+  where
+    by_test : found (map (ended_item t how) xs) id ≡ option_map (ended_thing t how) (found xs id) → (b : Bool) → cond b (Some (ended_thing t how x.thing)) (found (map (ended_item t how) xs) id) ≡ option_map (ended_thing t how) (cond b (Some x.thing) (found xs id))
+    by_test more true = refl
+    by_test more false = more
+
+-- behind a call on another thing, or on none, that ends no thread
+pub found_behind : (slots : ℕ) (w : Store) (t : ℕ) (c : Call) (id : Id) (thing : Thing) → found w id ≡ Some thing → (Touches c id → ⊥) → is_end c ≡ false → found (store_behind slots w t c) id ≡ Some thing
+found_behind slots w t (On r act) id thing is far going = found_act w t r.id id (found w r.id) act (not_touched (same_id r.id id) far) ∙ is
+found_behind slots w t (Gather r) id thing is far going = found_act w t r.id id (found w r.id) Join (not_touched (same_id r.id id) far) ∙ is
+found_behind slots w t (Start new body values) id thing is far going = by_test (is_full slots w t)
+  where
+    by_test : (b : Bool) → found (cond b w (w ++ new_thread w t new ∷ [])) id ≡ Some thing
+    by_test true = is
+    by_test false = found_more w (new_thread w t new ∷ []) id thing is
+found_behind slots w t (Print bytes) id thing is far going = is
+found_behind slots w t (End how) id thing is far going = absurd (true≢false going)
+
+pub found_at_end : (slots : ℕ) (w : Store) (t : ℕ) (how : Ending) (id : Id) → found (store_behind slots w t (End how)) id ≡ option_map (ended_thing t how) (found w id)
+found_at_end slots w t how id = found_ended w t how id
+
+-- ---- who has ended
+
+-- only a thread's own End ends it
+pub over_same : (events : List Event) (t : ℕ) (e : Entry) → is_end e.call ≡ false → (u : ℕ) → has_end (by u (events ++ event_of t e ∷ [])) ≡ has_end (by u events)
+over_same events t e going u = dite (ℕ_discrete u t)
+    (λ is. ap (λ n. has_end (by n (events ++ event_of t e ∷ []))) is
+    ∙ (ap has_end (by_own t e events) ∙ (has_end_append (by t events) (e ∷ []) ∙ (ap (λ b. has_end (by t events) || (b || false)) going ∙ (no_more (has_end (by t events)) ∙ ap (λ n. has_end (by n events)) (sym is))))))
+    (λ ne. ap has_end (by_other t u e events ne))
+  where
+    no_more : (b : Bool) → (b || false) ≡ b
+    no_more true = refl
+    no_more false = refl
+
+pub over_now : (events : List Event) (t : ℕ) (e : Entry) → is_end e.call ≡ true → has_end (by t (events ++ event_of t e ∷ [])) ≡ true
+over_now events t e ends = ap has_end (by_own t e events) ∙ has_end_last (by t events) e ends
+
+pub over_other : (events : List Event) (t : ℕ) (e : Entry) (u : ℕ) → (u ≡ t → ⊥) → has_end (by u (events ++ event_of t e ∷ [])) ≡ has_end (by u events)
+over_other events t e u ne = ap has_end (by_other t u e events ne)
+
+-- ---- sizes
+
+size_more : (xs ys : List Sized) (id : Id) (size : Size) → size_of_id xs id ≡ Some size → size_of_id (xs ++ ys) id ≡ Some size
+size_more [] ys id size is = absurd (let h : None ≡ Some size = is in cc)
+size_more (x ∷ xs) ys id size is = by_test (size_more xs ys id size) (same_id x.id id) refl
+  where
+    by_test : (size_of_id xs id ≡ Some size → size_of_id (xs ++ ys) id ≡ Some size) → (b : Bool) → same_id x.id id ≡ b → cond (same_id x.id id) (Some x.size) (size_of_id (xs ++ ys) id) ≡ Some size
+    by_test more true same = ap (λ b. cond b (Some x.size) (size_of_id (xs ++ ys) id)) same ∙ (sym (ap (λ b. cond b (Some x.size) (size_of_id xs id)) same) ∙ is)
+    by_test more false same = ap (λ b. cond b (Some x.size) (size_of_id (xs ++ ys) id)) same ∙ more (sym (ap (λ b. cond b (Some x.size) (size_of_id xs id)) same) ∙ is)
+
+size_else : (xs : List Sized) (a id : Id) (size : Size) → same_id a id ≡ false → size_of_id (with_size xs a size) id ≡ size_of_id xs id
+size_else [] a id size off = refl
+size_else (x ∷ xs) a id size off = by_test (size_else xs a id size off) (same_id x.id a) refl
+  where
+    by_test : size_of_id (with_size xs a size) id ≡ size_of_id xs id → (b : Bool) → same_id x.id a ≡ b → size_of_id (cond b (record { id = x.id; size = size } ∷ xs) (x ∷ with_size xs a size)) id ≡ cond (same_id x.id id) (Some x.size) (size_of_id xs id)
+    by_test more true is = let far : same_id x.id id ≡ false = ap (λ (y : Id). same_id y id) (Rattle.rb_shared.proofs.Runs.same_is x.id a is) ∙ off in
+        ap (λ b. cond b (Some size) (size_of_id xs id)) far ∙ sym (ap (λ b. cond b (Some x.size) (size_of_id xs id)) far)
+    by_test more false is = ap (λ (o : Option Size). cond (same_id x.id id) (Some x.size) o) more
+
+size_resized : (xs : List Sized) (a id : Id) (thing : Option Thing) (size : Option Size) (act : Act) → same_id a id ≡ false → size_of_id (resized xs a thing size act) id ≡ size_of_id xs id
+size_resized xs a id (Some thing) (Some size) act off = size_else xs a id (Rattle.heap_core.specs.Sizes.size_behind thing act size) off
+size_resized xs a id (Some thing) None act off = refl
+size_resized xs a id None size act off = refl
+
+size_behind_call : (t : Tally) (c : Call) (id : Id) → (Touches c id → ⊥) → size_of_id (sizes_behind t c) id ≡ size_of_id t.sizes id
+size_behind_call t (On a act) id far = size_resized t.sizes a.id id (found t.store a.id) (size_of_id t.sizes a.id) act (not_touched (same_id a.id id) far)
+size_behind_call t (Start a body values) id far = refl
+size_behind_call t (Gather r) id far = refl
+size_behind_call t (Print bytes) id far = refl
+size_behind_call t (End how) id far = refl
+
+size_call : (b : Bool) (t : Tally) (c : Call) (id : Id) → (Touches c id → ⊥) → size_of_id (cond b t.sizes (sizes_behind t c)) id ≡ size_of_id t.sizes id
+size_call true t c id far = refl
+size_call false t c id far = size_behind_call t c id far
+
+pub tally_snoc : (slots : ℕ) (t : Tally) (events : List Event) (e : Event) → tally_on slots t (events ++ e ∷ []) ≡ tally_entry slots (tally_on slots t events) e
+tally_snoc slots t [] e = refl
+tally_snoc slots t (x ∷ xs) e = tally_snoc slots (tally_entry slots t x) xs e
+
+pub size_after : (slots : ℕ) (events : List Event) (t : ℕ) (e : Entry) (id : Id) (size : Size) → (Touches e.call id → ⊥)
+    → size_of_id (tally_of slots events).sizes id ≡ Some size → size_of_id (tally_of slots (events ++ event_of t e ∷ [])).sizes id ≡ Some size
+size_after slots events t e id size far is =
+    let old = tally_of slots events in
+    ap (λ (x : Tally). size_of_id x.sizes id) (tally_snoc slots opening_tally events (event_of t e))
+    ∙ (size_call (takes_nothing e.call e.reply) (tally_moved old e.moved) e.call id far ∙ size_more old.sizes (sized_of e.moved) id size is)

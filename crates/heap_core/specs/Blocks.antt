@@ -1,0 +1,67 @@
+-- The blocks of the heap: what never changes in them, and where they stand.
+use Rattle.std.specs.Prelude.{◌≡◌, ◌≤◌, ◌<◌, ℕ, ◌+◌, ℤ, List, [], ◌∷◌, Option, Some, None}
+use Rattle.rb_model.specs.declared.value.Id.{Id}
+use Rattle.rb_shared.specs.Lists.{Has}
+use Rattle.shape_core.specs.Shape.{Shape}
+use Rattle.heap_core.specs.Places.{object_words, chunk_words, mutex_words, text_words, box_words, shape_words}
+
+-- Each kind of block, with what never changes in it, and last its place. A chunk tells the place of its object, and how many-th it is, from 1
+-- on. A lock is a word alone.
+pub data Block : Type 0 where
+  ObjectAt : (id : Id) (at : ℕ) → Block
+  ChunkAt : (object number at : ℕ) → Block
+  MutexAt : (id : Id) (at : ℕ) → Block
+  TextAt : (bytes : List ℕ) (at : ℕ) → Block
+  BoxAt : (n : ℤ) (at : ℕ) → Block
+  ShapeAt : (shape : Shape) (at : ℕ) → Block
+  LockAt : (at : ℕ) → Block
+
+abbrev pub place_of : Block → ℕ
+place_of (ObjectAt id at) = at
+place_of (ChunkAt object number at) = at
+place_of (MutexAt id at) = at
+place_of (TextAt bytes at) = at
+place_of (BoxAt n at) = at
+place_of (ShapeAt shape at) = at
+place_of (LockAt at) = at
+
+abbrev pub size_of : Block → ℕ
+size_of (ObjectAt id at) = object_words
+size_of (ChunkAt object number at) = chunk_words
+size_of (MutexAt id at) = mutex_words
+size_of (TextAt bytes at) = text_words bytes
+size_of (BoxAt n at) = box_words
+size_of (ShapeAt shape at) = shape_words
+size_of (LockAt at) = 1
+
+-- the place of the block whose rule speaks of this one's words: its own, or that of the thing that it is a part of
+abbrev pub home_of : Block → ℕ
+home_of (ChunkAt object number at) = object
+home_of b = place_of b
+
+-- the thing that the block stands for, if it is one
+abbrev pub id_of : Block → Option Id
+id_of (ObjectAt id at) = Some id
+id_of (MutexAt id at) = Some id
+id_of b = None
+
+abbrev pub Inside : ℕ → Block → Type 0
+Inside i b = (place_of b ≤ i) × (i < place_of b + size_of b)
+
+-- a part has its thing among the blocks
+abbrev pub HasHome : List Block → Block → Type 0
+HasHome bs (ChunkAt object number at) = (id : Id) × Has bs (ObjectAt id object)
+HasHome bs b = Unit {0}
+
+-- the word is one of those that the rule of the block at this place speaks of
+abbrev pub InFamily : List Block → ℕ → ℕ → Type 0
+InFamily bs home i = (b : Block) × Has bs b × (home_of b ≡ home) × Inside i b
+
+-- how many words shapes take
+abbrev pub shape_words_of : Block → ℕ
+shape_words_of (ShapeAt shape at) = shape_words
+shape_words_of b = 0
+
+abbrev pub words_of_shapes : List Block → ℕ
+words_of_shapes [] = 0
+words_of_shapes (b ∷ bs) = shape_words_of b + words_of_shapes bs
