@@ -22,20 +22,20 @@ use Rattle.local_heap.specs.declared.cells.Cell.TheVariants as cell
 use Rattle.local_heap.specs.declared.slot.Whose.{Whose}
 use Rattle.local_heap.specs.Slots.{Home, IsOwnBy, IsWord, slot_at}
 use Rattle.local_heap.specs.Fields.{AreWords, field_of, fields_of}
-use Rattle.local_heap.specs.Cells.{IsObject, IsSound, Acted, Written, Unwritten, AreKnown, AreSound, IsKnown, IsCell, fields_in, home_by, private_by, shape_in, shaped_in, still, thing_in}
+use Rattle.local_heap.specs.Cells.{IsObject, IsSound, Acted, Written, Unwritten, AreKnown, AreSound, IsKnown, IsCell, class_in, fields_in, home_by, private_by, shape_in, shaped_in, still, thing_in}
 use Rattle.local_heap.proofs.Laid.{field_stays}
 use Rattle.local_heap.proofs.Objects.{stands_in}
-use Rattle.local_heap.proofs.Cellwise.{Grows, grows, stays_grown, map_same, Holds, holds_itself, holds_more, known_keep, sound_all, things_keep, shaped_keep, all_push, all_set, all_at, held_cell, read_at, shaped_at, classes_stay, class_behind}
+use Rattle.local_heap.proofs.Cellwise.{Grows, grows, stays_grown, map_same, Holds, holds_itself, holds_more, known_keep, sound_all, things_keep, shaped_keep, all_push, all_set, all_at, held_cell, read_at, shaped_at, class_put, class_keep, class_behind}
 
 abbrev parts : ℕ → List (Option Thing) → List (Option Shape) → List Shape → Private
 parts thread things shaped shapes = record { thread = thread; things = things; shaped = shaped; shapes = shapes }
 
 -- the invariant of a heap
 abbrev pub AreWhole : ℕ → List Shape → List Cell → Type 0
-AreWhole thread shapes cells = AreKnown shapes cells × AreSound shapes (home_by thread (map (shaped_in shapes) cells)) cells
+AreWhole thread shapes cells = AreKnown shapes cells × AreSound shapes (home_by thread shapes cells) cells
 
 abbrev pub private_now : ℕ → List Shape → List Cell → Private
-private_now thread shapes cells = private_by thread shapes (home_by thread (map (shaped_in shapes) cells)) cells
+private_now thread shapes cells = private_by thread shapes (home_by thread shapes cells) cells
 
 -- where nothing changed
 pub same_private : (thread : ℕ) (shapes : List Shape) (cells : List Cell) (h : Private) (shapes' : List Shape) (cells' : List Cell) → private_now thread shapes cells ≡ h
@@ -92,11 +92,11 @@ module _ (shapes : List Shape) (home : Home) (o : Object) (shapes' : List Shape)
       (λ m. field_stays home (path_at shapes o.shape) (path_at shapes o.shape) (slot_at o) (slot_at o') m refl
       (λ place kind at. same_slots place.0 (below (path_at shapes o.shape) m place kind at))))
 
-module _ (thread : ℕ) (shapes : List Shape) (cells : List Cell) (h : Private) (is : private_by thread shapes (home_by thread (map (shaped_in shapes) cells)) cells ≡ h)
+module _ (thread : ℕ) (shapes : List Shape) (cells : List Cell) (h : Private) (is : private_by thread shapes (home_by thread shapes cells) cells ≡ h)
     (id : Id) (held_here : IsSome (held h id)) (c : Cell) (o : Object) (read : c ≡ get_or cells id.serial c) (at : c ≡ cell.Object o)
-    (known : AreKnown shapes cells) (sound : AreSound shapes (home_by thread (map (shaped_in shapes) cells)) cells) where
+    (known : AreKnown shapes cells) (sound : AreSound shapes (home_by thread shapes cells) cells) where
   abbrev home : Home
-  home = home_by thread (map (shaped_in shapes) cells)
+  home = home_by thread shapes cells
 
   some_thing : (found : Option Thing) → IsSome found → (x : Thing) × (found ≡ Some x)
   some_thing None e = absurd (cc)
@@ -144,7 +144,7 @@ module _ (thread : ℕ) (shapes : List Shape) (cells : List Cell) (h : Private) 
     cells_then = set cells id.serial (cell.Object o')
 
     abbrev home_then : Home
-    home_then = home_by thread (map (shaped_in shapes') cells_then)
+    home_then = home_by thread shapes' cells_then
 
     -- ---- an act
 
@@ -169,10 +169,10 @@ module _ (thread : ℕ) (shapes : List Shape) (cells : List Cell) (h : Private) 
 
       acted_home : home_then ≡ home
       acted_home =
-          ap (home_by thread) acted_shaped
-          ∙ ap (λ cs. record { thread = thread; classes = cs })
-          (classes_stay (map (shaped_in shapes) cells) id.serial (shape_in shapes o) (shape_in shapes' o') (shaped_at shapes cells id.serial o there)
-          (ap (λ (s : Shape). s.class) acted.shape ∙ class_behind act (shape_in shapes o)))
+          ap (λ cs. record { thread = thread; classes = cs })
+          (map-set (class_in shapes') cells id.serial (cell.Object o')
+          ∙ ap (λ cs. set cs id.serial (Some (shape_in shapes' o').class)) (class_keep shapes shapes' home home grown (holds_itself home) cells known)
+          ∙ class_put shapes cells id.serial (cell.Object o) _ there (ap Some (ap (λ (s : Shape). s.class) acted.shape ∙ class_behind act (shape_in shapes o))))
 
       pub acted_cells : AreKnown shapes' cells_then × AreSound shapes' home_then cells_then
       acted_cells = (
@@ -207,7 +207,11 @@ module _ (thread : ℕ) (shapes : List Shape) (cells : List Cell) (h : Private) 
           ∙ ap (map (shaped_in shapes)) put_back
 
       left_home : home_then ≡ home
-      left_home = ap (home_by thread) left_shaped
+      left_home =
+          ap (λ cs. record { thread = thread; classes = cs })
+          (map-set (class_in shapes') cells id.serial (cell.Object o')
+          ∙ ap (λ cs. set cs id.serial (Some (shape_in shapes' o').class)) (class_keep shapes shapes' home home left_grown (holds_itself home) cells known)
+          ∙ class_put shapes cells id.serial (cell.Object o) _ there (ap (λ (s : Shape). Some s.class) (same_shape shapes home o shapes' o' object_is unwritten)))
 
       pub left_cells : AreKnown shapes' cells_then × AreSound shapes' home_then cells_then
       left_cells = (
@@ -239,17 +243,17 @@ module _ (thread : ℕ) (shapes : List Shape) (cells : List Cell) (h : Private) 
   pub read_private : (name : NameId) (x : Thing) → held h id ≡ Some x → h ≡ acted_by h id (GetField name) x
   read_private name x e =
       sym is
-      ∙ ap (λ (cs : List Cell). private_by thread shapes (home_by thread (map (shaped_in shapes) cs)) cs) (sym put_back)
+      ∙ ap (λ (cs : List Cell). private_by thread shapes (home_by thread shapes cs) cs) (sym put_back)
       ∙ acted_private shapes o (GetField name) (read_acted shapes home o name object_is sound_is) x e
 
 -- ---- a new object
 
-module _ (thread : ℕ) (shapes : List Shape) (cells : List Cell) (h : Private) (is : private_by thread shapes (home_by thread (map (shaped_in shapes) cells)) cells ≡ h)
-    (known : AreKnown shapes cells) (sound : AreSound shapes (home_by thread (map (shaped_in shapes) cells)) cells)
+module _ (thread : ℕ) (shapes : List Shape) (cells : List Cell) (h : Private) (is : private_by thread shapes (home_by thread shapes cells) cells ≡ h)
+    (known : AreKnown shapes cells) (sound : AreSound shapes (home_by thread shapes cells) cells)
     (class : ℕ) (shapes' : List Shape) (o : Object) (has : Has shapes' o.shape (root_of class)) (gains : Gains shapes (root_of class) shapes')
     (bare : o.words.items ≡ []) where
   abbrev home_before : Home
-  home_before = home_by thread (map (shaped_in shapes) cells)
+  home_before = home_by thread shapes cells
 
   abbrev home_made : Home
   home_made = record { thread = thread; classes = home_before.classes ++ Some class ∷ [] }
@@ -282,12 +286,14 @@ module _ (thread : ℕ) (shapes : List Shape) (cells : List Cell) (h : Private) 
       ∙ ap (λ ss. ss ++ Some (shape_in shapes' o) ∷ []) (shaped_keep shapes shapes' home_before home_made root_grown one_more cells known)
       ∙ ap (λ (s : Shape). map (shaped_in shapes) cells ++ Some s ∷ []) has.1
 
-  made_home : home_by thread (map (shaped_in shapes') cells_made) ≡ home_made
+  made_home : home_by thread shapes' cells_made ≡ home_made
   made_home =
-      ap (home_by thread) made_shaped
-      ∙ ap (λ cs. record { thread = thread; classes = cs }) (map_push (option_map (λ (s : Shape). s.class)) (map (shaped_in shapes) cells) (Some (root_of class)))
+      ap (λ cs. record { thread = thread; classes = cs })
+      (map_push (class_in shapes') cells (cell.Object o)
+      ∙ ap (λ cs. cs ++ Some (shape_in shapes' o).class ∷ []) (class_keep shapes shapes' home_before home_made root_grown one_more cells known)
+      ∙ ap (λ (s : Shape). map (class_in shapes) cells ++ Some s.class ∷ []) has.1)
 
-  made_cells : AreKnown shapes' cells_made × AreSound shapes' (home_by thread (map (shaped_in shapes') cells_made)) cells_made
+  made_cells : AreKnown shapes' cells_made × AreSound shapes' (home_by thread shapes' cells_made) cells_made
   made_cells = (
     all_push (IsKnown shapes') cells (cell.Object o) (known_keep shapes shapes' home_before home_made root_grown one_more cells known) new_object,
     subst (λ (g : Home). AreSound shapes' g cells_made) (sym made_home)
@@ -300,7 +306,7 @@ module _ (thread : ℕ) (shapes : List Shape) (cells : List Cell) (h : Private) 
       ∙ ap (λ ts. ts ++ Some (thing_in shapes' home_made o) ∷ []) (things_keep shapes shapes' home_before home_made root_grown one_more cells known sound)
       ∙ ap (λ (t : Thing). map (still shapes home_before) cells ++ Some t ∷ []) new_thing
 
-  made_private : private_by thread shapes' (home_by thread (map (shaped_in shapes') cells_made)) cells_made ≡ entered h (thing.Object class [])
+  made_private : private_by thread shapes' (home_by thread shapes' cells_made) cells_made ≡ entered h (thing.Object class [])
   made_private =
       let old : Private = private_by thread shapes home_before cells in
       let then : Private = entered old (thing.Object class []) in

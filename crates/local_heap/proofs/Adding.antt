@@ -28,11 +28,11 @@ use Rattle.local_heap.specs.Words.{IsSum, integer_of}
 use Rattle.local_heap.specs.Slots.{Home, Puts, Standing, slot_at, whole_at}
 use Rattle.local_heap.specs.Fields.{IsSumFound, fields_of, is_any}
 use Rattle.local_heap.specs.Memory.{HasSum, wide_on}
-use Rattle.local_heap.specs.Cells.{IsObject, IsSound, Acted, Written, cell_at, home_by, shape_in, shaped_in, still, thing_in}
+use Rattle.local_heap.specs.Cells.{IsObject, IsSound, Acted, Written, cell_at, home_by, shape_in, still, thing_in}
 use Rattle.local_heap.proofs.Objects.{read_slot, wide_is}
 use Rattle.local_heap.proofs.Writing.{integer_put, puts_itself}
 use Rattle.local_heap.proofs.Acting.{AreWhole, private_now, acted_cells, acted_private, object_is, sound_is, thing_is, written_acted}
-use Rattle.local_heap.proofs.Standing.{held_there}
+use Rattle.local_heap.proofs.Looking.{held_there}
 
 -- what was there is the sum without what was added
 without : (m n sum : ℤ) → sum ≡ m +ℤ n → m ≡ sum -ℤ n
@@ -106,7 +106,7 @@ pub record Summed (h : Private) (id : Id) (name : NameId) (n : ℤ) (sum : Optio
 module _ (thread : ℕ) (shapes : List Shape) (cells : List Cell) (h : Private) (is : private_now thread shapes cells ≡ h) (whole : AreWhole thread shapes cells)
     (id : Id) (c : Cell) (is_found : Some c ≡ cell_at thread cells id) (read : c ≡ get_or cells id.serial c) where
   abbrev home : Home
-  home = home_by thread (map (shaped_in shapes) cells)
+  home = home_by thread shapes cells
 
   -- a cell that stays as it was is put back
   put_back : (c' : Cell) → c' ≡ c → set cells id.serial c' ≡ cells
@@ -131,10 +131,11 @@ module _ (thread : ℕ) (shapes : List Shape) (cells : List Cell) (h : Private) 
       )
     where
       by : (d : Cell) → ((o : Object) → d ≡ cell.Object o → ⊥) → IsSomeAnd (still shapes home d) (λ t. HasSum t name n) → ⊥
-      by cell.Empty other some = some
+      by (cell.Empty k) other some = some
       by (cell.Object o) other some = other o refl
       by (cell.List list) other some = some
       by (cell.Pairs pairs) other some = some
+      by (cell.Mutex owner) other some = some
 
   module _ (o : Object) (at : c ≡ cell.Object o) where
     held_is : held h id ≡ Some (thing_in shapes home o)

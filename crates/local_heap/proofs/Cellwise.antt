@@ -27,10 +27,11 @@ use Rattle.local_heap.specs.declared.object.Object.{Object}
 use Rattle.local_heap.specs.declared.cells.Cell.{Cell}
 use Rattle.local_heap.specs.declared.cells.Cell.TheVariants as cell
 use Rattle.local_heap.specs.Contents.{listed}
+use Rattle.local_heap.specs.Limits.{IsWithin}
 use Rattle.local_heap.specs.Words.{any_of}
 use Rattle.local_heap.specs.Slots.{Home, Standing, IsWord, Stands, meaning, own, slot_at, thing_meaning, to_own}
 use Rattle.local_heap.specs.Fields.{AreWords, fields_of, field_of, field_found, value_by}
-use Rattle.local_heap.specs.Cells.{IsObject, IsSound, AreKnown, AreSound, classes_of, private_by, shape_in, shaped_in, still, thing_in}
+use Rattle.local_heap.specs.Cells.{IsObject, IsSound, AreKnown, AreSound, class_in, private_by, shape_in, shaped_in, still, thing_in}
 use Rattle.local_heap.proofs.Inverse.{any_of-word_of}
 
 -- the shapes of a store keep their numbers
@@ -157,37 +158,52 @@ module _ (shapes shapes' : List Shape) (home home' : Home) (grown : Grows shapes
 
   pub known_keep : (cells : List Cell) → AreKnown shapes cells → AreKnown shapes' cells
   known_keep [] are = tt
-  known_keep (cell.Empty ∷ cells) are = (tt, known_keep cells are.1)
+  known_keep (cell.Empty k ∷ cells) are = (tt, known_keep cells are.1)
   known_keep (cell.Object o ∷ cells) are = (object_keeps o are.0, known_keep cells are.1)
   known_keep (cell.List list ∷ cells) are = (tt, known_keep cells are.1)
   known_keep (cell.Pairs pairs ∷ cells) are = (tt, known_keep cells are.1)
+  known_keep (cell.Mutex owner ∷ cells) are = (tt, known_keep cells are.1)
 
   pub sound_all : (cells : List Cell) → AreKnown shapes cells → AreSound shapes home cells → AreSound shapes' home' cells
   sound_all [] are sound = tt
-  sound_all (cell.Empty ∷ cells) are sound = (tt, sound_all cells are.1 sound.1)
+  sound_all (cell.Empty k ∷ cells) are sound = (tt, sound_all cells are.1 sound.1)
   sound_all (cell.Object o ∷ cells) are sound = (sound_keeps o are.0 sound.0, sound_all cells are.1 sound.1)
   sound_all (cell.List list ∷ cells) are sound = (sound.0, sound_all cells are.1 sound.1)
   sound_all (cell.Pairs pairs ∷ cells) are sound = (sound.0, sound_all cells are.1 sound.1)
+  sound_all (cell.Mutex owner ∷ cells) are sound = (subst (λ t. IsWithin t (thing.Mutex owner)) (sym more.thread) sound.0, sound_all cells are.1 sound.1)
 
   pub things_keep : (cells : List Cell) → AreKnown shapes cells → AreSound shapes home cells → map (still shapes' home') cells ≡ map (still shapes home) cells
   things_keep [] are sound = refl
-  things_keep (cell.Empty ∷ cells) are sound = ap (λ ts. None ∷ ts) (things_keep cells are.1 sound.1)
+  things_keep (cell.Empty k ∷ cells) are sound = ap (λ ts. None ∷ ts) (things_keep cells are.1 sound.1)
   things_keep (cell.Object o ∷ cells) are sound =
       let one = thing_keeps o are.0 sound.0 in
       let rest = things_keep cells are.1 sound.1 in
       cc
   things_keep (cell.List list ∷ cells) are sound = ap (λ ts. Some (listed list) ∷ ts) (things_keep cells are.1 sound.1)
   things_keep (cell.Pairs pairs ∷ cells) are sound = ap (λ ts. Some (thing.Pairs pairs) ∷ ts) (things_keep cells are.1 sound.1)
+  things_keep (cell.Mutex owner ∷ cells) are sound = ap (λ ts. Some (thing.Mutex owner) ∷ ts) (things_keep cells are.1 sound.1)
 
   pub shaped_keep : (cells : List Cell) → AreKnown shapes cells → map (shaped_in shapes') cells ≡ map (shaped_in shapes) cells
   shaped_keep [] are = refl
-  shaped_keep (cell.Empty ∷ cells) are = ap (λ ts. None ∷ ts) (shaped_keep cells are.1)
+  shaped_keep (cell.Empty k ∷ cells) are = ap (λ ts. None ∷ ts) (shaped_keep cells are.1)
   shaped_keep (cell.Object o ∷ cells) are =
       let one = (grown o.shape are.0.known).1 in
       let rest = shaped_keep cells are.1 in
       cc
   shaped_keep (cell.List list ∷ cells) are = ap (λ ts. None ∷ ts) (shaped_keep cells are.1)
   shaped_keep (cell.Pairs pairs ∷ cells) are = ap (λ ts. None ∷ ts) (shaped_keep cells are.1)
+  shaped_keep (cell.Mutex owner ∷ cells) are = ap (λ ts. None ∷ ts) (shaped_keep cells are.1)
+
+  pub class_keep : (cells : List Cell) → AreKnown shapes cells → map (class_in shapes') cells ≡ map (class_in shapes) cells
+  class_keep [] are = refl
+  class_keep (cell.Empty k ∷ cells) are = ap (λ ts. k ∷ ts) (class_keep cells are.1)
+  class_keep (cell.Object o ∷ cells) are =
+      let one = (grown o.shape are.0.known).1 in
+      let rest = class_keep cells are.1 in
+      cc
+  class_keep (cell.List list ∷ cells) are = ap (λ ts. None ∷ ts) (class_keep cells are.1)
+  class_keep (cell.Pairs pairs ∷ cells) are = ap (λ ts. None ∷ ts) (class_keep cells are.1)
+  class_keep (cell.Mutex owner ∷ cells) are = ap (λ ts. None ∷ ts) (class_keep cells are.1)
 
 -- ---- lists of cells
 
@@ -240,12 +256,14 @@ pub shaped_at : (shapes : List Shape) (cells : List Cell) (i : ℕ) (o : Object)
     → or_none (slice_get (map (shaped_in shapes) cells) i) ≡ Some (shape_in shapes o)
 shaped_at shapes cells i o e = shaped_there shapes cells i (cell.Object o) e
 
--- the classes of cells where the object at a number has another shape of its class
-pub classes_stay : (shaped : List (Option Shape)) (i : ℕ) (old new : Shape) → or_none (slice_get shaped i) ≡ Some old → new.class ≡ old.class
-    → classes_of (set shaped i (Some new)) ≡ classes_of shaped
-classes_stay [] i old new e same = absurd (cc)
-classes_stay (s ∷ shaped) zero old new e same = ap (λ c. c ∷ classes_of shaped) (ap Some same ∙ sym (ap (option_map (λ (x : Shape). x.class)) e))
-classes_stay (s ∷ shaped) (suc i) old new e same = ap (λ cs. option_map (λ (x : Shape). x.class) s ∷ cs) (classes_stay shaped i old new e same)
+-- the classes of cells where what is put at a number has the class of what was there
+pub class_put : (shapes : List Shape) (cells : List Cell) (i : ℕ) (c : Cell) (class : Option ℕ) → slice_get cells i ≡ Some c → class ≡ class_in shapes c
+    → set (map (class_in shapes) cells) i class ≡ map (class_in shapes) cells
+class_put shapes [] i c class e same = absurd (cc)
+class_put shapes (d ∷ cells) zero c class e same =
+    let one : d ≡ c = cc in
+    ap (λ x. x ∷ map (class_in shapes) cells) (same ∙ ap (class_in shapes) (sym one))
+class_put shapes (d ∷ cells) (suc i) c class e same = ap (λ xs. class_in shapes d ∷ xs) (class_put shapes cells i c class e same)
 
 -- a shape keeps its class behind an act
 pub class_behind : (act : Act) (shape : Shape) → (shape_behind act shape).class ≡ shape.class

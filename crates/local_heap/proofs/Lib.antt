@@ -1,6 +1,7 @@
 pub mod Listing
 pub mod Writes
 pub mod AtOnce
+pub mod Keys
 pub mod Limits
 pub mod Inverse
 pub mod Slotted
@@ -12,6 +13,8 @@ pub mod Writing
 pub mod Cellwise
 pub mod Acting
 pub mod Standing
+pub mod Looking
+pub mod Leaving
 pub mod Callers
 pub mod Walking
 pub mod Agreeing

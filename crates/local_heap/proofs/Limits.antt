@@ -1,13 +1,14 @@
--- No act makes a list or a hash longer than it may be.
-use Rattle.std.proofs.Common.{◌≡◌, ℕ, suc, ◌-◌, ◌<◌, ◌≤◌, Bool, true, false, cond, List, [], ◌∷◌, ◌++◌, length, take, drop, replicate, Option, Some, None, refl, ap, sym, subst, arith}
+-- No act makes a list or a hash longer than it may be, or gives a mutex to another thread.
+use Rattle.std.proofs.Common.{◌≡◌, ℕ, suc, ◌-◌, ◌<◌, ◌≤◌, ◌==◌, Bool, true, false, cond, List, [], ◌∷◌, ◌++◌, length, take, drop, replicate, Option, Some, None, refl, ap, sym, subst, arith}
 use Rattle.std.specs.Prelude.{nat_lt, ◌||◌}
 use Rattle.std.proofs.lemmas.Grind.{common_steps}
 use Rattle.std.proofs.lemmas.Bool.{ltb-true, ltb-false}
 use Rattle.std.proofs.lemmas.List.{length-append, length-replicate, length-set, length-take, length-drop}
 use Rattle.rb_model.specs.Values.{Value as Val, Nil, same}
-use Rattle.rb_model.specs.Acts.{Act, SetField, Put, Push, Unshift, Pop, Shift, DeleteAt, KPut, KDelete, Clear}
-use Rattle.rb_model.specs.Things.{Thing, Object, Elements, Pairs, becomes, has_key, has_room, index_of, last_place, put, with_element, with_pair, without_element, without_key}
-use Rattle.local_heap.specs.Limits.{IsWithin}
+use Rattle.rb_model.specs.Acts.{Act, SetField, Put, Push, Unshift, Pop, Shift, DeleteAt, KPut, KDelete, Clear, Lock, Unlock}
+use Rattle.rb_model.specs.Things.{Thing, Object, Elements, Pairs, Mutex, Thread, becomes, becomes_by, owner_behind, has_key, has_room, index_of, last_place, may_put, put, with_element, with_pair, without_element, without_key}
+use Rattle.local_heap.specs.Limits.{AreKeysOnce, IsOwnMutex, IsWithin}
+use Rattle.local_heap.proofs.Keys.{once_with, once_without}
 
 -- ---- lists
 
@@ -69,18 +70,42 @@ key_less k (p ∷ ps) = (elim (same p.0 k) as (λ b. same p.0 k ≡ b → length
   | false ↦ λ e. rw e (let h = key_less k ps in omega (arith, h))
 ]) refl
 
+put_once : (k v : Val) (b : Bool) (ps : List (Val × Val)) → AreKeysOnce ps → AreKeysOnce (cond b (with_pair k v ps) ps)
+put_once k v true ps once = once_with k v ps once
+put_once k v false ps once = once
+
+-- ---- mutexes
+
+owned_within : (t : ℕ) (act : Act) (owner : Option ℕ) → IsOwnMutex t owner → IsOwnMutex t (owner_behind t act owner)
+owned_within t Lock None own = refl
+owned_within t Lock (Some owner) own = own
+owned_within t Unlock None own = own
+owned_within t Unlock (Some owner) own = by (owner == t)
+  where
+    by : (b : Bool) → IsOwnMutex t (cond b None (Some owner))
+    by true = tt
+    by false = own
+owned_within t act owner own = own
+
 -- ---- any thing
 
-pub stays_within : (thing : Thing) (act : Act) → IsWithin thing → IsWithin (becomes thing act)
-stays_within (Object c fs) (SetField name v) fits = tt
-stays_within (Elements vs) (Put i v) fits = put_within vs (index_of (length vs) i) v fits
-stays_within (Elements vs) (Push v) fits = grown_within vs (vs ++ v ∷ []) (has_room (length vs)) refl (grind (arith, common_steps, length-append)) fits
-stays_within (Elements vs) (Unshift v) fits = grown_within vs (v ∷ vs) (has_room (length vs)) refl refl fits
-stays_within (Elements vs) Pop fits = less_within vs (last_place (length vs)) fits
-stays_within (Elements vs) Shift fits = let h = length-drop 1 vs in omega (arith, h, fits)
-stays_within (Elements vs) (DeleteAt i) fits = less_within vs (index_of (length vs) i) fits
-stays_within (Elements vs) Clear fits = omega arith
-stays_within (Pairs ps) (KPut k v) fits = pair_within k v ps (has_key k ps) (has_room (length ps)) refl refl fits
-stays_within (Pairs ps) (KDelete k) fits = let h = key_less k ps in omega (arith, h, fits)
-stays_within (Pairs ps) Clear fits = omega arith
-stays_within thing act fits = fits
+plain_within : (t : ℕ) (thing : Thing) (act : Act) → IsWithin t thing → IsWithin t (becomes thing act)
+plain_within t (Object c fs) (SetField name v) fits = tt
+plain_within t (Elements vs) (Put i v) fits = put_within vs (index_of (length vs) i) v fits
+plain_within t (Elements vs) (Push v) fits = grown_within vs (vs ++ v ∷ []) (has_room (length vs)) refl (grind (arith, common_steps, length-append)) fits
+plain_within t (Elements vs) (Unshift v) fits = grown_within vs (v ∷ vs) (has_room (length vs)) refl refl fits
+plain_within t (Elements vs) Pop fits = less_within vs (last_place (length vs)) fits
+plain_within t (Elements vs) Shift fits = let h = length-drop 1 vs in omega (arith, h, fits)
+plain_within t (Elements vs) (DeleteAt i) fits = less_within vs (index_of (length vs) i) fits
+plain_within t (Elements vs) Clear fits = omega arith
+plain_within t (Pairs ps) (KPut k v) fits = (pair_within k v ps (has_key k ps) (has_room (length ps)) refl refl fits.0, put_once k v (may_put k ps) ps fits.1)
+plain_within t (Pairs ps) (KDelete k) fits = (let h = key_less k ps in let few = fits.0 in omega (arith, h, few), once_without k ps fits.1)
+plain_within t (Pairs ps) Clear fits = (omega arith, tt)
+plain_within t thing act fits = fits
+
+pub stays_within : (t : ℕ) (thing : Thing) (act : Act) → IsWithin t thing → IsWithin t (becomes_by t thing act)
+stays_within t (Object c fs) act fits = plain_within t (Object c fs) act fits
+stays_within t (Elements vs) act fits = plain_within t (Elements vs) act fits
+stays_within t (Pairs ps) act fits = plain_within t (Pairs ps) act fits
+stays_within t (Mutex owner) act fits = owned_within t act owner fits
+stays_within t (Thread s) act fits = fits

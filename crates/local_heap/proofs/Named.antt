@@ -1,7 +1,8 @@
 -- The fields of a path by their names, whatever each of them is.
-use Rattle.std.proofs.Common.{◌≡◌, ◌==◌, Bool, true, false, cond, List, [], ◌∷◌, ◌++◌, map, Option, Some, None, refl, ap, sym, ◌∙◌, subst}
+use Rattle.std.proofs.Common.{◌≡◌, ◌==◌, Bool, true, false, cond, List, [], ◌∷◌, ◌++◌, map, Option, Some, None, refl, ap, sym, ◌∙◌, subst, arith}
 use Rattle.std.specs.Prelude.{◌||◌, not, is_some}
 use Rattle.std.specs.Option.{option_map}
+use Rattle.std.proofs.lemmas.Bool.Decides.{nat_tests}
 use Rattle.std.proofs.lemmas.List.{append-nil, map-append}
 use Rattle.rb_tree.specs.declared.span.NameId.{NameId}
 use Rattle.rb_model.specs.Values.{Value as Val, Nil}
@@ -12,10 +13,7 @@ use Rattle.shape_core.specs.declared.edge.Edge.TheVariants.{Add, Widen, Share}
 use Rattle.shape_core.specs.Path.{Path, IsPath, find_on, next_place, names_on}
 use Rattle.shape_core.proofs.Paths.{Found, same_name}
 use Rattle.local_heap.specs.Memory.{wide_on}
-
-abbrev has : NameId → List Field → Bool
-has name [] = false
-has name (f ∷ fs) = cond (f.name.0 == name.0) true (has name fs)
+use Rattle.local_heap.specs.Agreement.{AreNamesOnce, has_name as has}
 
 -- ---- lists of fields
 
@@ -31,6 +29,24 @@ has-append name (x ∷ xs) y = by (x.name.0 == name.0) (has-append name xs y)
         → cond b true (has name (xs ++ y ∷ [])) ≡ cond (cond b true (has name xs)) true (y.name.0 == name.0)
     by true e = refl
     by false e = e
+
+no_name : (name : NameId) (x : Field) (xs : List Field) → has name (x ∷ xs) ≡ false → ((x.name.0 == name.0) ≡ false) × (has name xs ≡ false)
+no_name name x xs none = by (x.name.0 == name.0) refl none
+  where
+    by : (b : Bool) → (x.name.0 == name.0) ≡ b → cond b true (has name xs) ≡ false → ((x.name.0 == name.0) ≡ false) × (has name xs ≡ false)
+    by true e n = absurd (cc)
+    by false e n = (e, n)
+
+-- one name more
+once_push : (xs : List Field) (y : Field) → AreNamesOnce xs → has y.name xs ≡ false → AreNamesOnce (xs ++ y ∷ [])
+once_push [] y once none = (refl, tt)
+once_push (x ∷ xs) y once none =
+    let parts = no_name y.name x xs none in
+    let apart = parts.0 in
+    let other : (y.name.0 == x.name.0) ≡ false = grind (arith, nat_tests) in (
+      has-append x.name xs y ∙ ap (λ b. cond b true (y.name.0 == x.name.0)) once.0 ∙ other,
+      once_push xs y once.1 parts.1,
+    )
 
 -- a write to a name of the front
 with_field-front : (name : NameId) (v : Val) (xs : List Field) (y : Field) → has name xs ≡ true
@@ -102,6 +118,16 @@ module _ (f : NameId → Field) (named : (m : NameId) → (f m).name ≡ m) wher
       by true e older = older ∙ subst (λ (n : NameId). is_some (find_on path n) ≡ true) (same_name m name e) (found_some IntLoc (find_on path m) valid.0)
       by false e older = older
   has_found (Share ∷ path) name valid = has_found path name valid.1
+
+  -- each name once
+  pub once_found : (path : Path) → IsPath path → AreNamesOnce (map f (names_on path))
+  once_found [] valid = tt
+  once_found (Add m kind ∷ path) valid =
+      subst AreNamesOnce (sym (map-append f (names_on path) (m ∷ [])))
+      (once_push (map f (names_on path)) (f m) (once_found path valid.1)
+      (ap (λ (n : NameId). has n (map f (names_on path))) (named m) ∙ has_found path m valid.1 ∙ ap is_some valid.0))
+  once_found (Widen m ∷ path) valid = once_found path valid.1
+  once_found (Share ∷ path) valid = once_found path valid.1
 
   -- a name that is there reads its field
   field_some : (name : NameId) (ns : List NameId) → has name (map f ns) ≡ true → field name (map f ns) ≡ (f name).value

@@ -3,7 +3,6 @@ use Rattle.std.proofs.Common.{◌≡◌, ℕ, ◌<◌, zero, suc, List, [], ◌�
 use Rattle.std.specs.Prelude.{ℤ, slice_get, IfSome, FitsSigned}
 use Rattle.std.specs.Int.{w64}
 use Rattle.std.proofs.lemmas.Option.{slice_get_read}
-use Rattle.std.specs.Option.{option_map}
 use Rattle.rb_tree.specs.declared.span.NameId.{NameId}
 use Rattle.rb_model.specs.declared.immediate.Immediate.{Immediate}
 use Rattle.rb_model.specs.declared.immediate.Immediate.TheVariants as immediate
@@ -22,20 +21,17 @@ use Rattle.local_heap.specs.declared.cells.Cell.{Cell}
 use Rattle.local_heap.specs.Words.{any_of}
 use Rattle.local_heap.specs.Slots.{Home, Standing}
 use Rattle.local_heap.specs.Fields.{fields_of, value_by}
-use Rattle.local_heap.specs.Cells.{classes_of, shaped_in}
+use Rattle.local_heap.specs.Cells.{class_in}
 use Rattle.local_heap.proofs.Inverse.{any_of-word_of, integer_back}
 use Rattle.local_heap.proofs.Objects.{read_slot}
 
-abbrev pub class_in : List Shape → Cell → Option ℕ
-class_in shapes c = option_map (λ (s : Shape). s.class) (shaped_in shapes c)
-
 pub class_found : (shapes : List Shape) (cells : List Cell) (n : ℕ) (c : Cell) → slice_get cells n ≡ Some c
-    → or_none (slice_get (classes_of (map (shaped_in shapes) cells)) n) ≡ class_in shapes c
+    → or_none (slice_get (map (class_in shapes) cells) n) ≡ class_in shapes c
 class_found shapes [] n c e = absurd (cc)
 class_found shapes (x ∷ cells) zero c e = let same : x ≡ c = cc in ap (class_in shapes) same
 class_found shapes (x ∷ cells) (suc n) c e = class_found shapes cells n c e
 
-pub no_class : (shapes : List Shape) (cells : List Cell) (n : ℕ) → slice_get cells n ≡ None → or_none (slice_get (classes_of (map (shaped_in shapes) cells)) n) ≡ None
+pub no_class : (shapes : List Shape) (cells : List Cell) (n : ℕ) → slice_get cells n ≡ None → or_none (slice_get (map (class_in shapes) cells) n) ≡ None
 no_class shapes [] n e = refl
 no_class shapes (x ∷ cells) zero e = absurd (cc)
 no_class shapes (x ∷ cells) (suc n) e = no_class shapes cells n e

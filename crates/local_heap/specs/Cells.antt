@@ -1,6 +1,5 @@
 -- The private things as a heap keeps them.
 use Rattle.std.specs.Prelude.{◌≡◌, ℕ, Bool, false, ◌<◌, ◌==◌, if◌then◌else◌, slice_get, List, map, length, Option, Some, None, Result, IfSome, IsErr, IsOkAnd}
-use Rattle.std.specs.Option.{option_map}
 use Rattle.std.specs.List.{AllByRecursion}
 use Rattle.rb_tree.specs.declared.span.NameId.{NameId}
 use Rattle.rb_model.specs.declared.value.Id.{Id}
@@ -9,7 +8,7 @@ use Rattle.rb_model.specs.declared.act.Reply.{Reply as Answered}
 use Rattle.rb_model.specs.declared.fault.Fault.TheVariants.{NoMethod}
 use Rattle.rb_model.specs.Acts.{Act, SetField, Failed}
 use Rattle.rb_model.specs.Doing.{said}
-use Rattle.rb_model.specs.Things.{Thing, Field, becomes}
+use Rattle.rb_model.specs.Things.{Thing, Field, becomes, mutex_gives, owner_behind}
 use Rattle.rb_model.specs.Things as thing
 use Rattle.rb_model.specs.Paths.{shape_behind}
 use Rattle.rb_model.specs.Private.{Private}
@@ -71,88 +70,102 @@ pub record Acted (shapes : List Shape) (home : Home) (o : Object) (act : Act) (s
   pub thing : thing_in shapes' home o' ≡ becomes (thing_in shapes home o) act
   pub gains : Gains shapes (shape_in shapes' o') shapes'
 
--- the thing that stands by itself in a cell: a list or a hash
+-- the thing that stands by itself in a cell: a list, a hash or a mutex
 abbrev pub contents : Cell → Option Thing
-contents cell.Empty = None
+contents (cell.Empty k) = None
 contents (cell.Object o) = None
 contents (cell.List list) = Some (listed list)
 contents (cell.Pairs pairs) = Some (thing.Pairs pairs)
+contents (cell.Mutex owner) = Some (thing.Mutex owner)
 
--- there is one, and it is no longer than it may be
-abbrev pub IsContents : Cell → Type 0
-IsContents cell.Empty = ⊥
-IsContents (cell.Object o) = ⊥
-IsContents (cell.List list) = IsWithin (listed list)
-IsContents (cell.Pairs pairs) = IsWithin (thing.Pairs pairs)
+-- there is one, and it is no longer than it may be, nor owned by another than thread t
+abbrev pub IsContents : ℕ → Cell → Type 0
+IsContents t (cell.Empty k) = ⊥
+IsContents t (cell.Object o) = ⊥
+IsContents t (cell.List list) = IsWithin t (listed list)
+IsContents t (cell.Pairs pairs) = IsWithin t (thing.Pairs pairs)
+IsContents t (cell.Mutex owner) = IsWithin t (thing.Mutex owner)
 
 -- what an act that is not of a field did to what a cell has
 abbrev pub DoesWithin : {E : Type 0} → Thing → Act → Result Answered E → Cell → Type 0
 DoesWithin thing act result now = (later : Thing) × (contents now ≡ Some later) × Does thing act result later
 
-abbrev pub CellDoes : {E : Type 0} → Cell → Act → Result Answered E → Cell → Type 0
-CellDoes cell.Empty act result now = (now ≡ cell.Empty) × IsErr result
-CellDoes (cell.Object o) act result now = (now ≡ cell.Object o) × IsOkAnd result (λ reply. said reply ≡ Failed NoMethod)
-CellDoes (cell.List list) act result now = DoesWithin (listed list) act result now
-CellDoes (cell.Pairs pairs) act result now = DoesWithin (thing.Pairs pairs) act result now
+-- the same of any cell, where thread t asks
+abbrev pub CellDoes : {E : Type 0} → ℕ → Cell → Act → Result Answered E → Cell → Type 0
+CellDoes t (cell.Empty k) act result now = (now ≡ cell.Empty k) × IsErr result
+CellDoes t (cell.Object o) act result now = (now ≡ cell.Object o) × IsOkAnd result (λ reply. said reply ≡ Failed NoMethod)
+CellDoes t (cell.List list) act result now = DoesWithin (listed list) act result now
+CellDoes t (cell.Pairs pairs) act result now = DoesWithin (thing.Pairs pairs) act result now
+CellDoes t (cell.Mutex owner) act result now = (now ≡ cell.Mutex (owner_behind t act owner)) × IsOkAnd result (λ reply. said reply ≡ mutex_gives t act owner)
 
 -- Whether a value was written to the list that a cell has, and what the cell then has. Where it has no list, it was not.
 abbrev pub CellWrites : Bool → Cell → (Val → Act) → Option Val → Cell → Type 0
-CellWrites done cell.Empty act value now = (now ≡ cell.Empty) × (done ≡ false)
+CellWrites done (cell.Empty k) act value now = (now ≡ cell.Empty k) × (done ≡ false)
 CellWrites done (cell.Object o) act value now = (now ≡ cell.Object o) × (done ≡ false)
 CellWrites done (cell.List list) act value now = (later : Thing) × (contents now ≡ Some later) × DoesWrite done (listed list) act value later
 CellWrites done (cell.Pairs pairs) act value now = (now ≡ cell.Pairs pairs) × (done ≡ false)
+CellWrites done (cell.Mutex owner) act value now = (now ≡ cell.Mutex owner) × (done ≡ false)
 
 -- what a cell has, where a value was taken out of its list
 abbrev pub CellTakes : Option Val → Cell → Act → Cell → Type 0
-CellTakes value cell.Empty act now = (now ≡ cell.Empty) × (value ≡ None)
+CellTakes value (cell.Empty k) act now = (now ≡ cell.Empty k) × (value ≡ None)
 CellTakes value (cell.Object o) act now = (now ≡ cell.Object o) × (value ≡ None)
 CellTakes value (cell.List list) act now = (later : Thing) × (contents now ≡ Some later) × DoesTake value (listed list) act later
 CellTakes value (cell.Pairs pairs) act now = (now ≡ cell.Pairs pairs) × (value ≡ None)
+CellTakes value (cell.Mutex owner) act now = (now ≡ cell.Mutex owner) × (value ≡ None)
 
 -- what a cell has is no thing to which an act is done at once
 abbrev pub CellRefuses : Cell → Act → Type 0
 CellRefuses cell act = IfSome (contents cell) (λ thing. at_once thing act ≡ false)
 
 abbrev pub still : List Shape → Home → Cell → Option Thing
-still shapes home cell.Empty = None
+still shapes home (cell.Empty k) = None
 still shapes home (cell.Object o) = Some (thing_in shapes home o)
 still shapes home (cell.List list) = Some (listed list)
 still shapes home (cell.Pairs pairs) = Some (thing.Pairs pairs)
+still shapes home (cell.Mutex owner) = Some (thing.Mutex owner)
 
 abbrev pub shaped_in : List Shape → Cell → Option Shape
-shaped_in shapes cell.Empty = None
+shaped_in shapes (cell.Empty k) = None
 shaped_in shapes (cell.Object o) = Some (shape_in shapes o)
 shaped_in shapes (cell.List list) = None
 shaped_in shapes (cell.Pairs pairs) = None
+shaped_in shapes (cell.Mutex owner) = None
 
 -- what stands at an id
 abbrev pub cell_at : ℕ → List Cell → Id → Option Cell
 cell_at thread cells id = if id.thread == thread then slice_get cells id.serial else None
 
--- the classes of the objects of a heap
-abbrev pub classes_of : List (Option Shape) → List (Option ℕ)
-classes_of shaped = map (option_map (λ (s : Shape). s.class)) shaped
+-- the class of an object, also of one that left
+abbrev pub class_in : List Shape → Cell → Option ℕ
+class_in shapes (cell.Empty class) = class
+class_in shapes (cell.Object o) = Some (shape_in shapes o).class
+class_in shapes (cell.List list) = None
+class_in shapes (cell.Pairs pairs) = None
+class_in shapes (cell.Mutex owner) = None
 
-abbrev pub home_by : ℕ → List (Option Shape) → Home
-home_by thread shaped = record { thread = thread; classes = classes_of shaped }
+abbrev pub home_by : ℕ → List Shape → List Cell → Home
+home_by thread shapes cells = record { thread = thread; classes = map (class_in shapes) cells }
 
 abbrev pub home_of : List Shape → Cells → Home
-home_of shapes cells = home_by cells.thread (map (shaped_in shapes) cells.items.items)
+home_of shapes cells = home_by cells.thread shapes cells.items.items
 
 abbrev pub IsKnown : List Shape → Cell → Type 0
-IsKnown shapes cell.Empty = Unit {0}
+IsKnown shapes (cell.Empty k) = Unit {0}
 IsKnown shapes (cell.Object o) = IsObject shapes o
 IsKnown shapes (cell.List list) = Unit {0}
 IsKnown shapes (cell.Pairs pairs) = Unit {0}
+IsKnown shapes (cell.Mutex owner) = Unit {0}
 
 abbrev pub AreKnown : List Shape → List Cell → Type 0
 AreKnown shapes cells = AllByRecursion (IsKnown shapes) cells
 
 abbrev pub IsCell : List Shape → Home → Cell → Type 0
-IsCell shapes home cell.Empty = Unit {0}
+IsCell shapes home (cell.Empty k) = Unit {0}
 IsCell shapes home (cell.Object o) = IsSound shapes home o
-IsCell shapes home (cell.List list) = IsWithin (listed list)
-IsCell shapes home (cell.Pairs pairs) = IsWithin (thing.Pairs pairs)
+IsCell shapes home (cell.List list) = IsWithin home.thread (listed list)
+IsCell shapes home (cell.Pairs pairs) = IsWithin home.thread (thing.Pairs pairs)
+IsCell shapes home (cell.Mutex owner) = IsWithin home.thread (thing.Mutex owner)
 
 abbrev pub AreSound : List Shape → Home → List Cell → Type 0
 AreSound shapes home cells = AllByRecursion (IsCell shapes home) cells

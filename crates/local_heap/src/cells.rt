@@ -17,9 +17,9 @@ ghost use Rattle.local_heap.specs.Cells.{AreKnown, CellDoes, CellRefuses, CellTa
 
 use crate::list::{self, List};
 use crate::object::Object;
-use crate::pairs;
 use crate::row::value_at;
 use crate::slot::Whose;
+use crate::{mutex, pairs};
 use ordered_pairs::OrderedPairs;
 use rb_model::{Act, Fault, Id, Immediate, Ref, Reply, Side, Sort, Value};
 use rb_tree::NameId;
@@ -30,24 +30,28 @@ use typed_location::{Any, from_any_word, from_int_word};
 /// What stands at a serial number.
 #[derive(Drop)]
 pub enum Cell {
-    /// No thing: number 0 is that of none.
-    Empty,
+    /// No thing: number 0 is that of none, and a thing that left stands here no more. The class of an object that left stays, for the
+    /// references to it.
+    Empty(Option<u32>),
     Object(Object),
     List(List),
     Pairs(OrderedPairs),
+    /// A mutex with the number of the thread that owns it.
+    Mutex(Option<u64>),
 }
 
 impl Cell {
-    /// Does what is asked of a thing, other than of its fields.
+    /// Does what a thread asks of a thing of its own, other than of its fields.
     #[inline(always)]
-    pub fn apply(&mut self, alloc: Global, act: Act) -> Result<Reply, AllocError>
-        ensures { CellDoes self.old (doing act) result self.new }
+    pub fn apply(&mut self, alloc: Global, thread: u64, act: Act) -> Result<Reply, AllocError>
+        ensures { CellDoes thread self.old (doing act) result self.new }
     {
         match self {
-            Cell::Empty => Err(AllocError),
+            Cell::Empty(_) => Err(AllocError),
             Cell::Object(_) => Ok(Reply::Failed(Fault::NoMethod)),
             Cell::List(list) => list::apply(list, act),
             Cell::Pairs(pairs) => pairs::apply(pairs, alloc, act),
+            Cell::Mutex(owner) => Ok(mutex::apply(owner, thread, act)),
         }
     }
 
@@ -104,10 +108,11 @@ impl Cell {
         ensures refused { result ≡ false → IfSome (value_told value) (λ v. CellRefuses self.old (Put index v)) }
     {
         match self {
-            Cell::Empty => false,
+            Cell::Empty(_) => false,
             Cell::Object(_) => false,
             Cell::List(list) => list::put_immediate(list, index, value),
             Cell::Pairs(_) => false,
+            Cell::Mutex(_) => false,
         }
     }
 
@@ -119,10 +124,11 @@ impl Cell {
         ensures refused { IfOk result (λ done. done ≡ false → IfSome (value_told value) (λ v. CellRefuses self.old (Push v))) }
     {
         match self {
-            Cell::Empty => Ok(false),
+            Cell::Empty(_) => Ok(false),
             Cell::Object(_) => Ok(false),
             Cell::List(list) => list::push_immediate(list, value),
             Cell::Pairs(_) => Ok(false),
+            Cell::Mutex(_) => Ok(false),
         }
     }
 
@@ -133,10 +139,11 @@ impl Cell {
         ensures does { CellTakes (value_told result) self.old (taking side) self.new }
     {
         match self {
-            Cell::Empty => Immediate::Other,
+            Cell::Empty(_) => Immediate::Other,
             Cell::Object(_) => Immediate::Other,
             Cell::List(list) => list::take_immediate(list, side),
             Cell::Pairs(_) => Immediate::Other,
+            Cell::Mutex(_) => Immediate::Other,
         }
     }
 
@@ -175,18 +182,19 @@ impl Cells {
         self.items.get(id.serial as usize)
     }
 
-    /// The class of the object at a serial number.
-    fn class_of<S: ShapeStore>(&self, shapes: &S, serial: u64) -> Option<u32>
+    /// The class of the object at a serial number, also of one that left.
+    pub fn class_of<S: ShapeStore>(&self, shapes: &S, serial: u64) -> Option<u32>
         requires { AreKnown (S.shapes shapes.now) self.now.items.items }
         ensures { result ≡ class_at (home_of (S.shapes shapes.now) self.now) serial }
     {
         match self.items.get(serial as usize) {
             None => None,
             Some(cell) => match cell {
-                Cell::Empty => None,
+                Cell::Empty(class) => *class,
                 Cell::Object(object) => Some(shapes.facts(object.shape).class),
                 Cell::List(_) => None,
                 Cell::Pairs(_) => None,
+                Cell::Mutex(_) => None,
             },
         }
     }

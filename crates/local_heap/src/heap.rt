@@ -1,7 +1,7 @@
 // The private heap.
 
 ghost use Rattle.std.specs.Prelude.{◌≡◌, [], IsSome, is_some, Some, IfOk, OnOk, OnErr};
-ghost use Rattle.rb_model.specs.Private.{Becomes, Gives, bare, entered, held, next_id};
+ghost use Rattle.rb_model.specs.Private.{Becomes, Gives, bare, entered, held, left, next_id};
 ghost use Rattle.rb_model.specs.Doing.{doing, said, made, seen, sort_of};
 ghost use Rattle.local_heap.specs.Memory.{MayWant};
 ghost use Rattle.local_heap.specs.Agreement.{AgreesAt};
@@ -48,7 +48,7 @@ impl<S: ShapeStore> LocalHeap<S> {
         ensures { IfOk result (λ heap. heap ≡ bare thread) }
     {
         let mut items = Vec::new(alloc);
-        items.push(Cell::Empty)?;
+        items.push(Cell::Empty(None))?;
         Ok(LocalHeap {
             alloc,
             shapes,
@@ -84,7 +84,8 @@ impl<S: ShapeStore> LocalHeap<S> {
                 Cell::Object(_) => true,
                 Cell::List(_) => true,
                 Cell::Pairs(_) => true,
-                Cell::Empty => false,
+                Cell::Mutex(_) => true,
+                Cell::Empty(_) => false,
             },
             None => false,
         }
@@ -103,6 +104,7 @@ impl<S: ShapeStore> LocalHeap<S> {
             Make::Elements(values) => self.make_list(values),
             Make::Filled(count, value) => self.make_filled(count, value),
             Make::Pairs(given) => self.make_pairs(given),
+            Make::Mutex => self.make_mutex(),
         }
     }
 
@@ -129,11 +131,21 @@ impl<S: ShapeStore> LocalHeap<S> {
     {
         match &self.cells.items[id.serial as usize] {
             // Never, as the thing is held.
-            Cell::Empty => Err(AllocError),
+            Cell::Empty(_) => Err(AllocError),
             Cell::Object(object) => self.cells.told(self.alloc, &self.shapes, object),
             Cell::List(list) => told_list(list),
             Cell::Pairs(pairs) => told_pairs(pairs, self.alloc),
+            Cell::Mutex(owner) => Ok(Thing::Mutex(*owner)),
         }
+    }
+
+    /// A thing leaves. References to it stay what they are. Takes no memory.
+    pub fn leave(&mut self, id: Id)
+        requires { IsSome (held self.old id) }
+        ensures { self.new ≡ left self.old id }
+    {
+        let class = self.cells.class_of(&self.shapes, id.serial);
+        self.cells.items[id.serial as usize] = Cell::Empty(class);
     }
 
     /// A law, which runs nothing: the shape of each object says of it what its fields say.
@@ -143,7 +155,8 @@ impl<S: ShapeStore> LocalHeap<S> {
         let _ = &self.cells;
     }
 
-    /// A law, which runs nothing: no list has more elements, and no hash more pairs, than it may have.
+    /// A law, which runs nothing: no list has more elements, and no hash more pairs, than it may have, no key of a hash stands twice, and a
+    /// mutex is owned by nobody or by the thread of the heap.
     pub fn things_are_within_limits(&self)
         ensures { (id : Id) → IsWithinAt self.now id }
     {

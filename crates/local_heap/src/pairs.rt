@@ -7,6 +7,7 @@ ghost use Rattle.rb_model.specs.Doing.{doing, pair, seen};
 ghost use Rattle.rb_model.specs.Things.{Pairs, gathered, gives, max_elements};
 ghost use Rattle.rb_model.specs.Immediates.{told_reply};
 ghost use Rattle.local_heap.specs.Contents.{Does, RefusesPair};
+ghost use Rattle.local_heap.specs.Limits.{AreKeysOnce};
 
 use crate::list::immediate_of;
 use ordered_pairs::{OrderedPairs, PutFault};
@@ -17,6 +18,7 @@ use std::alloc::{AllocError, Global};
 pub fn made(alloc: Global, given: Vec<(Value, Value)>) -> Result<OrderedPairs, AllocError>
     ensures pairs { IfOk result (λ pairs. pairs ≡ gathered (map pair given.items)) }
     ensures few { IfOk result (λ pairs. length pairs ≤ max_elements) }
+    ensures once { IfOk result AreKeysOnce }
 {
     OrderedPairs::from_vec(alloc, given)
 }

@@ -26,7 +26,8 @@ impl<S: ShapeStore> LocalHeap<S> {
         ensures err { OnErr result (self.new ≡ self.old) }
         ensures refused { OnErr result (MayWant self.old id (doing act)) }
     {
-        self.cells.items[id.serial as usize].apply(self.alloc, act)
+        let thread = self.cells.thread;
+        self.cells.items[id.serial as usize].apply(self.alloc, thread, act)
     }
 
     /// The value of a field.
@@ -39,10 +40,11 @@ impl<S: ShapeStore> LocalHeap<S> {
     {
         match &self.cells.items[id.serial as usize] {
             // Never, as the thing is held.
-            Cell::Empty => Err(AllocError),
+            Cell::Empty(_) => Err(AllocError),
             Cell::Object(object) => self.cells.give(&self.shapes, object, name),
             Cell::List(_) => Ok(Reply::Failed(Fault::NoMethod)),
             Cell::Pairs(_) => Ok(Reply::Failed(Fault::NoMethod)),
+            Cell::Mutex(_) => Ok(Reply::Failed(Fault::NoMethod)),
         }
     }
 
@@ -58,10 +60,11 @@ impl<S: ShapeStore> LocalHeap<S> {
         let whose = self.cells.whose(&self.shapes, &value);
         match &mut self.cells.items[id.serial as usize] {
             // Never, as the thing is held.
-            Cell::Empty => Err(AllocError),
+            Cell::Empty(_) => Err(AllocError),
             Cell::Object(object) => object.set(&mut self.shapes, name, value, whose),
             Cell::List(_) => Ok(no_method(value)),
             Cell::Pairs(_) => Ok(no_method(value)),
+            Cell::Mutex(_) => Ok(no_method(value)),
         }
     }
 }

@@ -78,9 +78,19 @@ impl<S: ShapeStore> LocalHeap<S> {
         self.enter(Cell::Pairs(pairs), Sort::Pairs)
     }
 
+    /// Makes a mutex that no thread owns.
+    pub(super) fn make_mutex(&mut self) -> Result<Ref, AllocError>
+        ensures id { IfOk result (λ thing. thing.id ≡ next_id self.old) }
+        ensures sort { IfOk result (λ thing. thing.sort ≡ Sort.Mutex) }
+        ensures private { OnOk result (self.new ≡ entered self.old (made Make.Mutex)) }
+        ensures err { OnErr result (self.new ≡ self.old) }
+    {
+        self.enter(Cell::Mutex(None), Sort::Mutex)
+    }
+
     /// Puts a thing that is no object behind the others.
     fn enter(&mut self, cell: Cell, sort: Sort) -> Result<Ref, AllocError>
-        requires { IsContents cell }
+        requires { IsContents self.old.thread cell }
         ensures id { IfOk result (λ thing. thing.id ≡ next_id self.old) }
         ensures sort { IfOk result (λ thing. thing.sort ≡ sort) }
         ensures private { OnOk result (option_map (entered self.old) (contents cell) ≡ Some self.new) }

@@ -1,6 +1,6 @@
 use Rattle.std.proofs.Common.{◌≡◌, rules, sym, to_z, of_z, w64, arith}
 use Rattle.local_heap.proofs.Adding.{Summed, no_object, sum_there}
-use Rattle.local_heap.proofs.Standing.{cell_there, fields_only}
+use Rattle.local_heap.proofs.Looking.{cell_there, fields_only}
 use Rattle.local_heap.proofs.heap.LocalHeap.add_to_field.Given as given
 use Rattle.local_heap.proofs.heap.LocalHeap.add_to_field.Goals as goal
 use Rattle.local_heap.proofs.heap.LocalHeap.add_to_field.Goals.{in-Object, in_default}

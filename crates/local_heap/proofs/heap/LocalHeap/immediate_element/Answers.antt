@@ -2,7 +2,7 @@ use Rattle.std.proofs.Common.{◌≡◌, ◌∙◌, ap, sym, rules, to_z, of_z, 
 use Rattle.std.specs.Option.{option_copied}
 use Rattle.rb_model.specs.Acts.{At}
 use Rattle.rb_model.specs.Immediates.{told_answer}
-use Rattle.local_heap.proofs.Standing.{none_there, reads_only, told_there}
+use Rattle.local_heap.proofs.Looking.{none_there, reads_only, told_there}
 use Rattle.local_heap.proofs.heap.LocalHeap.immediate_element.Goals as goal
 
 pub returns-in-Some-clause-told : goal.returns-in-Some-clause-told

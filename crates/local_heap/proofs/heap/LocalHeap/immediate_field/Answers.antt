@@ -1,6 +1,6 @@
 use Rattle.std.proofs.Common.{Some, ap, sym, refl, arith}
 use Rattle.local_heap.proofs.Adding.{is_sound}
-use Rattle.local_heap.proofs.Standing.{cell_there, field_told_there, fields_only, no_field_told_there}
+use Rattle.local_heap.proofs.Looking.{cell_there, field_told_there, fields_only, no_field_told_there}
 use Rattle.local_heap.proofs.heap.LocalHeap.immediate_field.Goals as goal
 
 pub immediate_field-requires-clause-sound : goal.immediate_field-requires-clause-sound

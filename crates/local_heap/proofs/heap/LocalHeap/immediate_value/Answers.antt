@@ -3,7 +3,7 @@ use Rattle.std.specs.Option.{option_copied}
 use Rattle.rb_model.specs.Acts.{KGet}
 use Rattle.rb_model.specs.Values.{plain}
 use Rattle.rb_model.specs.Immediates.{told_answer}
-use Rattle.local_heap.proofs.Standing.{looks_only, none_there, value_told_there}
+use Rattle.local_heap.proofs.Looking.{looks_only, none_there, value_told_there}
 use Rattle.local_heap.proofs.heap.LocalHeap.immediate_value.Goals as goal
 
 pub returns-in-Some-clause-told : goal.returns-in-Some-clause-told

@@ -1,7 +1,7 @@
 use Rattle.std.proofs.Common.{ap, sym}
 use Rattle.std.specs.Option.{option_copied}
 use Rattle.local_heap.specs.Contents.{has_length}
-use Rattle.local_heap.proofs.Standing.{counts_only, counts_there, none_there}
+use Rattle.local_heap.proofs.Looking.{counts_only, counts_there, none_there}
 use Rattle.local_heap.proofs.heap.LocalHeap.length.Goals as goal
 
 pub returns-in-Some-clause-value : goal.returns-in-Some-clause-value

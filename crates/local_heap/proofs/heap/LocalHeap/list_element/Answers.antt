@@ -2,7 +2,7 @@ use Rattle.std.proofs.Common.{◌≡◌, ◌∙◌, ap, sym, rules, to_z, of_z, 
 use Rattle.std.specs.Option.{option_copied}
 use Rattle.rb_model.specs.Acts.{At}
 use Rattle.rb_model.specs.Immediates.{list_answered}
-use Rattle.local_heap.proofs.Standing.{none_there, reads_only, list_told_there}
+use Rattle.local_heap.proofs.Looking.{none_there, reads_only, list_told_there}
 use Rattle.local_heap.proofs.heap.LocalHeap.list_element.Goals as goal
 
 pub returns-in-Some-clause-list : goal.returns-in-Some-clause-list

@@ -1,4 +1,4 @@
-use Rattle.std.proofs.Common.{◌∙◌, ◌≡◌, List, ◌++◌, ◌∷◌, [], ap}
+use Rattle.std.proofs.Common.{◌∙◌, ◌≡◌, List, ◌++◌, ◌∷◌, [], ap, refl}
 use Rattle.local_heap.specs.declared.cells.Cell.{Cell}
 use Rattle.local_heap.specs.declared.cells.Cell.TheVariants as cell
 use Rattle.local_heap.proofs.Objects.{always_err}
@@ -12,6 +12,11 @@ pushed : (g : Over) (c : goal.After-push_reserved g)
 pushed g c =
     c.push_reserved.ensures.items
     ∙ ap (λ (cs : List Cell). cs ++ cell.Object (record { shape = c.in_ok-shape.shape; words = c.new.result; whole = c.new-2.result }) ∷ []) c.reserve.ensures.items
+
+pub invariant_of-self : goal.invariant_of-self
+invariant_of-self g c =
+    same_cells c.self.inside.cells.thread (g.S.ShapeStore.shapes c.self.inside.shapes) c.self.inside.cells.items.items (g.S.ShapeStore.shapes c.self.inside.shapes) c.reserve.new.self.items
+    c.self.invariant refl c.reserve.ensures.items
 
 pub invariant_of-self-2 : goal.invariant_of-self-2
 invariant_of-self-2 g c =

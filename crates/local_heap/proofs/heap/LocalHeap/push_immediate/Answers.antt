@@ -5,7 +5,7 @@ use Rattle.local_heap.specs.Memory.{NotAtOnce}
 use Rattle.local_heap.specs.Contents.{was_done}
 use Rattle.local_heap.specs.Cells.{CellRefuses}
 use Rattle.local_heap.proofs.AtOnce.{ok_each}
-use Rattle.local_heap.proofs.Standing.{cell_there, refused_there, write_gives, write_kept, write_private, write_there, write_told, write_whole}
+use Rattle.local_heap.proofs.Looking.{cell_there, refused_there, write_gives, write_kept, write_private, write_there, write_told, write_whole}
 use Rattle.local_heap.proofs.heap.LocalHeap.push_immediate.Goals as goal
 
 pub invariant_of-self : goal.invariant_of-self

@@ -4,7 +4,7 @@ use Rattle.rb_model.specs.Immediates.{value_told}
 use Rattle.local_heap.specs.Memory.{NotAtOnce}
 use Rattle.local_heap.specs.Cells.{CellRefuses}
 use Rattle.local_heap.proofs.AtOnce.{some_each}
-use Rattle.local_heap.proofs.Standing.{cell_there, refused_there, write_gives, write_kept, write_private, write_there, write_told, write_whole}
+use Rattle.local_heap.proofs.Looking.{cell_there, refused_there, write_gives, write_kept, write_private, write_there, write_told, write_whole}
 use Rattle.local_heap.proofs.heap.LocalHeap.put_immediate.Goals as goal
 
 pub invariant_of-self : goal.invariant_of-self

@@ -56,3 +56,12 @@ returns-in-Pairs-clause-reply g c =
 pub returns-in-Pairs-clause-private : goal.returns-in-Pairs-clause-private
 returns-in-Pairs-clause-private g c =
     unchanged c.self.inside.cells.thread (g.S.ShapeStore.shapes c.self.inside.shapes) c.self.inside.cells.items.items c.args.self.now c.self.view_is c.self.invariant c.args.id c.requires c.index.result.now c.index.ensures _ (ap contents c.in-Pairs.is) (GetField c.args.name) refl
+
+pub returns-in-Mutex-clause-reply : goal.returns-in-Mutex-clause-reply
+returns-in-Mutex-clause-reply g c =
+    λ thing here. ap (λ (t : Thing). gives_to c.args.self.now.thread t (GetField c.args.name))
+    (is_thing c.self.inside.cells.thread (g.S.ShapeStore.shapes c.self.inside.shapes) c.self.inside.cells.items.items c.args.self.now c.self.view_is c.self.invariant c.args.id c.requires c.index.result.now c.index.ensures _ (ap contents c.in-Mutex.is) thing here)
+
+pub returns-in-Mutex-clause-private : goal.returns-in-Mutex-clause-private
+returns-in-Mutex-clause-private g c =
+    unchanged c.self.inside.cells.thread (g.S.ShapeStore.shapes c.self.inside.shapes) c.self.inside.cells.items.items c.args.self.now c.self.view_is c.self.invariant c.args.id c.requires c.index.result.now c.index.ensures _ (ap contents c.in-Mutex.is) (GetField c.args.name) refl

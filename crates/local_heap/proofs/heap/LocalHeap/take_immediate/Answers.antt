@@ -1,6 +1,6 @@
 use Rattle.std.proofs.Common.{◌∙◌, ap, arith}
 use Rattle.rb_model.specs.Immediates.{taking, value_told}
-use Rattle.local_heap.proofs.Standing.{cell_there, take_kept, take_private, take_whole, taken_told_there}
+use Rattle.local_heap.proofs.Looking.{cell_there, take_kept, take_private, take_whole, taken_told_there}
 use Rattle.local_heap.proofs.heap.LocalHeap.take_immediate.Goals as goal
 
 pub invariant_of-self : goal.invariant_of-self

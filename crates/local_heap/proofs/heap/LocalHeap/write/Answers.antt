@@ -99,5 +99,19 @@ returns-in-Pairs-clause-private g c =
     kept_private c.self.inside.cells.thread (g.S.ShapeStore.shapes c.self.inside.shapes) c.self.inside.cells.items.items c.args.self.now c.self.view_is c.self.invariant c.args.id c.requires c.index_mut.result.now c.index_mut.ensures.value
     ∙ unchanged c.self.inside.cells.thread (g.S.ShapeStore.shapes c.self.inside.shapes) c.self.inside.cells.items.items c.args.self.now c.self.view_is c.self.invariant c.args.id c.requires c.index_mut.result.now c.index_mut.ensures.value _ (ap contents c.in-Pairs.is) (SetField c.args.name (plain c.args.value)) refl thing here
 
+pub invariant_of-self-in-Mutex : goal.invariant_of-self-in-Mutex
+invariant_of-self-in-Mutex g c = kept_whole c.self.inside.cells.thread (g.S.ShapeStore.shapes c.self.inside.shapes) c.self.inside.cells.items.items c.args.self.now c.self.view_is c.self.invariant c.args.id c.requires c.index_mut.result.now c.index_mut.ensures.value
+
+pub returns-in-Mutex-clause-reply : goal.returns-in-Mutex-clause-reply
+returns-in-Mutex-clause-reply g c =
+    λ thing here. c.no_method-in-Mutex.ensures ∙ ap (λ (t : Thing). gives_to c.args.self.now.thread t (SetField c.args.name (plain c.args.value)))
+    (is_thing c.self.inside.cells.thread (g.S.ShapeStore.shapes c.self.inside.shapes) c.self.inside.cells.items.items c.args.self.now c.self.view_is c.self.invariant c.args.id c.requires c.index_mut.result.now c.index_mut.ensures.value _ (ap contents c.in-Mutex.is) thing here)
+
+pub returns-in-Mutex-clause-private : goal.returns-in-Mutex-clause-private
+returns-in-Mutex-clause-private g c =
+    λ thing here.
+    kept_private c.self.inside.cells.thread (g.S.ShapeStore.shapes c.self.inside.shapes) c.self.inside.cells.items.items c.args.self.now c.self.view_is c.self.invariant c.args.id c.requires c.index_mut.result.now c.index_mut.ensures.value
+    ∙ unchanged c.self.inside.cells.thread (g.S.ShapeStore.shapes c.self.inside.shapes) c.self.inside.cells.items.items c.args.self.now c.self.view_is c.self.invariant c.args.id c.requires c.index_mut.result.now c.index_mut.ensures.value _ (ap contents c.in-Mutex.is) (SetField c.args.name (plain c.args.value)) refl thing here
+
 pub returns-in-Empty-clause-refused : goal.returns-in-Empty-clause-refused
-returns-in-Empty-clause-refused g c = absurd (not_empty c.self.inside.cells.thread (g.S.ShapeStore.shapes c.self.inside.shapes) c.self.inside.cells.items.items c.args.self.now c.self.view_is c.self.invariant c.args.id c.requires c.index_mut.result.now c.index_mut.ensures.value c.in-Empty.is)
+returns-in-Empty-clause-refused g c = absurd (not_empty c.self.inside.cells.thread (g.S.ShapeStore.shapes c.self.inside.shapes) c.self.inside.cells.items.items c.args.self.now c.self.view_is c.self.invariant c.args.id c.requires c.index_mut.result.now c.index_mut.ensures.value _ c.in-Empty.is)

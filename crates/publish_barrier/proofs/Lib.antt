@@ -1,0 +1,9 @@
+pub mod Keyed
+pub mod Leaving
+pub mod Lawful
+pub mod Rows
+pub mod May
+pub mod Committing
+pub mod Spreading
+pub mod Absence
+pub mod Ending

@@ -1,0 +1,13 @@
+use Rattle.std.proofs.Common.{◌-◌, [], length}
+use Rattle.rb_model.specs.declared.value.Value.{Value as Held}
+use Rattle.rb_model.specs.Values.{Value as Val, plain}
+use Rattle.rb_model.specs.Moving.{refs_in_all}
+use Rattle.publish_barrier.proofs.Rows.{PlacedRows}
+use Rattle.publish_barrier.proofs.arguments.place_arguments.Given as goal
+
+-- nothing waits
+abbrev pub invariant-values : goal.invariant-values
+invariant-values l = PlacedRows Held Val plain (λ vs. []) refs_in_all l.places.places l.fn.values.items l.values.items [] [] l.at
+
+abbrev pub decreases-values : goal.decreases-values
+decreases-values l = length l.values.items - l.at
