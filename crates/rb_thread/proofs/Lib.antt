@@ -1,0 +1,15 @@
+pub mod Lines
+pub mod Entries
+pub mod Sounding
+pub mod Keeping
+pub mod Starting
+pub mod Tails
+pub mod Causes
+pub mod Closing
+pub mod Noting
+pub mod Outward
+pub mod Asking
+pub mod Serving
+pub mod Gathering
+pub mod Owning
+pub mod Begun

@@ -1,0 +1,9 @@
+use Rattle.std.proofs.Common.{refl, ap}
+use Rattle.rb_thread.specs.Kins.{kin}
+use Rattle.rb_thread.proofs.Lines.{got_map}
+use Rattle.rb_thread.proofs.kids.Kids.is_waiting.Goals as goal
+
+pub returns : goal.returns
+returns g c =
+    let x = c.index.result.now in
+    (kin x.number x.thing x.child x.gathered, got_map (λ x. kin x.number x.thing x.child x.gathered) c.self.inside.items.items c.args.self.now.0 c.args.place x (ap (λ y. y.0) c.self.view_is) c.requires c.index.ensures, refl)

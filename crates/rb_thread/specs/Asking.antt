@@ -1,0 +1,44 @@
+-- Words on calls and answers.
+use Rattle.std.specs.Prelude.{◌≡◌, ℕ, Bool, true, false, Option, Some, None}
+use Rattle.rb_model.specs.declared.value.Ref.{Ref}
+use Rattle.rb_model.specs.declared.act.Reply.TheVariants as reply
+use Rattle.rb_model.specs.declared.call.End.{End as HeldEnd}
+use Rattle.rb_model.specs.declared.call.Call.{Call as Held}
+use Rattle.rb_model.specs.declared.call.Call.TheVariants as held
+use Rattle.rb_model.specs.declared.call.Answer.{Answer as Printed}
+use Rattle.rb_model.specs.declared.call.Answer.TheVariants as printed
+use Rattle.rb_model.specs.Acts.{Act, Join}
+use Rattle.rb_shared.specs.declared.answer.Answer.{Answer}
+use Rattle.rb_thread.specs.declared.job.Job.{Job}
+use Rattle.rb_shared.specs.declared.answer.Answer.TheVariants as answer
+
+abbrev pub is_join : Act → Bool
+is_join Join = true
+is_join act = false
+
+-- whether the end of a thread is told
+abbrev pub tells_end : Answer → Bool
+tells_end (answer.Done (reply.Ended how)) = true
+tells_end a = false
+
+-- the number and the thing of the thread that was started
+abbrev pub number_in : Answer → Option (ℕ × Ref)
+number_in (answer.Done (reply.Started number thread)) = Some (number, thread)
+number_in a = None
+
+-- the end of a thread that is told
+abbrev pub ended_in : Answer → Option HeldEnd
+ended_in (answer.Done (reply.Ended how)) = Some how
+ended_in a = None
+
+-- what a print is answered, which is never that the shared heap is full
+abbrev pub printed_as : Answer → Printed
+printed_as (answer.Done r) = printed.Done
+printed_as (answer.Full used wanted) = printed.Memory
+printed_as answer.SinkFailed = printed.SinkFailed
+printed_as answer.Memory = printed.Memory
+
+-- the job that a call hands over to the thread that it starts
+abbrev pub IsJobIn : Held → ℕ → Option Job → Type 0
+IsJobIn (held.Start id body values) number o = o ≡ Some (record { number = number; body = body; values = values })
+IsJobIn call number o = o ≡ None

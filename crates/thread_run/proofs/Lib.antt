@@ -1,0 +1,4 @@
+pub mod Cutting
+pub mod Telling
+pub mod Blames
+pub mod Running
