@@ -6,3 +6,4 @@ pub mod Completing
 pub mod Wording
 pub mod Shaping
 pub mod Showing
+pub mod Threads

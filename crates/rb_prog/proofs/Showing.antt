@@ -4,11 +4,9 @@ use Rattle.rb_tree.specs.declared.node.Program.{Program}
 use Rattle.rb_edge.specs.Edge.{Held, Adds, Told}
 use Rattle.rb_edge.specs.Transfer.{ReadOf}
 use Rattle.rb_model.specs.Values.{Value}
-use Rattle.rb_model.specs.Log.{Log}
 use Rattle.rb_model.specs.Ends.{End}
 use Rattle.rb_model.specs.Ends as ending
 use Rattle.shape_core.specs.Shape.{Shape}
-use Rattle.rb_run.specs.Run.{IsRunOf}
 use Rattle.rb_prog.specs.declared.source.Unaccepted.{Unaccepted}
 use Rattle.rb_prog.specs.declared.source.Unaccepted.TheVariants as unaccepted
 use Rattle.rb_prog.specs.declared.top.Valued.{Valued}
@@ -16,6 +14,7 @@ use Rattle.rb_prog.specs.Accepting.{rejected_status}
 use Rattle.rb_prog.specs.Remarks.{Text, end_line, memory_line}
 use Rattle.rb_prog.specs.Shapes.{shape_lines, TellsLines, all, sink_failed, out_of_memory}
 use Rattle.rb_prog.specs.Run as run
+use Rattle.rb_prog.specs.Shown.{Shown, IsShown}
 use Rattle.rb_prog.specs.Run.{Accepts, HasValue, Shows, as_run, with_lines, IsOwnOrMemory}
 use Rattle.rb_prog.proofs.Adding.{adds_then, adds_none}
 
@@ -40,6 +39,11 @@ lines_not_usage old new lines _ _ (all told) e = cc
 lines_not_usage old new lines _ _ (sink_failed cut) e = cc
 lines_not_usage old new lines _ _ (out_of_memory cut) e = cc
 
+pub lines_not_full : (old new : Option Text) (lines : List Text) (status : ℕ) (line : Text) → TellsLines old new lines status line → status ≡ 7 → ⊥
+lines_not_full old new lines _ _ (all told) e = cc
+lines_not_full old new lines _ _ (sink_failed cut) e = cc
+lines_not_full old new lines _ _ (out_of_memory cut) e = cc
+
 -- ---- what is left of a run that came to a value
 
 -- what `value_left` says of it
@@ -47,17 +51,17 @@ abbrev Left : End → Program → List Shape → Valued → Type 0
 Left how program shapes left = (value : Value) × (how ≡ ending.Value value) × (left.program ≡ program) × (left.shapes ≡ shapes)
 
 -- what is said of it where its source is known
-abbrev LeftOf : List ℕ → ℕ → Option Text → Option Text → Option Log → Valued → Type 0
-LeftOf source steps old new front left = (log : Log) × (value : Value) × (front ≡ Some log) × Accepts source left.program
-    × IsRunOf left.program steps old new log (ending.Value value) left.shapes
+abbrev LeftOf : List ℕ → ℕ → Option Text → Option Text → Option Shown → Valued → Type 0
+LeftOf source steps old new front left = (history : Shown) × (value : Value) × (front ≡ Some history) × Accepts source left.program
+    × IsShown left.program steps old new history (ending.Value value) left.shapes
 
-pub left_of : (found : Option Valued) (source : List ℕ) (steps : ℕ) (old new : Option Text) (log : Log) (how : End) (program : Program) (shapes : List Shape)
-    → Accepts source program → IsRunOf program steps old new log how shapes → IfSome found (Left how program shapes) → IfSome found (LeftOf source steps old new (Some log))
-left_of None source steps old new log how program shapes accepted run left = tt
-left_of (Some found) source steps old new log how program shapes accepted run left =
-    let shaped = subst (λ (s : List Shape). IsRunOf program steps old new log how s) (sym left.3) run in
-    let ended = subst (λ (e : End). IsRunOf program steps old new log e found.shapes) left.1 shaped in
-    (log, left.0, refl, subst (Accepts source) (sym left.2) accepted, subst (λ (p : Program). IsRunOf p steps old new log (ending.Value left.0) found.shapes) (sym left.2) ended)
+pub left_of : (found : Option Valued) (source : List ℕ) (steps : ℕ) (old new : Option Text) (history : Shown) (how : End) (program : Program) (shapes : List Shape)
+    → Accepts source program → IsShown program steps old new history how shapes → IfSome found (Left how program shapes) → IfSome found (LeftOf source steps old new (Some history))
+left_of None source steps old new history how program shapes accepted run left = tt
+left_of (Some found) source steps old new history how program shapes accepted run left =
+    let shaped = subst (λ (s : List Shape). IsShown program steps old new history how s) (sym left.3) run in
+    let ended = subst (λ (e : End). IsShown program steps old new history e found.shapes) left.1 shaped in
+    (history, left.0, refl, subst (Accepts source) (sym left.2) accepted, subst (λ (p : Program). IsShown p steps old new history (ending.Value left.0) found.shapes) (sym left.2) ended)
 
 -- nothing is said of a value
 pub quiet : (found : Option Valued) (how : End) (program : Program) (shapes : List Shape) (source : List ℕ) (steps : ℕ) (a b : Option Text) (rose : Type 0)
@@ -65,9 +69,9 @@ pub quiet : (found : Option Valued) (how : End) (program : Program) (shapes : Li
 quiet None how program shapes source steps a b rose left told some = let e : false ≡ true = some in absurd (cc)
 quiet (Some found) how program shapes source steps a b rose left told some = told_nothing a b rose (subst (λ (e : End). Told a b (end_line source steps e) rose) left.1 told)
 
-pub value_of : (found : Option Valued) (held : Held) (source : List ℕ) (steps : ℕ) (old new : Option Text) (front : Option Log)
+pub value_of : (found : Option Valued) (held : Held) (source : List ℕ) (steps : ℕ) (old new : Option Text) (front : Option Shown)
     → ReadOf held source → IfSome found (LeftOf source steps old new front)
-    → IfSome found (λ (left : Valued). (log : Log) × (front ≡ Some log) × HasValue held steps old new log left.program left.shapes)
+    → IfSome found (λ (left : Valued). (history : Shown) × (front ≡ Some history) × HasValue held steps old new history left.program left.shapes)
 value_of None held source steps old new front read left = tt
 value_of (Some found) held source steps old new front read left =
     (left.0, left.2, record { bytes = source; read = read; accepted = left.3; value = left.1; run = left.4 })
@@ -78,11 +82,11 @@ rejected_not_0 unaccepted.Memory e = cc
 
 -- ---- what `shapes` answers
 
-pub shows_value : (held : Held) (read_failed : Type 0) (steps : ℕ) (old between new : Option Text) (program : Program) (shapes : List Shape) (status : ℕ) (front behind : Option Log) (line : Text)
-    → ((log : Log) × (front ≡ Some log) × HasValue held steps old between log program shapes) → behind ≡ front → TellsLines between new (shape_lines program shapes) status line
+pub shows_value : (held : Held) (read_failed : Type 0) (steps : ℕ) (old between new : Option Text) (program : Program) (shapes : List Shape) (status : ℕ) (front behind : Option Shown) (line : Text)
+    → ((history : Shown) × (front ≡ Some history) × HasValue held steps old between history program shapes) → behind ≡ front → TellsLines between new (shape_lines program shapes) status line
     → Shows held read_failed steps old new status behind line
-shows_value held read_failed steps old between new program shapes status front behind line (log, is, has) same lines =
-    subst (λ (f : Option Log). Shows held read_failed steps old new status f line) (sym (same ∙ is)) (with_lines has lines)
+shows_value held read_failed steps old between new program shapes status front behind line (history, is, has) same lines =
+    subst (λ (f : Option Shown). Shows held read_failed steps old new status f line) (sym (same ∙ is)) (with_lines has lines)
 
 -- memory was wanted before anything was read
 pub shows_no_memory : (held : Held) (read_failed : Type 0) (steps : ℕ) (told : Option Text) → Shows held read_failed steps told told 8 None memory_line

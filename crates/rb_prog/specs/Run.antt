@@ -17,9 +17,8 @@ use Rattle.rb_edge.specs.Transfer.{ReadOf, NotHeld}
 use Rattle.rb_model.specs.Values.{Value}
 use Rattle.rb_model.specs.Ends.{End}
 use Rattle.rb_model.specs.Ends as ending
-use Rattle.rb_model.specs.Log.{Log}
 use Rattle.shape_core.specs.Shape.{Shape}
-use Rattle.rb_run.specs.Run.{IsRunOf}
+use Rattle.rb_prog.specs.Shown.{Shown, IsShown}
 use Rattle.rb_prog.specs.declared.refusal.Refusal.{Refusal}
 use Rattle.rb_prog.specs.declared.refusal.Refusal.TheVariants as refusal
 use Rattle.rb_prog.specs.Remarks.{refusal_line, end_line, memory_line, missing_line, failed_line}
@@ -67,16 +66,16 @@ IsOwnOrMemory status = (status ≡ 0) ⊎ ((status ≡ 1) ⊎ ((status ≡ 6) �
 
 -- What a run of a source with so many steps answers, by what the sink told before and tells now: the status, the history that is
 -- shown, and the line that goes to standard error.
-pub data RunsSource (source : List ℕ) (steps : ℕ) (old new : Option (List ℕ)) : ℕ → Option Log → List ℕ → Type 0 where
+pub data RunsSource (source : List ℕ) (steps : ℕ) (old new : Option (List ℕ)) : ℕ → Option Shown → List ℕ → Type 0 where
   -- the source is a program, and the history is a run of it, which ended so
-  shown : {program : Program} {log : Log} {how : End} {shapes : List Shape} → Accepts source program → IsRunOf program steps old new log how shapes
-      → RunsSource source steps old new (status_of how) (Some log) (end_line source steps how)
+  shown : {program : Program} {history : Shown} {how : End} {shapes : List Shape} → Accepts source program → IsShown program steps old new history how shapes
+      → RunsSource source steps old new (status_of how) (Some history) (end_line source steps how)
   refused : {why : Refusal} → RefusedBy source why → IsRefused source → Adds old new [] → RunsSource source steps old new 3 None (refusal_line source why)
   out_of_memory : Adds old new [] → RunsSource source steps old new 8 None memory_line
 
 -- What a run of a path answers, by what is held under it and whether a read failed.
-pub data Runs (held : Held) (read_failed : Type 0) (steps : ℕ) (old new : Option (List ℕ)) : ℕ → Option Log → List ℕ → Type 0 where
-  read : {bytes : List ℕ} {status : ℕ} {front : Option Log} {line : List ℕ} → ReadOf held bytes → RunsSource bytes steps old new status front line
+pub data Runs (held : Held) (read_failed : Type 0) (steps : ℕ) (old new : Option (List ℕ)) : ℕ → Option Shown → List ℕ → Type 0 where
+  read : {bytes : List ℕ} {status : ℕ} {front : Option Shown} {line : List ℕ} → ReadOf held bytes → RunsSource bytes steps old new status front line
       → Runs held read_failed steps old new status front line
   missing : NotHeld held → Adds old new [] → Runs held read_failed steps old new 4 None missing_line
   failed : read_failed → Adds old new [] → Runs held read_failed steps old new 4 None failed_line
@@ -84,18 +83,18 @@ pub data Runs (held : Held) (read_failed : Type 0) (steps : ℕ) (old new : Opti
 
 -- A run of a path came to a value: what was read is a program, and the history is a run of it; the shapes are those that the main
 -- thread's objects have had.
-pub record HasValue (held : Held) (steps : ℕ) (old new : Option (List ℕ)) (log : Log) (program : Program) (shapes : List Shape) : Type 0 where
+pub record HasValue (held : Held) (steps : ℕ) (old new : Option (List ℕ)) (history : Shown) (program : Program) (shapes : List Shape) : Type 0 where
   pub bytes : List ℕ
   pub read : ReadOf held bytes
   pub accepted : Accepts bytes program
   pub value : Value
-  pub run : IsRunOf program steps old new log (ending.Value value) shapes
+  pub run : IsShown program steps old new history (ending.Value value) shapes
 
 -- What `shapes` answers to a path: where no run came to a value, what a run answers; and else the lines of the shapes stand behind
 -- what the run printed.
-pub data Shows (held : Held) (read_failed : Type 0) (steps : ℕ) (old new : Option (List ℕ)) : ℕ → Option Log → List ℕ → Type 0 where
-  as_run : {status : ℕ} {front : Option Log} {line : List ℕ} → (status ≡ 0 → ⊥) → Runs held read_failed steps old new status front line
+pub data Shows (held : Held) (read_failed : Type 0) (steps : ℕ) (old new : Option (List ℕ)) : ℕ → Option Shown → List ℕ → Type 0 where
+  as_run : {status : ℕ} {front : Option Shown} {line : List ℕ} → (status ≡ 0 → ⊥) → Runs held read_failed steps old new status front line
       → Shows held read_failed steps old new status front line
-  with_lines : {between : Option (List ℕ)} {log : Log} {program : Program} {shapes : List Shape} {status : ℕ} {line : List ℕ}
-      → HasValue held steps old between log program shapes → TellsLines between new (shape_lines program shapes) status line
-      → Shows held read_failed steps old new status (Some log) line
+  with_lines : {between : Option (List ℕ)} {history : Shown} {program : Program} {shapes : List Shape} {status : ℕ} {line : List ℕ}
+      → HasValue held steps old between history program shapes → TellsLines between new (shape_lines program shapes) status line
+      → Shows held read_failed steps old new status (Some history) line

@@ -12,9 +12,10 @@ use crate::{Report, run};
 use rb_edge::{Gate, MemoryFiles, MemorySink, OpenGate};
 use rb_tree::{Items, Text};
 use std::alloc::{AllocError, Global};
-use std::sync::Arc;
 use std::sync::atomic::{AtomicU64, Ordering};
+use std::sync::{Arc, Wait};
 use std::test::Fail;
+use std::thread::Threads;
 
 /// Enough for what the scripts here print.
 const ROOM: usize = 65_536;
@@ -43,7 +44,8 @@ struct Outcome {
 }
 
 /// A run of words over files, with writes to `out` and to `err` that fail at the listed numbers.
-fn ran_over(
+fn ran_over<R: Threads + Wait + Sync>(
+    rt: &R,
     alloc: Global,
     texts: &[&str],
     files: &mut MemoryFiles,
@@ -54,24 +56,29 @@ fn ran_over(
     let out = MemorySink::new(alloc, failing, ROOM)?;
     let mut err = MemorySink::new(alloc, err_failing, ROOM)?;
     let gate = Arc::new(alloc, OpenGate {})?;
-    let report = run(alloc, words.as_slice(), files, out, &mut err, gate);
+    let report = run(rt, alloc, words.as_slice(), files, out, &mut err, gate);
     Ok(Outcome { report, err })
 }
 
 /// A run of words over files, with writes to `out` that fail at the listed numbers.
-fn ran(
+fn ran<R: Threads + Wait + Sync>(
+    rt: &R,
     alloc: Global,
     texts: &[&str],
     files: &mut MemoryFiles,
     failing: Vec<u64>,
 ) -> Result<Outcome, Fail> {
-    ran_over(alloc, texts, files, failing, Vec::new(alloc))
+    ran_over(rt, alloc, texts, files, failing, Vec::new(alloc))
 }
 
 /// A run of a source with nothing that fails.
-fn ran_source(alloc: Global, source: &[u8]) -> Result<Outcome, Fail> {
+fn ran_source<R: Threads + Wait + Sync>(
+    rt: &R,
+    alloc: Global,
+    source: &[u8],
+) -> Result<Outcome, Fail> {
     let mut files = script(alloc, source, Vec::new(alloc))?;
-    ran(alloc, &["run", "a.rb"], &mut files, Vec::new(alloc))
+    ran(rt, alloc, &["run", "a.rb"], &mut files, Vec::new(alloc))
 }
 
 #[test]
@@ -90,7 +97,7 @@ fn words_other_than_those_of_a_run_are_status_2(rt: HostRuntime) -> Result<(), F
     ];
     for texts in all {
         let mut files = script(alloc, b"puts 1", Vec::new(alloc))?;
-        let Outcome { report, err } = ran(alloc, texts, &mut files, Vec::new(alloc))?;
+        let Outcome { report, err } = ran(&rt, alloc, texts, &mut files, Vec::new(alloc))?;
         assert_eq!(rt; report.status, 2);
         assert!(rt; report.out.bytes().is_empty());
         assert_eq!(rt; err.bytes(), b"rbso: usage\n".as_slice());
@@ -108,7 +115,7 @@ fn options_may_stand_beside_the_file(rt: HostRuntime) -> Result<(), Fail> {
     ];
     for texts in all {
         let mut files = script(alloc, b"puts 1", Vec::new(alloc))?;
-        let Outcome { report, err } = ran(alloc, texts, &mut files, Vec::new(alloc))?;
+        let Outcome { report, err } = ran(&rt, alloc, texts, &mut files, Vec::new(alloc))?;
         assert_eq!(rt; report.status, 0);
         assert_eq!(rt; report.out.bytes(), b"1\n".as_slice());
         assert!(rt; err.bytes().is_empty());
@@ -120,7 +127,13 @@ fn options_may_stand_beside_the_file(rt: HostRuntime) -> Result<(), Fail> {
 fn a_missing_file_and_a_failing_read_are_status_4(rt: HostRuntime) -> Result<(), Fail> {
     let alloc = rt.alloc();
     let mut files = script(alloc, b"puts 1", Vec::new(alloc))?;
-    let Outcome { report, err } = ran(alloc, &["run", "none.rb"], &mut files, Vec::new(alloc))?;
+    let Outcome { report, err } = ran(
+        &rt,
+        alloc,
+        &["run", "none.rb"],
+        &mut files,
+        Vec::new(alloc),
+    )?;
     assert_eq!(rt; report.status, 4);
     assert_eq!(rt; err.bytes(), b"rbso: source missing\n".as_slice());
     // The script is read in two calls, the second of which finds its end.
@@ -130,7 +143,13 @@ fn a_missing_file_and_a_failing_read_are_status_4(rt: HostRuntime) -> Result<(),
         (3, 0, ""),
     ] {
         let mut files = script(alloc, b"puts 1", vec![in alloc; failing]?)?;
-        let Outcome { report, err } = ran(alloc, &["run", "a.rb"], &mut files, Vec::new(alloc))?;
+        let Outcome { report, err } = ran(
+            &rt,
+            alloc,
+            &["run", "a.rb"],
+            &mut files,
+            Vec::new(alloc),
+        )?;
         assert_eq!(rt; report.status, status);
         assert_eq!(rt; err.bytes(), line.as_bytes());
     }
@@ -149,7 +168,7 @@ fn a_failing_write_ends_the_run_behind_the_prints_before_it(rt: HostRuntime) -> 
     for (failing, output, status, line) in runs {
         let mut files = script(alloc, b"puts 1\nputs 2\nputs 3", Vec::new(alloc))?;
         let failing = vec![in alloc; failing]?;
-        let Outcome { report, err } = ran(alloc, &["run", "a.rb"], &mut files, failing)?;
+        let Outcome { report, err } = ran(&rt, alloc, &["run", "a.rb"], &mut files, failing)?;
         assert_eq!(rt; report.status, status);
         assert_eq!(rt; report.out.bytes(), output.as_bytes());
         assert_eq!(rt; err.bytes(), line.as_bytes());
@@ -177,6 +196,7 @@ fn a_failing_write_to_err_cuts_the_line_alone(rt: HostRuntime) -> Result<(), Fai
         let mut files = script(alloc, source.as_bytes(), Vec::new(alloc))?;
         let failing = vec![in alloc; failing]?;
         let Outcome { report, err } = ran_over(
+            &rt,
             alloc,
             &["run", "a.rb"],
             &mut files,
@@ -200,7 +220,7 @@ fn a_source_has_at_most_1048576_bytes(rt: HostRuntime) -> Result<(), Fail> {
         (1_100_000, 3, "rbso: refused 6 TooLarge\n"),
     ] {
         let source = vec![in alloc; b' '; size]?;
-        let Outcome { report, err } = ran_source(alloc, source.as_slice())?;
+        let Outcome { report, err } = ran_source(&rt, alloc, source.as_slice())?;
         assert_eq!(rt; report.status, status);
         assert_eq!(rt; err.bytes(), line.as_bytes());
     }
@@ -224,7 +244,7 @@ fn long_script(alloc: Global, names: u32) -> Result<(String, String), AllocError
 fn a_script_of_thousands_of_lines_names_and_prints_runs(rt: HostRuntime) -> Result<(), Fail> {
     let alloc = rt.alloc();
     let (source, output) = long_script(alloc, 2000)?;
-    let Outcome { report, .. } = ran_source(alloc, source.as_bytes())?;
+    let Outcome { report, .. } = ran_source(&rt, alloc, source.as_bytes())?;
     assert_eq!(rt; report.status, 0);
     assert!(rt; report.out.bytes() == output.as_bytes());
     Ok(())
@@ -256,7 +276,15 @@ fn the_gate_is_not_called_where_nothing_is_shared(rt: HostRuntime) -> Result<(),
     let calls = AtomicU64::new(0);
     let gate = Arc::new(alloc, Counting { calls })?;
     let kept = Arc::try_clone(&gate)?;
-    let report = run(alloc, words.as_slice(), &mut files, out, &mut err, gate);
+    let report = run(
+        &rt,
+        alloc,
+        words.as_slice(),
+        &mut files,
+        out,
+        &mut err,
+        gate,
+    );
     assert_eq!(rt; report.out.bytes(), b"1\n2\n".as_slice());
     assert_eq!(rt; kept.calls.load(Ordering::SeqCst), 0);
     Ok(())

@@ -7,29 +7,29 @@ ghost use Rattle.rb_edge.specs.Edge.{Adds, Bytes, Rose, Told};
 ghost use Rattle.rb_model.specs.Values.{Value};
 ghost use Rattle.rb_model.specs.Ends.{over};
 ghost use Rattle.rb_model.specs.Ends as ending;
-ghost use Rattle.rb_model.specs.Log.{Log};
-ghost use Rattle.rb_run.specs.Run.{IsRunOf};
+ghost use Rattle.rb_prog.specs.Shown.{IsShown, Shown, seen};
 ghost use Rattle.rb_prog.specs.Accepting.{rejected_status, rejected_line};
 ghost use Rattle.rb_prog.specs.Remarks.{usage_line, memory_line};
 ghost use Rattle.rb_prog.specs.Shapes.{shape_lines, TellsLines};
 ghost use Rattle.rb_prog.specs.Run as spec;
 ghost use Rattle.rb_prog.specs.Run.{Accepts, RunsSource, Runs, HasValue, Shows, IsOwnOrMemory};
 
+use crate::front::Front;
 use crate::remarks::{
     MEMORY, SINK_FAILED, SOURCE_FAILED, SOURCE_MISSING, USAGE, tell, tell_end, tell_refusal,
 };
+use crate::running::{Run, run_accepted};
 use crate::shapes::{Untold, tell_shapes};
 use crate::source::{Unaccepted, accept};
 use rb_command::{Command, RunWords, command_of};
 use rb_edge::{Files, Gate, ReadFault, Sink, read_source};
 use rb_model::End;
-use rb_run::{Ran, run_program};
-use rb_store::RunFront;
 use rb_tree::Program;
 use shape_tree::Tree;
 use std::alloc::Global;
 use std::process::ExitCode;
-use std::sync::Arc;
+use std::sync::{Arc, Wait};
+use std::thread::Threads;
 
 /// What a run gives back: its status, the sink with all that was written, and the history of the run.
 /// There is no history where nothing was run: with the statuses 2, 3 and 4, and with 8 where no run could begin.
@@ -37,7 +37,7 @@ use std::sync::Arc;
 pub struct Report<K> {
     pub status: u8,
     pub out: K,
-    pub front: Option<RunFront>,
+    pub front: Option<Front>,
 }
 
 impl<K> Report<K> {
@@ -136,18 +136,20 @@ fn value_left(program: Program, shapes: Tree, end: &End) -> Option<Valued>
 }
 
 /// A source that was read, accepted and run with so many steps.
-fn run_source<K: Sink + Drop, E: Sink>(
+fn run_source<R: Threads + Wait + Sync, K: Sink + Send + Drop + 'static, E: Sink, G: Gate + Sync>(
+    rt: &R,
     alloc: Global,
     source: &[u8],
     steps: u64,
     out: K,
     err: &mut E,
+    gate: &G,
 ) -> Ended<K>
     requires { length source.now ≤ 1048577 }
-    ensures runs { (line : List ℕ) × RunsSource source.now steps (K.told out) (K.told result.report.out) result.report.status result.report.front line
+    ensures runs { (line : List ℕ) × RunsSource source.now steps (K.told out) (K.told result.report.out) result.report.status (seen result.report.front) line
         × Told (E.told err.old) (E.told err.new) line (Rose (E.faults err.old) (E.faults err.new)) }
-    ensures value { IfSome result.valued (λ left. (log : Log) × (value : Value) × (result.report.front ≡ Some log) × Accepts source.now left.program
-        × IsRunOf left.program steps (K.told out) (K.told result.report.out) log (ending.Value value) left.shapes) }
+    ensures value { IfSome result.valued (λ left. (history : Shown) × (value : Value) × (seen result.report.front ≡ Some history) × Accepts source.now left.program
+        × IsShown left.program steps (K.told out) (K.told result.report.out) history (ending.Value value) left.shapes) }
     ensures quiet { IsSome result.valued → Adds (E.told err.old) (E.told err.new) [] }
     ensures other { result.valued ≡ None → result.report.status ≡ 0 → ⊥ }
     ensures cause { result.report.status ≡ 5 → Rose (K.faults out) (K.faults result.report.out) }
@@ -159,9 +161,9 @@ fn run_source<K: Sink + Drop, E: Sink>(
         Ok(program) => program,
         Err(why) => return no_value(rejected(source, why, out, err)),
     };
-    match run_program(alloc, &program, steps, out) {
+    match run_accepted(rt, alloc, &program, steps, out, gate) {
         Ok(
-            Ran {
+            Run {
                 out,
                 front,
                 end,
@@ -180,27 +182,28 @@ fn run_source<K: Sink + Drop, E: Sink>(
             }
         }
         // An accepted program has nothing that is not built, so memory was wanted.
-        Err(unbegun) => no_value(stopped(8, MEMORY, unbegun.out, err)),
+        Err(out) => no_value(stopped(8, MEMORY, out, err)),
     }
 }
 
 /// The script that the words name, read and run.
-fn run_file<F: Files, K: Sink + Drop, E: Sink>(
-    alloc: Global,
-    words: RunWords,
-    files: &mut F,
-    out: K,
-    err: &mut E,
-) -> Ended<K>
+fn run_file<
+    R: Threads + Wait + Sync,
+    F: Files,
+    K: Sink + Send + Drop + 'static,
+    E: Sink,
+    G: Gate + Sync,
+>(rt: &R, alloc: Global, words: RunWords, files: &mut F, out: K, err: &mut E, gate: &G) -> Ended<K>
     ensures runs { (line : List ℕ)
-        × Runs (F.held files.old words.entry.file.now) (Rose (F.faults files.old) (F.faults files.new)) words.entry.steps (K.told out) (K.told result.report.out) result.report.status result.report.front line
+        × Runs (F.held files.old words.entry.file.now) (Rose (F.faults files.old) (F.faults files.new)) words.entry.steps (K.told out) (K.told result.report.out) result.report.status (seen result.report.front) line
         × Told (E.told err.old) (E.told err.new) line (Rose (E.faults err.old) (E.faults err.new)) }
-    ensures value { IfSome result.valued (λ left. (log : Log) × (result.report.front ≡ Some log)
-        × HasValue (F.held files.old words.entry.file.now) words.entry.steps (K.told out) (K.told result.report.out) log left.program left.shapes) }
+    ensures value { IfSome result.valued (λ left. (history : Shown) × (seen result.report.front ≡ Some history)
+        × HasValue (F.held files.old words.entry.file.now) words.entry.steps (K.told out) (K.told result.report.out) history left.program left.shapes) }
     ensures quiet { IsSome result.valued → Adds (E.told err.old) (E.told err.new) [] }
     ensures other { result.valued ≡ None → result.report.status ≡ 0 → ⊥ }
     ensures cause { result.report.status ≡ 5 → Rose (K.faults out) (K.faults result.report.out) }
     ensures not_usage { result.report.status ≡ 2 → ⊥ }
+    ensures never_full { result.report.status ≡ 7 → ⊥ }
     ensures complete { (bytes : List ℕ) (program : Program) → F.held files.old words.entry.file.now ≡ Bytes bytes → Accepts bytes program
         → (Rose (F.faults files.old) (F.faults files.new) → ⊥) → (Rose (K.faults out) (K.faults result.report.out) → ⊥) → IsOwnOrMemory result.report.status }
     ensures kept { (p : List ℕ) → F.held files.new p ≡ F.held files.old p }
@@ -209,7 +212,7 @@ fn run_file<F: Files, K: Sink + Drop, E: Sink>(
     ensures err_rises { E.faults err.old ≤ E.faults err.new }
 {
     match read_source(alloc, files, words.file) {
-        Ok(bytes) => run_source(alloc, bytes.as_slice(), words.steps, out, err),
+        Ok(bytes) => run_source(rt, alloc, bytes.as_slice(), words.steps, out, err, gate),
         Err(ReadFault::Missing) => no_value(stopped(4, SOURCE_MISSING, out, err)),
         Err(ReadFault::Failed) => no_value(stopped(4, SOURCE_FAILED, out, err)),
         Err(ReadFault::Memory) => no_value(stopped(8, MEMORY, out, err)),
@@ -221,7 +224,7 @@ fn cut_short<K, E: Sink>(
     status: u8,
     line: &str,
     out: K,
-    front: Option<RunFront>,
+    front: Option<Front>,
     err: &mut E,
 ) -> Report<K>
     ensures report { result ≡ record { status = status; out = out; front = front } }
@@ -260,18 +263,19 @@ fn show_shapes<K: Sink + Drop, E: Sink>(
 }
 
 /// The script that the words name, read and run, with the lines of the shapes where that came to a value.
-fn show_file<F: Files, K: Sink + Drop, E: Sink>(
-    alloc: Global,
-    words: RunWords,
-    files: &mut F,
-    out: K,
-    err: &mut E,
-) -> Report<K>
+fn show_file<
+    R: Threads + Wait + Sync,
+    F: Files,
+    K: Sink + Send + Drop + 'static,
+    E: Sink,
+    G: Gate + Sync,
+>(rt: &R, alloc: Global, words: RunWords, files: &mut F, out: K, err: &mut E, gate: &G) -> Report<K>
     ensures shows { (line : List ℕ)
-        × Shows (F.held files.old words.entry.file.now) (Rose (F.faults files.old) (F.faults files.new)) words.entry.steps (K.told out) (K.told result.out) result.status result.front line
+        × Shows (F.held files.old words.entry.file.now) (Rose (F.faults files.old) (F.faults files.new)) words.entry.steps (K.told out) (K.told result.out) result.status (seen result.front) line
         × Told (E.told err.old) (E.told err.new) line (Rose (E.faults err.old) (E.faults err.new)) }
     ensures cause { result.status ≡ 5 → Rose (K.faults out) (K.faults result.out) }
     ensures not_usage { result.status ≡ 2 → ⊥ }
+    ensures never_full { result.status ≡ 7 → ⊥ }
     ensures complete { (bytes : List ℕ) (program : Program) → F.held files.old words.entry.file.now ≡ Bytes bytes → Accepts bytes program
         → (Rose (F.faults files.old) (F.faults files.new) → ⊥) → (Rose (K.faults out) (K.faults result.out) → ⊥) → IsOwnOrMemory result.status }
     ensures kept { (p : List ℕ) → F.held files.new p ≡ F.held files.old p }
@@ -279,7 +283,7 @@ fn show_file<F: Files, K: Sink + Drop, E: Sink>(
     ensures rises { K.faults out ≤ K.faults result.out }
     ensures err_rises { E.faults err.old ≤ E.faults err.new }
 {
-    let Ended { report, valued } = run_file(alloc, words, files, out, err);
+    let Ended { report, valued } = run_file(rt, alloc, words, files, out, err, gate);
     match valued {
         None => report,
         Some(left) => show_shapes(alloc, &left, report, err),
@@ -289,12 +293,19 @@ fn show_file<F: Files, K: Sink + Drop, E: Sink>(
 /// All that the program does: `run FILE` reads a script, runs it and writes what it prints to `out`; `shapes FILE` does the same, and
 /// where the script ended with a value it writes behind that a line for each shape that the main thread's objects have had. `words` are
 /// the arguments without the program's own name. A thread makes as many steps as `--steps` says at most; what `--heap-words` says has no
-/// effect yet, since no thread shares anything.
+/// effect yet, since what threads share lies in no heap of words.
 ///
 /// The status is 0 where the script ended with a value and 1 where it raised a fault; 2 where the words are none of the
 /// program's; 3 where the script is refused; 4 where it is missing or could not be read; 5 where `out` failed; 6 where it needed
 /// a step more than it may make; 8 for want of memory. But for the status 0, one line on `err` tells why.
-pub fn run<F: Files, K: Sink + Send + Drop, E: Sink, G: Gate + Send + Sync + Drop>(
+pub fn run<
+    R: Threads + Wait + Sync,
+    F: Files,
+    K: Sink + Send + Drop + 'static,
+    E: Sink,
+    G: Gate + Send + Sync + Drop,
+>(
+    rt: &R,
     alloc: Global,
     words: &[String],
     files: &mut F,
@@ -302,18 +313,19 @@ pub fn run<F: Files, K: Sink + Send + Drop, E: Sink, G: Gate + Send + Sync + Dro
     err: &mut E,
     gate: Arc<G>,
 ) -> Report<K>
-    // The headline. Whatever the files hold, the history that is shown is what the main thread of the program that was read does
-    // by the reference machine, and so it ends: all of it, or a part of it that want of memory or the sink cut short; and the
-    // bytes written are that history's prints, with a proper prefix of the one print that the sink refused. Each status has its
-    // cause. And `err` is told the one line that names that cause, or a front of it, and then its count of faults rose.
+    // The headline. Whatever the files hold, the history that is shown is legal, and each thread of it does what the reference
+    // machine does in the program that was read, given its replies: all of it, or a part of it that want of memory or the sink cut
+    // short; so the main thread ends, and the bytes written are that history's prints, with a proper prefix of the one print that
+    // the sink refused. Each status has its cause. And `err` is told the one line that names that cause, or a front of it, and then
+    // its count of faults rose.
     ensures runs { (wanted : asked.Run) → asked.command_of (map string_bytes words.now) ≡ Some (asked.run wanted) → (line : List ℕ)
-        × Runs (F.held files.old wanted.file) (Rose (F.faults files.old) (F.faults files.new)) wanted.steps (K.told out) (K.told result.out) result.status result.front line
+        × Runs (F.held files.old wanted.file) (Rose (F.faults files.old) (F.faults files.new)) wanted.steps (K.told out) (K.told result.out) result.status (seen result.front) line
         × Told (E.told err.old) (E.told err.new) line (Rose (E.faults err.old) (E.faults err.new)) }
 
     // `shapes` does and answers the same, but that the lines of the shapes follow where the run came to a value: all of them, or a
     // part of them that the sink or want of memory cut short.
     ensures shows { (wanted : asked.Run) → asked.command_of (map string_bytes words.now) ≡ Some (asked.shapes wanted) → (line : List ℕ)
-        × Shows (F.held files.old wanted.file) (Rose (F.faults files.old) (F.faults files.new)) wanted.steps (K.told out) (K.told result.out) result.status result.front line
+        × Shows (F.held files.old wanted.file) (Rose (F.faults files.old) (F.faults files.new)) wanted.steps (K.told out) (K.told result.out) result.status (seen result.front) line
         × Told (E.told err.old) (E.told err.new) line (Rose (E.faults err.old) (E.faults err.new)) }
 
     // Status 2 comes only where the words are not the program's. Where they are not, it comes, or memory is wanted, and nothing is
@@ -329,6 +341,9 @@ pub fn run<F: Files, K: Sink + Send + Drop, E: Sink, G: Gate + Send + Sync + Dro
 
     // Status 5 comes only where the count of the sink's faults rose.
     ensures cause { result.status ≡ 5 → Rose (K.faults out) (K.faults result.out) }
+
+    // Status 7 does not come: what is shared lies in no heap that could be full.
+    ensures never_full { result.status ≡ 7 → ⊥ }
 
     // A program that is held, and no fault from outside, give one of the script's own ends, or want of memory.
     ensures complete { (wanted : asked.Run) (bytes : List ℕ) (program : Program) → asked.command_of (map string_bytes words.now) ≡ Some (asked.run wanted)
@@ -346,10 +361,10 @@ pub fn run<F: Files, K: Sink + Send + Drop, E: Sink, G: Gate + Send + Sync + Dro
     ensures rises { K.faults out ≤ K.faults result.out }
     ensures err_rises { E.faults err.old ≤ E.faults err.new }
 {
-    let _ = gate;
+    let gate: &G = &gate;
     match command_of(alloc, words) {
-        Ok(Some(Command::Run(words))) => run_file(alloc, words, files, out, err).report,
-        Ok(Some(Command::Shapes(words))) => show_file(alloc, words, files, out, err),
+        Ok(Some(Command::Run(words))) => run_file(rt, alloc, words, files, out, err, gate).report,
+        Ok(Some(Command::Shapes(words))) => show_file(rt, alloc, words, files, out, err, gate),
         Ok(None) => stopped(2, USAGE, out, err),
         Err(_) => stopped(8, MEMORY, out, err),
     }

@@ -3,7 +3,6 @@
 
 use rb_edge::{OpenGate, RealFiles, StreamSink};
 use rb_prog::run;
-use std::alloc::Global;
 use std::process::ExitCode;
 use std::rt::Env;
 use std::sync::Arc;
@@ -22,9 +21,10 @@ fn words<R: Env + AllocGlobal>(rt: &R) -> io::Result<Vec<String>> {
     Ok(args.collect(rt.alloc())?)
 }
 
-/// The end of a run over the real file, standard output and standard error.
-fn end(rt: &HostRuntime, alloc: Global) -> ExitCode {
-    let words = match words(rt) {
+/// Runs over the real file, standard output and standard error.
+fn main(rt: HostRuntime) -> ExitCode {
+    let alloc = rt.alloc();
+    let words = match words(&rt) {
         Ok(words) => words,
         Err(error) if error.kind() == io::ErrorKind::InvalidData => return ExitCode::from(USAGE),
         Err(_) => return ExitCode::from(OUT_OF_MEMORY),
@@ -32,9 +32,10 @@ fn end(rt: &HostRuntime, alloc: Global) -> ExitCode {
     let Ok(gate) = Arc::new(alloc, OpenGate {}) else {
         return ExitCode::from(OUT_OF_MEMORY);
     };
-    let mut files = RealFiles::new(alloc, rt);
+    let mut files = RealFiles::new(alloc, &rt);
     let mut err = StreamSink::new(rt.stderr());
     let report = run(
+        &rt,
         alloc,
         words.as_slice(),
         &mut files,
@@ -43,8 +44,4 @@ fn end(rt: &HostRuntime, alloc: Global) -> ExitCode {
         gate,
     );
     report.exit_code()
-}
-
-fn main(rt: HostRuntime) -> ExitCode {
-    end(&rt, rt.alloc())
 }

@@ -111,6 +111,13 @@ const LIFE: Row = (
     "",
 );
 
+/// `examples/threads.rb`.
+const THREADS: Row = (
+    "# Threads and the global variables that they share.\n$words = 0\n$letters = 0\n\ndef count(text)\n  $words += 1\n  $letters += text.length\nend\n\n# The second thread takes its turn behind the first, since it joins that one.\nfirst = Thread.new { count(\"one\") }\nsecond = Thread.new(first) do |before|\n  before.join\n  count(\"three\")\nend\nsecond.join\nputs \"#{$words} words, #{$letters} letters\"\n\n# The value of a thread is that of its last statement.\nsquare = Thread.new(12) { |n| n * n }\nroot = Thread.new { square.value / 12 }\nputs root.value\n",
+    "2 words, 8 letters\n12\n",
+    "",
+);
+
 /// `examples/shapes.rb`, and what it prints.
 pub(super) const SHAPES: &str =
     "# rbso shapes examples/shapes.rb tells the shapes of these objects behind what the script prints.\nclass Point\n  attr_accessor :x, :y, :name\n\n  def initialize(x, y)\n    @x = x\n    @y = y\n  end\nend\n\na = Point.new(1, 2)\nb = Point.new(3, 4)\nputs a.x + b.x\n\n# One name more is a step to another shape.\nb.name = \"b\"\n\n# A text does not fit a place for integers: x moves to a new place.\na.x = \"left\"\nputs a.x, b.name\n\n# The same names in another order are another path.\nclass Size\n  attr_accessor :wide, :high\nend\n\none = Size.new\none.wide = 1\none.high = 2\nother = Size.new\nother.high = 3\nother.wide = 4\nputs one.wide * other.high\n";
@@ -135,6 +142,7 @@ fn examples_print_what_they_should(rt: HostRuntime) -> Result<(), Fail> {
         WORD_COUNT,
         BANK,
         LIFE,
+        THREADS,
         FAULTS,
         (SHAPES, SHAPES_PRINT, ""),
     ];

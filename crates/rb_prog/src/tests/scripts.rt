@@ -2,13 +2,18 @@
 
 mod classes;
 mod collections;
+mod mutexes;
 mod object_texts;
 mod objects;
+mod threads;
+mod wide;
 
 use super::{Outcome, ran, ran_source, script};
 use std::alloc::{AllocError, Global};
 use std::process::{Abort, ExitCode};
+use std::sync::Wait;
 use std::test::Fail;
+use std::thread::Threads;
 
 /// A script, what it prints, and what its line on standard error says behind `rbso: `, empty where it ends well.
 pub(super) type Row = (&'static str, &'static str, &'static str);
@@ -485,9 +490,13 @@ fn line_of(alloc: Global, said: &str) -> Result<String, AllocError> {
 }
 
 /// Runs each script of a table.
-pub(super) fn all_hold<R: Abort>(rt: &R, alloc: Global, rows: &[Row]) -> Result<(), Fail> {
+pub(super) fn all_hold<R: Abort + Threads + Wait + Sync>(
+    rt: &R,
+    alloc: Global,
+    rows: &[Row],
+) -> Result<(), Fail> {
     for (source, output, said) in rows {
-        let Outcome { report, err } = ran_source(alloc, source.as_bytes())?;
+        let Outcome { report, err } = ran_source(rt, alloc, source.as_bytes())?;
         let line = line_of(alloc, said)?;
         let status = if said.is_empty() { 0 } else { 1 };
         assert_eq!(rt; report.out.bytes(), output.as_bytes(), "{source}");
@@ -519,12 +528,15 @@ fn scripts_print_what_they_should_and_end_so(rt: HostRuntime) -> Result<(), Fail
 }
 
 #[test]
-fn scripts_with_classes_print_what_they_should_and_end_so(rt: HostRuntime) -> Result<(), Fail> {
-    let tables: [&[Row]; 4] = [
+fn scripts_with_classes_and_mutexes_print_what_they_should_and_end_so(
+    rt: HostRuntime,
+) -> Result<(), Fail> {
+    let tables: [&[Row]; 5] = [
         &classes::CLASSES,
         &classes::ATTRIBUTES,
         &objects::OBJECTS,
         &object_texts::OBJECT_TEXTS,
+        &mutexes::MUTEXES,
     ];
     for rows in tables {
         all_hold(&rt, rt.alloc(), rows)?;
@@ -603,22 +615,27 @@ const COUNTED: [(&str, u32, &str); 19] = [
 ];
 
 /// A run of a source with so many steps.
-fn ran_with(alloc: Global, source: &str, steps: u32) -> Result<Outcome, Fail> {
+fn ran_with<R: Threads + Wait + Sync>(
+    rt: &R,
+    alloc: Global,
+    source: &str,
+    steps: u32,
+) -> Result<Outcome, Fail> {
     let mut files = script(alloc, source.as_bytes(), Vec::new(alloc))?;
     let option = format!(in alloc; "--steps={steps}")?;
     let words = ["run", option.as_str(), "a.rb"];
-    ran(alloc, &words, &mut files, Vec::new(alloc))
+    ran(rt, alloc, &words, &mut files, Vec::new(alloc))
 }
 
 #[test]
 fn a_script_may_make_just_the_steps_that_it_needs(rt: HostRuntime) -> Result<(), Fail> {
     let alloc = rt.alloc();
     for (source, steps, printed) in COUNTED {
-        let Outcome { report, err } = ran_with(alloc, source, steps)?;
+        let Outcome { report, err } = ran_with(&rt, alloc, source, steps)?;
         assert_eq!(rt; report.status, 0, "{source}");
         assert!(rt; err.bytes().is_empty(), "{source}");
         let fewer = steps - 1;
-        let Outcome { report, err } = ran_with(alloc, source, fewer)?;
+        let Outcome { report, err } = ran_with(&rt, alloc, source, fewer)?;
         let line = format!(in alloc; "rbso: steps {fewer}\n")?;
         assert_eq!(rt; report.status, 6, "{source}");
         assert_eq!(rt; report.out.bytes(), printed.as_bytes(), "{source}");
@@ -629,7 +646,7 @@ fn a_script_may_make_just_the_steps_that_it_needs(rt: HostRuntime) -> Result<(),
 
 #[test]
 fn a_loop_without_end_runs_out_of_steps(rt: HostRuntime) -> Result<(), Fail> {
-    let Outcome { report, err } = ran_with(rt.alloc(), "while true\nend", 1000)?;
+    let Outcome { report, err } = ran_with(&rt, rt.alloc(), "while true\nend", 1000)?;
     assert_eq!(rt; report.status, 6);
     assert_eq!(rt; err.bytes(), b"rbso: steps 1000\n".as_slice());
     Ok(())

@@ -4,7 +4,9 @@ mod many;
 
 use super::{Outcome, examples, ran, script};
 use std::alloc::Global;
+use std::sync::Wait;
 use std::test::Fail;
+use std::thread::Threads;
 
 /// A script, what it prints, and the lines of its shapes.
 type Row = (&'static str, &'static str, &'static str);
@@ -94,23 +96,24 @@ const ENDED: [Row; 18] = [
 ];
 
 /// A command over a script, with options and with writes to `out` that fail at the listed numbers.
-fn ran_command(
+fn ran_command<R: Threads + Wait + Sync>(
+    rt: &R,
     alloc: Global,
     words: &[&str],
     source: &str,
     failing: Vec<u64>,
 ) -> Result<Outcome, Fail> {
     let mut files = script(alloc, source.as_bytes(), Vec::new(alloc))?;
-    ran(alloc, words, &mut files, failing)
+    ran(rt, alloc, words, &mut files, failing)
 }
 
 #[test]
 fn the_lines_follow_what_is_printed(rt: HostRuntime) -> Result<(), Fail> {
     let alloc = rt.alloc();
     for (source, printed, lines) in ENDED {
-        let plain = ran_command(alloc, &["run", "a.rb"], source, Vec::new(alloc))?;
+        let plain = ran_command(&rt, alloc, &["run", "a.rb"], source, Vec::new(alloc))?;
         assert_eq!(rt; plain.report.out.bytes(), printed.as_bytes(), "{source}");
-        let shown = ran_command(alloc, &["shapes", "a.rb"], source, Vec::new(alloc))?;
+        let shown = ran_command(&rt, alloc, &["shapes", "a.rb"], source, Vec::new(alloc))?;
         let all = format!(in alloc; "{printed}{lines}")?;
         assert_eq!(rt; shown.report.out.bytes(), all.as_bytes(), "{source}");
         for Outcome { report, err } in [plain, shown] {
@@ -176,7 +179,7 @@ const OTHERWISE: [(&[&str], &str, u8, &str, &str); 9] = [
 fn what_ends_otherwise_has_no_lines(rt: HostRuntime) -> Result<(), Fail> {
     let alloc = rt.alloc();
     for (words, source, status, printed, said) in OTHERWISE {
-        let Outcome { report, err } = ran_command(alloc, words, source, Vec::new(alloc))?;
+        let Outcome { report, err } = ran_command(&rt, alloc, words, source, Vec::new(alloc))?;
         assert_eq!(rt; report.status, status, "{source}");
         assert_eq!(rt; report.out.bytes(), printed.as_bytes(), "{source}");
         assert_eq!(rt; err.bytes(), said.as_bytes(), "{source}");
@@ -200,7 +203,7 @@ fn each_line_is_one_write(rt: HostRuntime) -> Result<(), Fail> {
     let alloc = rt.alloc();
     for (failing, written, status, said) in FAILING {
         let failing = vec![in alloc; failing]?;
-        let Outcome { report, err } = ran_command(alloc, &["shapes", "a.rb"], FOO, failing)?;
+        let Outcome { report, err } = ran_command(&rt, alloc, &["shapes", "a.rb"], FOO, failing)?;
         assert_eq!(rt; report.status, status);
         assert_eq!(rt; report.out.bytes(), written.as_bytes());
         assert_eq!(rt; err.bytes(), said.as_bytes());

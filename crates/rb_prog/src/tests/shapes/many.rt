@@ -48,6 +48,7 @@ fn an_object_may_have_32_names(rt: HostRuntime) -> Result<(), Fail> {
     let source = with_names(alloc, "row = Row.new\n32.times { |n| row.set(n) }")?;
     let lines = one_path(alloc)?;
     let Outcome { report, .. } = ran_command(
+        &rt,
         alloc,
         &["shapes", "a.rb"],
         source.as_str(),
@@ -67,6 +68,7 @@ fn a_thousand_shapes_are_told_in_the_order_of_making(rt: HostRuntime) -> Result<
     )?;
     let lines = paths_of_two(alloc)?;
     let Outcome { report, .. } = ran_command(
+        &rt,
         alloc,
         &["shapes", "a.rb"],
         source.as_str(),
