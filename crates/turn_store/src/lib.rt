@@ -3,6 +3,7 @@
 
 mod close;
 mod passes;
+mod pause;
 mod rule;
 mod shared;
 mod slot;

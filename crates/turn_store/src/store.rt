@@ -14,6 +14,7 @@ ghost use Rattle.turn_store.specs.Slot.{Attempts, MayTry, begun_of, sunk_of, thi
 ghost use Rattle.turn_store.specs.Turns.{Never, InHand, IsAtRest, MayGiveUp, MayMake, MayRefuse, TookTurn};
 ghost use Rattle.turn_store.specs.Calls.{HasEntered, HasLeft, HasRefused, HasReturned, IsGoing, refs_of};
 
+use crate::pause::Pause;
 use crate::rule::{
     Counting, Forget, GiveUp, Known, Law, Leave, Made, Naming, Refuse, Refusing, Take,
 };
@@ -189,7 +190,7 @@ impl<K: Sink> TurnStore<K> {
         ensures rests { IsAtRest result.0.me }
         ensures answers { AnswersIn Never seat.me.0.view step call.now moved.now result.1 moved.now result.0.me.0.view }
     {
-        let backoff = Backoff::new();
+        let pause = Pause::new();
         'turns: for _ in rt.forever() {
             self.take_turn::<R, Brand>(rt, &mut seat);
             match self.enter(&mut seat, thread, call, moved) {
@@ -207,7 +208,7 @@ impl<K: Sink> TurnStore<K> {
                     return (seat, Answer::Memory);
                 }
             }
-            backoff.snooze();
+            pause.take(rt);
         }
         unreachable!()
     }
