@@ -1,14 +1,14 @@
 -- Things that leave one after the other.
-use Rattle.std.proofs.Common.{◌≡◌, ◌<◌, ◌≤◌, ◌+◌, ℕ, zero, suc, List, [], ◌∷◌, drop, length, Option, Some, None, refl, sym, ap, ◌∙◌, subst, arith}
+use Rattle.std.proofs.Common.{◌≡◌, ◌<◌, ◌≤◌, ◌+◌, ℕ, zero, suc, List, [], ◌∷◌, drop, length, map, Option, Some, None, refl, sym, ap, ◌∙◌, subst, arith}
 use Rattle.std.specs.Prelude.{slice_get, IsSome}
 use Rattle.rb_model.specs.declared.moved.MovedItem.{MovedItem}
-use Rattle.rb_model.specs.declared.value.Id.{Id}
+use Rattle.rb_model.specs.declared.value.Ref.{Ref}
 use Rattle.rb_model.specs.Doing.{seen}
-use Rattle.rb_model.specs.Moving.{items_of}
+use Rattle.rb_model.specs.Moving.{items_of, ref_of}
 use Rattle.rb_model.specs.Private.{Private, held, left}
 use Rattle.rb_model.specs.Things.{Thing}
 use Rattle.publish_barrier.specs.Leaving.{ArePrivate, without}
-use Rattle.publish_barrier.specs.Places.{with_place, with_places}
+use Rattle.publish_barrier.specs.Known.{noted, with_all_noted, with_noted}
 
 -- the thing at a number
 at_number : (ms : List MovedItem) (n : ℕ) → n < length ms → (m : MovedItem) × (slice_get ms n ≡ Some m) × (drop n ms ≡ m ∷ drop (suc n) ms)
@@ -30,16 +30,16 @@ some None thing e = absurd (cc)
 some (Some x) thing e = refl
 
 -- so many things have left: those that are still to leave complete the whole
-pub record Leaving (h₀ h : Private) (places₀ places : List (Id × ℕ)) (room : ℕ) (ms : List MovedItem) (n : ℕ) : Type 0 where
+pub record Leaving (h₀ h : Private) (refs₀ refs : List Ref) (room : ℕ) (ms : List MovedItem) (n : ℕ) : Type 0 where
   pub left : without h (items_of (drop n ms)) ≡ without h₀ (items_of ms)
   pub private : ArePrivate h (items_of (drop n ms))
-  pub noted : with_places places (drop n ms) ≡ with_places places₀ ms
+  pub notes : with_all_noted refs (map ref_of (drop n ms)) ≡ with_all_noted refs₀ (map ref_of ms)
   pub fits : length (drop n ms) ≤ room
 
-pub none_left : (h : Private) (places : List (Id × ℕ)) (room : ℕ) (ms : List MovedItem) → ArePrivate h (items_of ms) → length ms ≤ room → Leaving h h places places room ms 0
-none_left h places room ms are fits = record { left = refl; private = are; noted = refl; fits = fits }
+pub none_left : (h : Private) (refs : List Ref) (room : ℕ) (ms : List MovedItem) → ArePrivate h (items_of ms) → length ms ≤ room → Leaving h h refs refs room ms 0
+none_left h refs room ms are fits = record { left = refl; private = are; notes = refl; fits = fits }
 
-module _ (h₀ h : Private) (places₀ places : List (Id × ℕ)) (room : ℕ) (ms : List MovedItem) (n : ℕ) (is : Leaving h₀ h places₀ places room ms n) where
+module _ (h₀ h : Private) (refs₀ refs : List Ref) (room : ℕ) (ms : List MovedItem) (n : ℕ) (is : Leaving h₀ h refs₀ refs room ms n) where
   pub is_private : n < length ms → (m : MovedItem) → slice_get ms n ≡ Some m → IsSome (held h m.id)
   is_private within m at =
       let found = at_number ms n within in
@@ -54,25 +54,25 @@ module _ (h₀ h : Private) (places₀ places : List (Id × ℕ)) (room : ℕ) (
       let fits = is.fits in
       omega (arith, long, fits)
 
-  pub one_leaves : (h' : Private) (places' : List (Id × ℕ)) (room' : ℕ) → n < length ms → ((m : MovedItem) → slice_get ms n ≡ Some m → h' ≡ left h m.id)
-      → ((m : MovedItem) → slice_get ms n ≡ Some m → places' ≡ with_place places m.id m.at) → room ≤ room' + 1 → Leaving h₀ h' places₀ places' room' ms (n + 1)
-  one_leaves h' places' room' within leaves notes keeps =
+  pub one_leaves : (h' : Private) (refs' : List Ref) (room' : ℕ) → n < length ms → ((m : MovedItem) → slice_get ms n ≡ Some m → h' ≡ left h m.id)
+      → ((m : MovedItem) → slice_get ms n ≡ Some m → refs' ≡ with_noted refs (ref_of m) (noted refs m.id)) → room ≤ room' + 1 → Leaving h₀ h' refs₀ refs' room' ms (n + 1)
+  one_leaves h' refs' room' within leaves notes keeps =
       let found = at_number ms n within in
       let next : n + 1 ≡ suc n = omega arith in
       let gone = leaves found.0 found.1 in
-      let noted = notes found.0 found.1 in
+      let more = notes found.0 found.1 in
       let are : ArePrivate h (items_of (found.0 ∷ drop (suc n) ms)) = subst (λ xs. ArePrivate h (items_of xs)) found.2 is.private in
       let long = ap length found.2 in
       let fits = is.fits in
       let few : length (drop (suc n) ms) ≤ room' = omega (arith, long, fits, keeps) in
-      subst (Leaving h₀ h' places₀ places' room' ms) (sym next) record {
+      subst (Leaving h₀ h' refs₀ refs' room' ms) (sym next) record {
         left = ap (λ k. without k (items_of (drop (suc n) ms))) gone ∙ sym (ap (λ xs. without h (items_of xs)) found.2) ∙ is.left;
         private = subst (λ k. ArePrivate k (items_of (drop (suc n) ms))) (sym gone) are.1;
-        noted = ap (λ ps. with_places ps (drop (suc n) ms)) noted ∙ sym (ap (with_places places) found.2) ∙ is.noted;
+        notes = ap (λ rs. with_all_noted rs (map ref_of (drop (suc n) ms))) more ∙ sym (ap (λ xs. with_all_noted refs (map ref_of xs)) found.2) ∙ is.notes;
         fits = few;
       }
 
-  pub all_left : length ms ≤ n → (h ≡ without h₀ (items_of ms)) × (places ≡ with_places places₀ ms)
+  pub all_left : length ms ≤ n → (h ≡ without h₀ (items_of ms)) × (refs ≡ with_all_noted refs₀ (map ref_of ms))
   all_left over =
       let empty = past ms n over in
-      (sym (ap (λ xs. without h (items_of xs)) empty) ∙ is.left, sym (ap (with_places places) empty) ∙ is.noted)
+      (sym (ap (λ xs. without h (items_of xs)) empty) ∙ is.left, sym (ap (λ xs. with_all_noted refs (map ref_of xs)) empty) ∙ is.notes)

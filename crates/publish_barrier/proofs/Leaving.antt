@@ -1,6 +1,6 @@
 -- What leaves a private store.
 use Rattle.std.proofs.Common.{◌≡◌, ◌<◌, ◌≤◌, ◌+◌, ◌==◌, ℕ, zero, suc, Bool, true, false, cond, List, [], ◌∷◌, ◌++◌, set, length, Option, Some, None, inl, inr, refl, sym, ap, ◌∙◌, subst, arith, append_assoc, append-nil, length-append}
-use Rattle.std.specs.Prelude.{slice_get, is_some, not}
+use Rattle.std.specs.Prelude.{slice_get, is_some}
 use Rattle.std.specs.List.{list_any}
 use Rattle.std.proofs.lemmas.Bool.Decides.{eqb_tells}
 use Rattle.rb_model.specs.declared.value.Id.{Id}
@@ -242,27 +242,21 @@ not_some (Some thing) e = absurd (cc)
 pub never_here : (h : Private) (ms : List Item) (id : Id) (b : Bool) → b ≡ is_some (held h id) → b ≡ false → held (without h ms) id ≡ None
 never_here h ms id b is e = still_none h ms id (not_some (held h id) (sym is ∙ e))
 
-was_not : (b c : Bool) → b ≡ not c → b ≡ false → c ≡ true
-was_not b true is e = refl
-was_not b false is e = absurd (cc)
+pub seen_before : (h : Private) (ms : List Item) (id : Id) (keys : List ℕ) → keys ≡ serials ms → list_any (λ s. id.serial == s) keys ≡ true → held (without h ms) id ≡ None
+seen_before h ms id keys same e = has_left h ms id (ap (list_any (λ s. id.serial == s)) (sym same) ∙ e)
 
-was_new : (b c : Bool) → b ≡ not c → b ≡ true → c ≡ false
-was_new b false is e = refl
-was_new b true is e = absurd (cc)
-
-pub seen_before : (h : Private) (ms : List Item) (id : Id) (keys : List ℕ) (b : Bool) → keys ≡ serials ms → b ≡ not (list_any (λ s. id.serial == s) keys) → b ≡ false
-    → held (without h ms) id ≡ None
-seen_before h ms id keys b same is e = has_left h ms id (ap (list_any (λ s. id.serial == s)) (sym same) ∙ was_not b (list_any (λ s. id.serial == s) keys) is e)
-
-pub not_before : (h : Private) (ms : List Item) (id : Id) (keys : List ℕ) (b : Bool) → keys ≡ serials ms → b ≡ not (list_any (λ s. id.serial == s) keys) → b ≡ true
-    → held (without h ms) id ≡ held h id
-not_before h ms id keys b same is e = has_stayed h ms id (ap (list_any (λ s. id.serial == s)) (sym same) ∙ was_new b (list_any (λ s. id.serial == s) keys) is e)
+pub not_before : (h : Private) (ms : List Item) (id : Id) (keys : List ℕ) → keys ≡ serials ms → list_any (λ s. id.serial == s) keys ≡ false → held (without h ms) id ≡ held h id
+not_before h ms id keys same e = has_stayed h ms id (ap (list_any (λ s. id.serial == s)) (sym same) ∙ e)
 
 -- what waits first
 pub at_first : (h : Private) (whole : List Val) (ms : List Item) (vs : List Val) → ms ≡ [] → vs ≡ things_in whole → Rest h whole ms vs
 at_first h whole ms vs empty all more h' l =
     let first : Leaves h (things_in whole) more h' = rw (empty, all) at l in
     rw empty (fatten first whole (thin_things whole))
+
+-- the references that values hold may be gone through in place of the values
+pub leaves_named : (h k : Private) (whole vs : List Val) (ms : List Item) → whole ≡ things_in vs → Leaves h whole ms k → Leaves h vs ms k
+leaves_named h k whole vs ms e l = fatten l vs (subst (λ us. IsThin us vs) (sym e) (thin_things vs))
 
 -- the last look
 pub finished : (h : Private) (whole : List Val) (ms : List Item) → Rest h whole ms [] → Leaves h whole ms (without h ms)

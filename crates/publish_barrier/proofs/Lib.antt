@@ -1,8 +1,11 @@
-pub mod Keyed
+pub mod Noting
+pub mod Handing
 pub mod Leaving
+pub mod Naming
 pub mod Lawful
 pub mod Rows
 pub mod May
+pub mod Meeting
 pub mod Committing
 pub mod Spreading
 pub mod Absence

@@ -1,27 +1,22 @@
 -- What leaves a private store may move with a call.
-use Rattle.std.proofs.Common.{◌≡◌, ◌==◌, ℕ, Bool, true, false, cond, List, [], ◌∷◌, ◌++◌, Option, Some, None, inl, inr, refl, sym, ap, ◌∙◌, subst}
+use Rattle.std.proofs.Common.{◌≡◌, ◌==◌, ℕ, Bool, true, false, cond, List, [], ◌∷◌, Option, Some, None, inl, inr, refl, sym, ap, ◌∙◌}
 use Rattle.std.specs.Prelude.{slice_get}
 use Rattle.std.specs.List.{AllByRecursion}
 use Rattle.std.proofs.lemmas.Bool.{and_parts, eq-eqb}
 use Rattle.std.specs.Cmp.{unsigned_Decides}
-use Rattle.std.proofs.lemmas.List.{map-append}
 use Rattle.rb_model.specs.declared.moved.MovedItem.{MovedItem}
 use Rattle.rb_model.specs.declared.value.Id.{Id}
 use Rattle.rb_model.specs.Doing.{seen}
-use Rattle.rb_model.specs.Moving.{item_of, items_of, refs_in_moved, refs_in_thing}
-use Rattle.rb_model.specs.Private.{Private, Item, held, left, or_none, shape_held}
+use Rattle.rb_model.specs.Moving.{item_of, items_of}
+use Rattle.rb_model.specs.Private.{Private, held, left, or_none, shape_held}
 use Rattle.rb_model.specs.Things.{Thing, Field, Object, Elements, Pairs, Mutex, Thread}
 use Rattle.rb_model.specs.Values.{Value as Val, same_id}
-use Rattle.rb_shared.specs.Asking.{AllDiffer, AreFields, ArePairs, HasName, IsNoneOf, IsOwnId, MayMove}
-use Rattle.rb_shared.specs.Lists.{Each}
+use Rattle.rb_shared.specs.Asking.{AllDiffer, AreFields, ArePairs, HasName, IsNoneOf, MayMove}
 use Rattle.shape_core.specs.Shape.{Shape}
 use Rattle.local_heap.specs.Agreement.{AgreesAt, AgreesWith, AreNamesOnce, IsWideEnough, has_name}
 use Rattle.local_heap.specs.Limits.{AreKeysOnce, IsWithin, IsWithinAt}
 use Rattle.publish_barrier.specs.Leaving.{ArePrivate, IsNoThread, ids_of}
-use Rattle.publish_barrier.specs.Moves.{MayAllMove}
-use Rattle.publish_barrier.specs.Places.{IsPlaced}
 use Rattle.publish_barrier.proofs.Leaving.{left_gone, still_none}
-use Rattle.publish_barrier.proofs.Rows.{each_both, flat-append}
 
 -- ---- each once
 
@@ -97,26 +92,3 @@ held_own h id thing e = by (id.thread == h.thread) refl e
     by : (b : Bool) → (id.thread == h.thread) ≡ b → cond b (or_none (slice_get h.things id.serial)) None ≡ Some thing → id.thread ≡ h.thread
     by true t e = (unsigned_Decides id.thread h.thread).0 t
     by false t e = absurd (cc)
-
--- ---- one thing more
-
-each_push : {X : Type 0} (P : X → Type 0) (xs : List X) (x : X) → Each P xs → P x → Each P (xs ++ x ∷ [])
-each_push P [] x each is = (is, tt)
-each_push P (y ∷ xs) x each is = (each.0, each_push P xs x each.1 is)
-
-pub may_more : (h : Private) (places : List (Id × ℕ)) (ms ms' : List MovedItem) (m : MovedItem) → ms' ≡ ms ++ m ∷ [] → IsOwnId h.thread m.id → MayMove h.thread (seen m.thing)
-    → Each (IsPlaced places) (refs_in_thing m.thing) → m.at ≡ 0 → MayAllMove h places ms → MayAllMove h places ms'
-may_more h places ms ms' m more own may placed bare all =
-    subst (MayAllMove h places) (sym more) record {
-      own = each_push (λ (x : MovedItem). IsOwnId h.thread x.id) ms m all.own own;
-      things =
-          subst (Each (λ (x : Item). MayMove h.thread x.thing)) (sym (map-append item_of ms (m ∷ [])))
-          (each_push (λ (x : Item). MayMove h.thread x.thing) (items_of ms) (item_of m) all.things may);
-      placed =
-          subst (Each (IsPlaced places)) (sym (flat-append (λ (x : MovedItem). refs_in_thing x.thing) ms m))
-          (each_both (IsPlaced places) (refs_in_moved ms) (refs_in_thing m.thing) all.placed placed);
-      unlaid = each_push (λ (x : MovedItem). x.at ≡ 0) ms m all.unlaid bare;
-    }
-
-pub may_none : (h : Private) (places : List (Id × ℕ)) → MayAllMove h places []
-may_none h places = record { own = tt; things = tt; placed = tt; unlaid = tt }

@@ -1,6 +1,6 @@
-pub mod Places
-pub mod Keys
+pub mod Known
 pub mod Leaving
+pub mod Gathers
 pub mod Moves
 pub mod Gathered
 pub mod Reach

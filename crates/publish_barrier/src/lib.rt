@@ -1,17 +1,20 @@
-//! What leaves the private store of a thread with the values that a call hands over, and where shared things are kept.
+//! What leaves the private store of a thread with the values that a call hands over, and the references to shared things that the thread
+//! has noted.
 #![tactic(auto)]
 
-mod arguments;
+mod addressing;
 mod gathering;
+mod known;
 mod laws;
 mod moving;
-mod places;
 mod placing;
+mod sorts;
 #[cfg(test)]
 mod tests;
 
-pub use arguments::{place_arguments, placed_act, placed_end};
-pub use gathering::gather;
+pub use addressing::{addressed, addressed_act, addressed_all};
+pub use gathering::{gather, gather_act, gather_value};
+pub use known::Known;
 pub use laws::{laws_of_absence, laws_of_leaving};
 pub use moving::commit;
-pub use places::Places;
+pub use sorts::serves;

@@ -1,6 +1,6 @@
 // Graphs that are handed over, and how large they may be.
 
-use crate::{Places, commit, gather};
+use crate::{Known, addressed_all, commit, gather};
 use local_heap::LocalHeap;
 use rb_model::{Act, Id, Make, Moved, Ref, Sort, Thing, Value};
 use rb_tree::NameId;
@@ -114,23 +114,23 @@ fn does(heap: &mut Heap, id: Id, act: Act) -> Result<(), AllocError> {
 }
 
 /// The four things, as a row says.
-fn graph(alloc: Global, row: &Row, places: &mut Places) -> Result<Heap, AllocError> {
+fn graph(alloc: Global, row: &Row, known: &mut Known) -> Result<Heap, AllocError> {
     let mut heap = four_things(alloc)?;
     for (from, to) in row.mentions {
         does(&mut heap, thing(*from).id, mention(*from, *to))?;
     }
     if let Some(serial) = row.left {
-        leave(&mut heap, thing(serial).id, places)?;
+        leave(&mut heap, thing(serial), known)?;
     }
     Ok(heap)
 }
 
 /// A thing leaves.
-fn leave(heap: &mut Heap, id: Id, places: &mut Places) -> Result<(), AllocError> {
-    places.reserve(1)?;
-    if heap.holds(id) {
-        heap.leave(id);
-        places.note(id, PLACE);
+fn leave(heap: &mut Heap, thing: Ref, known: &mut Known) -> Result<(), AllocError> {
+    known.reserve(1)?;
+    if heap.holds(thing.id) {
+        heap.leave(thing.id);
+        known.note(Ref { at: PLACE, ..thing });
     }
     Ok(())
 }
@@ -144,21 +144,24 @@ fn handed(alloc: Global, serials: &[u64]) -> Result<Vec<Value>, AllocError> {
     Ok(values)
 }
 
-/// What these values move out of a heap.
+/// What these values move out of a heap, and the values as they are handed over.
 fn publish(
     alloc: Global,
     heap: &mut Heap,
-    places: &mut Places,
-    values: &[Value],
-) -> Result<Moved, AllocError> {
-    let moved = gather(alloc, heap, places, values)?;
-    places.reserve(moved.len())?;
-    commit(heap, places, &moved);
-    Ok(moved)
+    known: &mut Known,
+    values: Vec<Value>,
+) -> Result<(Vec<Value>, Moved), AllocError> {
+    let Some(values) = addressed_all(heap, known, values) else {
+        return Err(AllocError);
+    };
+    let moved = gather(alloc, heap, known, &values)?;
+    known.reserve(moved.len())?;
+    commit(heap, known, &moved);
+    Ok((values, moved))
 }
 
-/// Whether the references in a thing that moved are to things that the heap no longer has, and have the places where those left before.
-fn are_placed(heap: &Heap, row: &Row, value: &Value) -> bool {
+/// Whether a value mentions no thing that the heap still has, and a thing that left before with its place.
+fn is_value_placed(heap: &Heap, row: &Row, value: &Value) -> bool {
     match value {
         Value::Ref(thing) => {
             !heap.holds(thing.id) && (row.left != Some(thing.id.serial) || thing.at == PLACE)
@@ -167,14 +170,14 @@ fn are_placed(heap: &Heap, row: &Row, value: &Value) -> bool {
     }
 }
 
-/// The same of all that it mentions.
-fn is_placed(heap: &Heap, row: &Row, thing: &Thing) -> bool {
+/// The same of all that a thing mentions.
+fn is_thing_placed(heap: &Heap, row: &Row, thing: &Thing) -> bool {
     match thing {
         Thing::Object(_, fields) => fields
             .iter()
-            .all(|field| are_placed(heap, row, &field.value)),
-        Thing::Elements(values) => values.iter().all(|value| are_placed(heap, row, value)),
-        Thing::Pairs(pairs) => pairs.iter().all(|pair| are_placed(heap, row, &pair.0)),
+            .all(|field| is_value_placed(heap, row, &field.value)),
+        Thing::Elements(values) => values.iter().all(|value| is_value_placed(heap, row, value)),
+        Thing::Pairs(pairs) => pairs.iter().all(|pair| is_value_placed(heap, row, &pair.0)),
         _ => true,
     }
 }
@@ -185,20 +188,25 @@ fn is_moved(heap: &Heap, row: &Row, moved: &Moved) -> bool {
         let Some(item) = moved.get(number) else {
             return false;
         };
-        if item.id.serial != *serial || !is_placed(heap, row, &item.thing) {
+        if item.id.serial != *serial || !is_thing_placed(heap, row, &item.thing) {
             return false;
         }
     }
     moved.len() == row.moves.len()
 }
 
-/// Whether what a row hands over moves what it says.
+/// Whether what a row hands over moves what it says, and is itself handed over with the places of what left before.
 fn is_right(alloc: Global, row: &Row) -> Result<bool, AllocError> {
-    let mut places = Places::new(alloc);
-    let mut heap = graph(alloc, row, &mut places)?;
+    let mut known = Known::new(alloc);
+    let mut heap = graph(alloc, row, &mut known)?;
     let values = handed(alloc, row.handed)?;
-    let moved = publish(alloc, &mut heap, &mut places, &values)?;
-    Ok(is_moved(&heap, row, &moved))
+    let (values, moved) = publish(alloc, &mut heap, &mut known, values)?;
+    Ok(
+        is_moved(&heap, row, &moved)
+            && values
+                .iter()
+                .all(|value| is_value_placed(&heap, row, value)),
+    )
 }
 
 /// The first row that is not so.
@@ -230,8 +238,10 @@ fn chain(alloc: Global, count: usize) -> Result<(Heap, Ref), AllocError> {
 /// How many things a chain of so many objects moves.
 fn moved_by_chain(alloc: Global, count: usize) -> Result<usize, AllocError> {
     let (mut heap, last) = chain(alloc, count)?;
-    let mut places = Places::new(alloc);
-    let moved = publish(alloc, &mut heap, &mut places, &[Value::Ref(last)])?;
+    let mut known = Known::new(alloc);
+    let mut values = Vec::new(alloc);
+    values.push(Value::Ref(last))?;
+    let (_, moved) = publish(alloc, &mut heap, &mut known, values)?;
     Ok(moved.len())
 }
 

@@ -3,7 +3,7 @@ use Rattle.publish_barrier.proofs.Committing.{Leaving}
 use Rattle.publish_barrier.proofs.moving.commit.Given as goal
 
 abbrev pub invariant-moved : goal.invariant-moved
-invariant-moved g l = Leaving l.fn.heap l.heap l.fn.places.places l.places.places l.places.room l.moved l.number
+invariant-moved g l = Leaving l.fn.heap l.heap l.fn.known.refs l.known.refs l.known.room l.moved l.number
 
 abbrev pub decreases-moved : goal.decreases-moved
 decreases-moved g l = length l.moved - l.number

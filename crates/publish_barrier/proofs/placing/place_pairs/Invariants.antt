@@ -3,12 +3,12 @@ use Rattle.rb_model.specs.declared.value.Value.{Value as Held}
 use Rattle.rb_model.specs.Values.{Value as Val}
 use Rattle.rb_model.specs.Doing.{pair}
 use Rattle.rb_model.specs.Moving.{refs_in_pairs}
-use Rattle.publish_barrier.specs.Leaving.{sides_of}
+use Rattle.publish_barrier.specs.Gathers.{IsAddressed}
 use Rattle.publish_barrier.proofs.Rows.{PlacedRows}
 use Rattle.publish_barrier.proofs.placing.place_pairs.Given as goal
 
 abbrev pub invariant-pairs : goal.invariant-pairs
-invariant-pairs l = PlacedRows (Held × Held) (Val × Val) pair sides_of refs_in_pairs l.places.places l.fn.pairs.items l.pairs.items l.fn.waiting.items l.waiting.items l.at
+invariant-pairs g l = PlacedRows (Held × Held) (Val × Val) pair refs_in_pairs (IsAddressed l.heap l.known.refs) l.fn.pairs.items l.pairs.items l.fn.waiting.items l.waiting.items l.at
 
 abbrev pub decreases-pairs : goal.decreases-pairs
-decreases-pairs l = length l.pairs.items - l.at
+decreases-pairs g l = length l.pairs.items - l.at
