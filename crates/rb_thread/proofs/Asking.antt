@@ -21,7 +21,8 @@ use Rattle.rb_thread.specs.Family.{Job}
 use Rattle.rb_thread.specs.Kins.{Kin, done, Changes}
 use Rattle.rb_thread.specs.Seats as seats
 use Rattle.rb_thread.specs.Asking.{tells_end, number_in}
-use Rattle.rb_thread.specs.Handing.{NotesOf, refs_told}
+use Rattle.rb_thread.specs.Handing.{refs_told}
+use Rattle.publish_barrier.specs.Known.{NotesOf}
 use Rattle.rb_thread.specs.Alive.{Alive}
 use Rattle.rb_thread.proofs.Entries.{IsQuiet, quiet_join, quiet_start}
 use Rattle.rb_thread.proofs.Sounding.{QuietAnswer}
@@ -70,7 +71,7 @@ module _ {Pass Q Z F : Type 0} {of : Pass → TableId} {view : Pass → View} {k
 
   -- a Join that was answered by an end
   pub alive_ended : {here here' : TableId} {v w : View} {own : Private} {number : ℕ} {refs refs' : List Ref} {ks ls : List (Kin Q)} {f : F} {z : Z} (n : ℕ) (t : Ref) (a : Answer)
-      → Alive of view kept pre post home S N j here v own number refs ks f z → here' ≡ here → tells_end a ≡ true → seats.Answered v n (held.On t act.Join) a w → Changes done t.id ks ls → NotesOf refs (refs_told a) refs'
+      → Alive of view kept pre post home S N j here v own number refs ks f z → here' ≡ here → tells_end a ≡ true → seats.Answered v n (held.On t act.Join) [] a [] w → Changes done t.id ks ls → NotesOf refs (refs_told a) refs'
       → Alive of view kept pre post home S N j here' w own number refs' ls f z
   alive_ended n t (answer.Done (answered.Ended how)) l h e x ch no' = alive_taken n (held.On t act.Join) (answered.Ended how) t.id l h refl (refl, (λ rs. refl), refl) x ch no'
   alive_ended n t (answer.Done (answered.Value y)) l h e x ch no' = absurd (let q : false ≡ true = e in cc)
@@ -85,6 +86,6 @@ module _ {Pass Q Z F : Type 0} {of : Pass → TableId} {view : Pass → View} {k
 
   -- and one that was not
   pub alive_other : {here here' : TableId} {v w : View} {own : Private} {number : ℕ} {refs refs' : List Ref} {ks : List (Kin Q)} {f : F} {z : Z} (n : ℕ) (t : Ref) (a : Answer)
-      → Alive of view kept pre post home S N j here v own number refs ks f z → here' ≡ here → tells_end a ≡ false → seats.Answered v n (held.On t act.Join) a w → NotesOf refs (refs_told a) refs'
+      → Alive of view kept pre post home S N j here v own number refs ks f z → here' ≡ here → tells_end a ≡ false → seats.Answered v n (held.On t act.Join) [] a [] w → NotesOf refs (refs_told a) refs'
       → Alive of view kept pre post home S N j here' w own number refs' ks f z
   alive_other n t a l h e x no' = alive_quiet n (held.On t act.Join) a l h refl (quiet_joining t a e) x no'

@@ -7,7 +7,9 @@ use Rattle.rb_model.specs.Private.{Private, bare, nothing_waits}
 use Rattle.rb_model.specs.Log.{Log, fresh}
 use Rattle.rb_model.specs.Started.{started, ungathered}
 use Rattle.rb_shared.specs.Lists.{Has, Each}
-use Rattle.rb_shared.specs.Asking.{Knows}
+use Rattle.rb_shared.specs.Asking.{Knows, ids_moved}
+use Rattle.publish_barrier.specs.Absent.{HasLeft}
+use Rattle.publish_barrier.specs.Known.{NotesOf}
 use Rattle.rb_shared.specs.View.{View, polled_view, to_globals}
 use Rattle.rb_machine.specs.Scopes.{Script}
 use Rattle.rb_machine.specs.Control.{State}
@@ -17,7 +19,6 @@ use Rattle.rb_machine.proofs.Down.{is_never_stuck}
 use Rattle.rb_thread.specs.declared.job.Job.{Job as HeldJob}
 use Rattle.rb_thread.specs.Family.{Job, number_of, start_of, Fresh}
 use Rattle.rb_thread.specs.Kins.{Kin}
-use Rattle.rb_thread.specs.Handing.{NotesOf}
 use Rattle.rb_thread.specs.Alive.{Sound, Spawns, Alive, tells, ended_view, Left}
 use Rattle.rb_thread.proofs.Causes.{memory_cause}
 use Rattle.rb_thread.proofs.Closing.{ends_by}
@@ -76,6 +77,7 @@ alive_fresh {Q = Q} of view kept pre post home S N j place v w own number refs k
       mine = ap (λ (h : Private). h.thread) b ∙ m;
       sound = sound_fresh S N j v w [] fr q refl;
       known = k;
+      absent = subst (λ (l : Log). Each (HasLeft own) (ids_moved l.entries)) (sym (ap (λ (o : View). o.log) q ∙ fr.log_is)) tt;
       promised = λ i x k' q' e'. absurd (cc);
       spawns = subst (λ o. Spawns of view kept pre post home S N o f z) (sym q) s;
     }
@@ -87,5 +89,5 @@ left_at_once S N j v u w fr p e =
     let l : u.log ≡ fresh = ap (λ (o : View). o.log) p ∙ fr.log_is in
     let h = bare (number_of j) in
     let s = sound_fresh {Q = ℕ} S N j v u [] fr p refl in
-    ends_by {Q = ℕ} S N j u u w [] [] 0 h Memory Memory Memory false refl s (all_gathered u.log Memory) s (λ i x b q. absurd (omega (arith, b))) (tells refl (nothing_waits h) e)
+    ends_by {Q = ℕ} S N j u u w [] [] 0 h Memory Memory Memory false h refl s (all_gathered u.log Memory) s (λ i x b q. absurd (omega (arith, b))) (tells [] [] refl (nothing_waits h) e)
     (subst (λ o. Comes S N (start_of S N j) o h Memory 0) (sym l) (cut_at_once S N (start_of S N j) (number_of j))) (memory_cause u.log)

@@ -50,8 +50,9 @@ full_cause : (l : Log) (x : Val) (used wanted n : ℕ) (how : Ending) (moved : L
     → HasCause (logged (with_refusal l (End (Value x)) moved (Some (used, wanted))) (record { step = n; call = End how; moved = []; reply = Done })) (Full used wanted)
 full_cause l x used wanted n how moved words e = inl (_, has_right l.refusals (_ ∷ []) _ (inl refl), some_same (Some (used, wanted)) words e)
 
-pub closed_cause : (n : ℕ) (h : Private) (e : Ending) (v w : View) (how : Ending) → Closes n h e v w how → HasCause v.log e → HasCause w.log how
-closed_cause n h e v w how (tells i g q) c = subst (HasCause w.log) (sym i) (subst (λ (o : View). HasCause o.log e) (sym q) (cause_entry v.log (record { step = n; call = End e; moved = []; reply = Done }) e c))
-closed_cause n h e v w how (lacks x is i q) c = subst (HasCause w.log) (sym i) (memory_cause w.log)
-closed_cause n h e v w how (fills x used wanted is i g q) c =
-    subst (HasCause w.log) (sym i) (subst (λ (o : View). HasCause o.log (Full used wanted)) (sym q) (full_cause v.log x used wanted n (Full used wanted) []))
+pub closed_cause : (n : ℕ) (h : Private) (e : Ending) (v w : View) (how : Ending) (k : Private) → Closes n h e v w how k → HasCause v.log e → HasCause w.log how
+closed_cause n h e v w how k (tells moved refs i g q) c =
+    subst (HasCause w.log) (sym i) (subst (λ (o : View). HasCause o.log e) (sym q) (cause_entry v.log (record { step = n; call = End e; moved = moved; reply = Done }) e c))
+closed_cause n h e v w how k (lacks x is i s q) c = subst (HasCause w.log) (sym i) (memory_cause w.log)
+closed_cause n h e v w how k (fills x used wanted moved left is i s g q) c =
+    subst (HasCause w.log) (sym i) (subst (λ (o : View). HasCause o.log (Full used wanted)) (sym q) (full_cause v.log x used wanted n (Full used wanted) moved))

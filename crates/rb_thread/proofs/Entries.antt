@@ -1,5 +1,5 @@
 -- What an entry starts and gathers, what a call needs, and what an answer leaves of a view.
-use Rattle.std.proofs.Common.{◌≡◌, ℕ, suc, zero, slice_get, ◌-◌, true, false, not, List, [], ◌∷◌, ◌++◌, length, Some, None, ◌⊎◌, inl, inr, refl, sym, ap, subst, ◌∙◌, append-nil, append_assoc}
+use Rattle.std.proofs.Common.{◌≡◌, ℕ, suc, zero, slice_get, ◌-◌, true, false, not, List, [], ◌∷◌, ◌++◌, length, map, Some, None, ◌⊎◌, inl, inr, refl, sym, ap, subst, ◌∙◌, append-nil, append_assoc}
 use Rattle.rb_model.specs.declared.value.Id.{Id}
 use Rattle.rb_model.specs.declared.value.Ref.{Ref}
 use Rattle.rb_model.specs.declared.act.Act.{Act as Asked}
@@ -8,24 +8,24 @@ use Rattle.rb_model.specs.declared.act.Reply.TheVariants as answered
 use Rattle.rb_model.specs.declared.call.Call.{Call as Held}
 use Rattle.rb_model.specs.declared.call.Call.TheVariants as held
 use Rattle.rb_model.specs.declared.call.End.{End as HeldEnd}
-use Rattle.rb_model.specs.Values.{Value as Val, Reference, plain}
+use Rattle.rb_model.specs.declared.moved.MovedItem.{MovedItem}
+use Rattle.rb_model.specs.Values.{Value as Val, Reference}
 use Rattle.rb_model.specs.Acts.{Act, GetField, SetField, At, Put, Push, Unshift, Pop, Shift, DeleteAt, KGet, KHas, KPut, KDelete, Clear, Len, Copy, Join, Lock, Unlock, Reply}
 use Rattle.rb_model.specs.Acts as reply
 use Rattle.rb_model.specs.Doing.{doing, said}
 use Rattle.rb_model.specs.Immediates.{reference}
-use Rattle.rb_model.specs.Moving.{receiver, refs_in_act, refs_in_call, refs_in_end, refs_in_reply}
-use Rattle.rb_model.specs.Private.{Private, Leaves, nothing_waits, no_thing, elsewhere}
+use Rattle.rb_model.specs.Moving.{items_of, ref_of, refs_in_act, refs_in_end, refs_in_reply}
+use Rattle.rb_model.specs.Private.{Item}
 use Rattle.rb_model.specs.Log.{Entry, Call, On, Start, Gather, Print, End, asked, is_end}
-use Rattle.rb_model.specs.Started.{started, started_by, after_call, after_entries, next_thread}
+use Rattle.rb_model.specs.Started.{started, started_by, after_call, after_entries}
 use Rattle.rb_shared.specs.declared.answer.Answer.{Answer}
 use Rattle.rb_shared.specs.declared.answer.Answer.TheVariants as answer
 use Rattle.rb_shared.specs.Lists.{Has, Each}
-use Rattle.rb_shared.specs.Asking.{MayAsk, Knows, NamesOne, GathersOwn, HasJoined, HasNextId, WasTold}
+use Rattle.rb_shared.specs.Asking.{MayAsk, Knows, NamesOne, HasJoined, WasTold, ids_moved}
 use Rattle.rb_shared.specs.Answers.{entry_of}
 use Rattle.rb_shared.specs.Replies.{Serves}
 use Rattle.rb_shared.specs.View.{View, with_entry, with_refused, unasked, room}
 use Rattle.rb_thread.specs.Family.{Job, Body, job_by, jobs, number_of}
-use Rattle.rb_thread.specs.Handing.{IsElsewhere}
 use Rattle.rb_thread.specs.Asking.{is_join, tells_end, number_in}
 use Rattle.rb_thread.specs.Seats as seats
 
@@ -63,6 +63,12 @@ after_more rs (x ∷ es) e = after_more (after_call rs x.call x.reply) es e
 pub jobs_more : (es : List Entry) (e : Entry) → jobs (es ++ e ∷ []) ≡ jobs es ++ job_by e.call e.reply
 jobs_more [] e = append-nil (job_by e.call e.reply)
 jobs_more (x ∷ es) e = ap (λ y. job_by x.call x.reply ++ y) (jobs_more es e) ∙ sym (append_assoc (job_by x.call x.reply) (jobs es) (job_by e.call e.reply))
+
+-- the ids of what moved
+pub ids_more : (es : List Entry) (e : Entry) → ids_moved (es ++ e ∷ []) ≡ ids_moved es ++ map (λ (x : Item). x.id) e.moved
+ids_more [] e = append-nil (map (λ (x : Item). x.id) e.moved)
+ids_more (y ∷ es) e =
+    ap (λ ys. map (λ (x : Item). x.id) y.moved ++ ys) (ids_more es e) ∙ sym (append_assoc (map (λ (x : Item). x.id) y.moved) (ids_moved es) (map (λ (x : Item). x.id) e.moved))
 
 -- ---- the jobs stand where the threads do
 
@@ -138,7 +144,7 @@ quiet_act t Join r e = absurd (let f : true ≡ false = e in cc)
 quiet_act t Lock r e = (refl, (λ rs. refl), refl)
 quiet_act t Unlock r e = (refl, (λ rs. refl), refl)
 
-joins_none : (v : View) (t : Reference) (act : Act) → is_join act ≡ false → HasJoined v (On t act)
+pub joins_none : (v : View) (t : Reference) (act : Act) → is_join act ≡ false → HasJoined v (On t act)
 joins_none v t (GetField n) e = tt
 joins_none v t (SetField n w) e = tt
 joins_none v t (At i) e = tt
@@ -185,7 +191,7 @@ known_or : (v : View) (rs : List Ref) → Each (Knows v) rs → Each (λ r. Know
 known_or v [] e = tt
 known_or v (r ∷ rs) e = (inl e.0, known_or v rs e.1)
 
-receives_by : (v : View) (r : Ref) (act : Act) → Knows v r → Serves r.sort act → (x : Ref) → Some r ≡ Some x → Knows v x × Serves x.sort act
+pub receives_by : (v : View) (r : Ref) (act : Act) → Knows v r → Serves r.sort act → (x : Ref) → Some r ≡ Some x → Knows v x × Serves x.sort act
 receives_by v r act k s x e = let q : r ≡ x = cc in subst (λ y. Knows v y × Serves y.sort act) q (k, s)
 
 pub may_join : (v : View) (r : Ref) → Knows v r → Serves r.sort Join → WasTold v r.id → (act : Asked) → doing act ≡ Join → Each (Knows v) (refs_in_act act) → MayAsk v (held.On r act) []
@@ -202,20 +208,6 @@ may_join v r k s told act e refs = record {
   joined = subst (λ a. HasJoined v (On (reference r) a)) (sym e) told;
 }
 
-pub may_act : (v : View) (r : Ref) (act : Asked) → Knows v r → Serves r.sort (doing act) → Each (Knows v) (refs_in_act act) → is_join (doing act) ≡ false → MayAsk v (held.On r act) []
-may_act v r act k s refs e = record {
-  receives = receives_by v r (doing act) k s;
-  known = known_or v (refs_in_act act) refs;
-  own = tt;
-  once = tt;
-  first = tt;
-  things = tt;
-  bare = λ b. refl;
-  next = tt;
-  gathers = tt;
-  joined = joins_none v (reference r) (doing act) e;
-}
-
 pub may_gather : (v : View) (n : ℕ) (r : Ref) → Knows v r → Serves r.sort Join → Has (started v.log.entries) (n, reference r) → WasTold v r.id → MayAsk v (held.Gather r) []
 may_gather v n r k s h told = record {
   receives = receives_by v r Join k s;
@@ -228,20 +220,6 @@ may_gather v n r k s h told = record {
   next = tt;
   gathers = (n, reference r, h, refl);
   joined = told;
-}
-
-pub may_start : (v : View) (c : Held) (id : Id) (body : ℕ) (vs : List Val) → asked c ≡ Start id body vs → receiver c ≡ None → id ≡ next_thread v.thread v.log → Each (Knows v) (refs_in_call c) → MayAsk v c []
-may_start v c id body vs is none e refs = record {
-  receives = λ x q. absurd (let z : None ≡ Some x = sym none ∙ q in cc);
-  known = known_or v (refs_in_call c) refs;
-  own = tt;
-  once = tt;
-  first = tt;
-  things = tt;
-  bare = λ b. refl;
-  next = subst (HasNextId v) (sym is) e;
-  gathers = subst (GathersOwn v) (sym is) tt;
-  joined = subst (HasJoined v) (sym is) tt;
 }
 
 pub may_print : (v : View) (text : _) → MayAsk v (held.Print text) []
@@ -309,11 +287,12 @@ goes_same v w en po th ge sl to lg kn = record {
   known = λ r h. subst (λ rs. Has rs r) (sym kn) h;
 }
 
-pub goes_answered : (v w : View) (n : ℕ) (c : Held) (a : Answer) → is_end (asked c) ≡ false → seats.Answered v n c a w → Goes v w
-goes_answered v w n c (answer.Done r) e x = subst (Goes v) (sym x.0) (goes_entry v (entry_of n c [] (said r)) (refs_in_reply r) e)
-goes_answered v w n c (answer.Full used wanted) e x = subst (Goes v) (sym x.0) (goes_same v (with_refused v (asked c) [] (Some (used, wanted))) refl refl refl refl refl refl refl refl)
-goes_answered v w n c answer.SinkFailed e x = subst (Goes v) (sym x.0) (goes_same v (with_refused v (asked c) [] None) refl refl refl refl refl refl refl refl)
-goes_answered v w n c answer.Memory e x = subst (Goes v) (sym x.0) (goes_same v (unasked v) refl refl refl refl refl refl refl refl)
+pub goes_answered : (v w : View) (n : ℕ) (c : Held) (ms : List MovedItem) (a : Answer) (ms' : List MovedItem) → is_end (asked c) ≡ false → seats.Answered v n c ms a ms' w → Goes v w
+goes_answered v w n c ms (answer.Done r) ms' e x = subst (Goes v) (sym x.0) (goes_entry v (entry_of n c ms (said r)) (refs_in_reply r ++ map ref_of ms') e)
+goes_answered v w n c ms (answer.Full used wanted) ms' e x =
+    subst (Goes v) (sym x.0) (goes_same v (with_refused v (asked c) (items_of ms) (Some (used, wanted))) refl refl refl refl refl refl refl refl)
+goes_answered v w n c ms answer.SinkFailed ms' e x = subst (Goes v) (sym x.0) (goes_same v (with_refused v (asked c) (items_of ms) None) refl refl refl refl refl refl refl refl)
+goes_answered v w n c ms answer.Memory ms' e x = subst (Goes v) (sym x.0) (goes_same v (unasked v) refl refl refl refl refl refl refl refl)
 
 pub goes_on : (u v w : View) → Goes u v → Goes v w → Goes u w
 goes_on u v w g h = record {
@@ -333,18 +312,3 @@ goes_room v w g = ap (λ x. x - w.generation) g.slots ∙ ap (λ x. v.slots - x)
 -- an answer that is none that a call of this kind may have leaves the entries
 abbrev pub LeavesEntries : View → View → Type 0
 LeavesEntries v w = w.log.entries ≡ v.log.entries
-
--- ---- what moves: nothing
-
-leaves_one : (h : Private) (v : Val) (vs : List Val) → IsElsewhere h v → Leaves h vs [] h → Leaves h (v ∷ vs) [] h
-leaves_one h Rattle.rb_model.specs.Values.Nil vs e l = no_thing h h _ vs [] (λ r q. cc) l
-leaves_one h Rattle.rb_model.specs.Values.False vs e l = no_thing h h _ vs [] (λ r q. cc) l
-leaves_one h Rattle.rb_model.specs.Values.True vs e l = no_thing h h _ vs [] (λ r q. cc) l
-leaves_one h (Rattle.rb_model.specs.Values.Int n) vs e l = no_thing h h _ vs [] (λ r q. cc) l
-leaves_one h (Rattle.rb_model.specs.Values.Sym n) vs e l = no_thing h h _ vs [] (λ r q. cc) l
-leaves_one h (Rattle.rb_model.specs.Values.Str b) vs e l = no_thing h h _ vs [] (λ r q. cc) l
-leaves_one h (Rattle.rb_model.specs.Values.To r) vs e l = elsewhere h h r vs [] (e r refl) l
-
-pub leaves_none : (h : Private) (vs : List Val) → Each (IsElsewhere h) vs → Leaves h vs [] h
-leaves_none h [] e = nothing_waits h
-leaves_none h (v ∷ vs) e = leaves_one h v vs e.0 (leaves_none h vs e.1)

@@ -57,9 +57,9 @@ changes_done ks now new k x y e q f r =
     (x, done (childless x), e, refl, r ∙ ((λ i. set (q i) k (done (same i))) ∙ set_set ks k (childless x) (done (childless x))))
 
 -- the log behind a Gather that was answered by an end
-pub gathered_log : (v0 v w : View) (n : ℕ) (t r : Ref) (a : Answer) (how : HeldEnd) → v.log ≡ v0.log → t ≡ r → ended_in a ≡ Some how → seats.Answered v n (held.Gather t) a w → w.log ≡ logged v0.log (gather_entry n (reference r) (over how))
+pub gathered_log : (v0 v w : View) (n : ℕ) (t r : Ref) (a : Answer) (how : HeldEnd) → v.log ≡ v0.log → t ≡ r → ended_in a ≡ Some how → seats.Answered v n (held.Gather t) [] a [] w → w.log ≡ logged v0.log (gather_entry n (reference r) (over how))
 gathered_log v0 v w n t r a how l i e x =
-    let x' = subst (λ b. seats.Answered v n (held.Gather t) b w) (told_as a how e) x in
+    let x' = subst (λ b. seats.Answered v n (held.Gather t) [] b [] w) (told_as a how e) x in
     ap (λ (y : View). y.log) x'.0 ∙ (λ j. logged (l j) (gather_entry n (reference (i j)) (over how)))
 
 module _ {Pass Q Z F : Type 0} {of : Pass → TableId} {view : Pass → View} {kept : Q → Pass → Type 0} {pre : F → Z → HeldJob → Pass → Type 0} {post : F → Z → HeldJob → Pass → Q → Type 0}
@@ -74,15 +74,15 @@ module _ {Pass Q Z F : Type 0} {of : Pass → TableId} {view : Pass → View} {k
       (was_told v ks x.thing.id s (settled_one v.thread ks k x s.placed e c)))
 
   pub alive_gathered : {here here' : TableId} {v w : View} {own : Private} {number : ℕ} {refs : List Ref} {ks ls : List (Kin Q)} {f : F} {z : Z} (n k : ℕ) (t : Ref) (a : Answer) (how : HeldEnd) (x y : Kin Q)
-      → Alive of view kept pre post home S N j here v own number refs ks f z → here' ≡ here → ended_in a ≡ Some how → seats.Answered v n (held.Gather t) a w → slice_get ks k ≡ Some x → t ≡ x.thing
+      → Alive of view kept pre post home S N j here v own number refs ks f z → here' ≡ here → ended_in a ≡ Some how → seats.Answered v n (held.Gather t) [] a [] w → slice_get ks k ≡ Some x → t ≡ x.thing
       → slice_get ks k ≡ Some y → ls ≡ set ks k (done y) → Alive of view kept pre post home S N j here' w own number refs ls f z
   alive_gathered {v = v} {w = w} {refs = refs} {ks = ks} n k t a how x y l h e s q i q' g =
-      let s' = subst (λ b. seats.Answered v n (held.Gather t) b w) (told_as a how e) s in
+      let s' = subst (λ b. seats.Answered v n (held.Gather t) [] b [] w) (told_as a how e) s in
       let same : y ≡ x = some_same y x (sym q' ∙ q) in
       alive_taken n (held.Gather t) (answered.Ended how) t.id l h refl (refl, (λ rs. refl), refl) s' (one k y q' (ap (λ (o : Kin Q). o.thing.id) same ∙ ap (λ (o : Ref). o.id) (sym i)) g)
       (notes_none refs (refs_told (answer.Done (answered.Ended how))))
 
   pub alive_left : {here here' : TableId} {v w : View} {own : Private} {number : ℕ} {refs : List Ref} {ks : List (Kin Q)} {f : F} {z : Z} (n : ℕ) (t : Ref) (a : Answer)
-      → Alive of view kept pre post home S N j here v own number refs ks f z → here' ≡ here → ended_in a ≡ None → seats.Answered v n (held.Gather t) a w
+      → Alive of view kept pre post home S N j here v own number refs ks f z → here' ≡ here → ended_in a ≡ None → seats.Answered v n (held.Gather t) [] a [] w
       → Alive of view kept pre post home S N j here' w own number refs ks f z
   alive_left {v = v} {w = w} {refs = refs} n t a l h e s = alive_quiet n (held.Gather t) a l h refl (left_out v w n t a e s).1 s (notes_none refs (refs_told a))

@@ -7,9 +7,9 @@ pub mod Tails
 pub mod Causes
 pub mod Closing
 pub mod Noting
-pub mod Outward
 pub mod Asking
 pub mod Serving
 pub mod Gathering
+pub mod Handed
 pub mod Owning
 pub mod Begun

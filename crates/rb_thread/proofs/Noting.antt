@@ -1,147 +1,26 @@
--- References looked up by their keys are those of the list.
-use Rattle.std.proofs.Common.{◌≡◌, inl, inr, ℕ, zero, suc, Bool, true, false, List, [], ◌∷◌, ◌++◌, map, Option, Some, None, refl, sym, ap, subst, ◌∙◌, Bor, ◌<◌, length, get_or, arith}
-use Rattle.std.proofs.lemmas.Bool.{eq-eqb, ne_eqb}
-use Rattle.std.proofs.lemmas.Bool.Decides.{eqb_tells}
-use Rattle.std.specs.Prelude.{◌==◌, ◌&&◌, Result, Ok, Err, OnOk, OnErr}
-use Rattle.std.specs.Option.{option_map, option_copied}
-use Rattle.std.specs.List.{flat_map}
-use Rattle.std.specs.Map.{lookup}
-use Rattle.std.proofs.lemmas.List.{map-append}
-use Rattle.indexmap.specs.IndexMap.{insert_entry}
-use Rattle.indexmap.proofs.MapLemmas.{absent_from_lookup, insert_entry-absent}
-use Rattle.rb_model.specs.declared.value.Id.{Id}
+-- References that are noted.
+use Rattle.std.proofs.Common.{List, [], ◌∷◌, Option, Some, None, ◌⊎◌, inl, inr}
 use Rattle.rb_model.specs.declared.value.Ref.{Ref}
-use Rattle.rb_model.specs.Values.{same_id}
 use Rattle.rb_shared.specs.Lists.{Has}
-use Rattle.rb_shared.specs.View.{to_globals}
-use Rattle.rb_shared.proofs.Runs.{same_is}
-use Rattle.rb_thread.specs.declared.known.Key.{Key}
-use Rattle.rb_thread.specs.declared.known.Place.{Place}
-use Rattle.rb_thread.specs.contracts.known.KeyPartialEq.TheImpl.{eq-value}
-use Rattle.rb_thread.specs.Handing.{ref_of, noted, with_noted, NotesOf}
-use Rattle.rb_thread.proofs.Entries.{has_left, has_right, has_cases}
+use Rattle.publish_barrier.specs.Known.{NotesOf, noted, with_all_noted, with_noted}
+use Rattle.rb_thread.proofs.Entries.{has_cases}
 
--- the derived `==` of keys
-abbrev pub key_eq : Key → Key → Bool
-key_eq = eq-value.it
-
-abbrev pub id_of : Key → Id
-id_of key = record { thread = key.thread; serial = key.serial }
-
-swapped : (a b : ℕ) → (a == b) ≡ (b == a)
-swapped a b = elim (eqb_tells a b) [
-  | inl h ↦ h.0 ∙ sym (eq-eqb b a (sym h.1))
-  | inr h ↦ h.0 ∙ sym (ne_eqb b a (λ e. h.1 (sym e)))
-]
-
-same_key : (k x : Key) → key_eq k x ≡ same_id (id_of x) (id_of k)
-same_key k x = ap (λ b. b && k.serial == x.serial) (swapped k.thread x.thread) ∙ ap (λ b. x.thread == k.thread && b) (swapped k.serial x.serial)
-
--- a place under an id
-abbrev pub placed_as : Id → Place → Ref
-placed_as id p = record { sort = p.sort; id = id; at = p.at }
-
--- what is found under a key
-pub noted_is : (k : Key) (es : List (Key × Place)) → noted (map ref_of es) (id_of k) ≡ option_map (placed_as (id_of k)) (lookup (key_eq k) es)
-noted_is k [] = refl
-noted_is k (e ∷ es) = (elim (key_eq k e.0) as (λ b. key_eq k e.0 ≡ b → noted (map ref_of (e ∷ es)) (id_of k) ≡ option_map (placed_as (id_of k)) (lookup (key_eq k) (e ∷ es))) [
-  | true ↦ λ q. (let s = sym (same_key k e.0) ∙ q in let is = same_is (id_of e.0) (id_of k) s in rw (q, s) (ap (λ i. Some (placed_as i e.1)) is))
-  | false ↦ λ q. rw (q, (sym (same_key k e.0) ∙ q)) (noted_is k es)
-]) refl
-
-pub copied : (f : Place → Ref) (r : Option (Bor Place)) → option_map (λ (p : Bor Place). f p.now) r ≡ option_map f (option_copied r)
-copied f None = refl
-copied f (Some p) = refl
-
-lost : (f : Place → Ref) (o : Option Place) → option_map f o ≡ None → o ≡ None
-lost f None e = refl
-lost f (Some p) e = absurd (cc)
-
--- one whose id is new comes last
-pub added : (k : Key) (p : Place) (es : List (Key × Place)) → noted (map ref_of es) (id_of k) ≡ None → map ref_of (insert_entry key_eq es k p) ≡ map ref_of es ++ ref_of (k, p) ∷ []
-added k p es new =
-    let none = lost (placed_as (id_of k)) (lookup (key_eq k) es) (sym (noted_is k es) ∙ new) in
-    ap (map ref_of) (insert_entry-absent key_eq k p es (absent_from_lookup (key_eq k) es none)) ∙ map-append ref_of es ((k, p) ∷ [])
-
--- none behind the global variables
-pub behind_globals : (rs : List Ref) (id : Id) → same_id to_globals.id id ≡ false → noted (to_globals ∷ rs) id ≡ noted rs id
-behind_globals rs id e = rw e refl
-
-pub none_behind : (rs : List Ref) (id : Id) → noted (to_globals ∷ rs) id ≡ None → noted rs id ≡ None
-none_behind rs id e = by (same_id to_globals.id id) refl where
-  by : (b : Bool) → same_id to_globals.id id ≡ b → noted rs id ≡ None
-  by true q = absurd (let c : Some to_globals ≡ None = sym (rw q refl) ∙ e in cc)
-  by false q = sym (behind_globals rs id q) ∙ e
-
--- ---- of each that is noted it is said where it came from
-
-pub notes_none : (rs : List Ref) (refs : List Ref) → NotesOf rs refs rs
+-- of each that is noted it is said where it came from
+pub notes_none : (rs refs : List Ref) → NotesOf rs refs rs
 notes_none rs refs r h = inl h
 
-notes_by : (rs : List Ref) (r : Ref) (o : Option Ref) → NotesOf rs (r ∷ []) (with_noted rs r o)
-notes_by rs r None x h = has_cases rs (r ∷ []) x h
-notes_by rs r (Some old) x h = inl h
+-- one more
+one_noted : (rs : List Ref) (x : Ref) (o : Option Ref) (r : Ref) → Has (with_noted rs x o) r → Has rs r ⊎ Has (x ∷ []) r
+one_noted rs x None r h = has_cases rs (x ∷ []) r h
+one_noted rs x (Some old) r h = inl h
 
-pub notes_one : {E : Type 0} (result : Result (Unit {0}) E) (old new : List Ref) (r : Ref) → OnOk result (new ≡ with_noted old r (noted old r.id)) → OnErr result (new ≡ old) → NotesOf old (r ∷ []) new
-notes_one (Ok u) old new r e f = subst (NotesOf old (r ∷ [])) (sym e) (notes_by old r (noted old r.id))
-notes_one (Err u) old new r e f = subst (NotesOf old (r ∷ [])) (sym f) (notes_none old (r ∷ []))
-
-pub notes_on : (a b c rs ss : List Ref) → NotesOf a rs b → NotesOf b ss c → NotesOf a (rs ++ ss) c
-notes_on a b c rs ss f g x h = elim (g x h) [
-  | inl i ↦ elim (f x i) [ inl o ↦ inl o | inr o ↦ inr (has_left rs ss x o) ]
-  | inr i ↦ inr (has_right rs ss x i)
+-- several more
+pub all_noted : (rs xs : List Ref) → NotesOf rs xs (with_all_noted rs xs)
+all_noted rs [] r h = inl h
+all_noted rs (x ∷ xs) r h = elim (all_noted (with_noted rs x (noted rs x.id)) xs r h) [
+  | inl o ↦ elim (one_noted rs x (noted rs x.id) r o) [
+    | inl k ↦ inl k
+    | inr k ↦ elim k [ inl e ↦ inr (inl e) | inr e ↦ absurd e ]
+  ]
+  | inr o ↦ inr (inr o)
 ]
-
-pub notes_same : (a b rs : List Ref) → b ≡ a → NotesOf a rs b
-notes_same a b rs e = subst (NotesOf a rs) (sym e) (notes_none a rs)
-
--- ---- what is looked up
-
-some_is : {X : Type 0} (a b : X) → Some a ≡ Some b → a ≡ b
-some_is a b e = cc
-
-pub finds_globals : (rs all : List Ref) (id : Id) (g : Ref) → to_globals ∷ rs ≡ all → same_id to_globals.id id ≡ true → g ≡ to_globals → Some g ≡ noted all id
-finds_globals rs all id g v s e = subst (λ a. Some g ≡ noted a id) v (rw s (ap Some e))
-
-module _ (k : Key) (es : List (Key × Place)) (all : List Ref) (id : Id) (v : to_globals ∷ map ref_of es ≡ all) (is : id_of k ≡ id) where
-  found_by : same_id to_globals.id id ≡ false → noted all id ≡ option_map (placed_as id) (lookup (key_eq k) es)
-  found_by s =
-      sym (ap (λ a. noted a id) v) ∙ behind_globals (map ref_of es) id s
-      ∙ subst (λ i. noted (map ref_of es) i ≡ option_map (placed_as i) (lookup (key_eq k) es)) is (noted_is k es)
-
-  pub finds_some : (r : Option (Bor Place)) (p : Bor Place) → same_id to_globals.id id ≡ false → option_copied r ≡ lookup (key_eq k) es → r ≡ Some p → Some (placed_as id p.now) ≡ noted all id
-  finds_some r p s e q = sym (found_by s ∙ ap (option_map (placed_as id)) (sym e ∙ ap option_copied q))
-
-  pub finds_none : (r : Option (Bor Place)) → same_id to_globals.id id ≡ false → option_copied r ≡ lookup (key_eq k) es → r ≡ None → None ≡ noted all id
-  finds_none r s e q = sym (found_by s ∙ ap (option_map (placed_as id)) (sym e ∙ ap option_copied q))
-
-  pub adds : (thing : Ref) (p : Place) (o : Option Ref) → o ≡ noted all id → ((x : Ref) → o ≡ Some x → ⊥) → ref_of (k, p) ≡ thing → thing.id ≡ id → to_globals ∷ map ref_of (insert_entry key_eq es k p) ≡ with_noted all thing (noted all thing.id)
-  adds thing p o e never r i =
-      let none : noted all id ≡ None = sym e ∙ is_none o never in
-      let here : noted (map ref_of es) (id_of k) ≡ None = none_behind (map ref_of es) (id_of k) (ap (λ a. noted a (id_of k)) v ∙ (ap (noted all) is ∙ none)) in
-      let new : noted all thing.id ≡ None = ap (noted all) i ∙ none in
-      ap (λ l. to_globals ∷ l) (added k p es here) ∙ (ap (λ x. to_globals ∷ (map ref_of es ++ x ∷ [])) r ∙ (ap (λ l. l ++ thing ∷ []) v ∙ sym (ap (with_noted all thing) new)))
-    where
-      is_none : (o : Option Ref) → ((x : Ref) → o ≡ Some x → ⊥) → o ≡ None
-      is_none None f = refl
-      is_none (Some x) f = absurd (f x refl)
-
--- ---- one after another
-
-pub has_in_some : {A : Type 0} (f : A → List Ref) (xs : List A) (k : ℕ) (x : A) → k < length xs → x ≡ get_or xs k x → (r : Ref) → Has (f x) r → Has (flat_map f xs) r
-has_in_some f [] k x l e r h = absurd (omega (arith, l))
-has_in_some f (y ∷ xs) zero x l e r h = has_left (f y) (flat_map f xs) r (subst (λ o. Has (f o) r) e h)
-has_in_some f (y ∷ xs) (suc k) x l e r h = has_right (f y) (flat_map f xs) r (has_in_some f xs k x (omega (arith, l)) e r h)
-
-pub notes_among : (a all b rs c : List Ref) → NotesOf a all b → NotesOf b rs c → ((r : Ref) → Has rs r → Has all r) → NotesOf a all c
-notes_among a all b rs c f g among r h = elim (g r h) [ inl i ↦ f r i | inr i ↦ inr (among r i) ]
-
--- what is found is there, under its id
-pub noted_there : (rs : List Ref) (id : Id) (r : Ref) → noted rs id ≡ Some r → (r.id ≡ id) × Has rs r
-noted_there [] id r e = absurd (cc)
-noted_there (x ∷ rs) id r e = by (same_id x.id id) refl (λ f. noted_there rs id r f) where
-  by : (b : Bool) → same_id x.id id ≡ b → (noted rs id ≡ Some r → (r.id ≡ id) × Has rs r) → (r.id ≡ id) × Has (x ∷ rs) r
-  by true q more =
-      let same : x ≡ r = some_is x r (sym (rw q refl) ∙ e) in
-      (ap (λ (o : Ref). o.id) (sym same) ∙ same_is x.id id q, inl (sym same))
-  by false q more = let rest = more (sym (rw q refl) ∙ e) in (rest.0, inr rest.1)

@@ -5,30 +5,32 @@ use Rattle.rb_model.specs.declared.call.Call.TheVariants as held
 use Rattle.rb_model.specs.declared.call.Served.{Served}
 use Rattle.rb_model.specs.Acts.{Act, GetField, SetField, At, Put, Push, Unshift, Pop, Shift, DeleteAt, KGet, KHas, KPut, KDelete, Clear, Len, Copy, Join, Lock, Unlock}
 use Rattle.rb_model.specs.Outside.{IsServed, handed_by}
-use Rattle.rb_model.specs.Private.{Private}
+use Rattle.rb_model.specs.Private.{Leaves, Private, nothing_waits}
 use Rattle.rb_model.specs.Log.{Log, Call, Print, Answers, asked, is_print, logged}
 use Rattle.rb_shared.specs.declared.answer.Answer.{Answer}
 use Rattle.rb_shared.specs.declared.answer.Answer.TheVariants as answer
-use Rattle.rb_shared.specs.Lists.{Each}
 use Rattle.rb_shared.specs.View.{View}
 use Rattle.rb_thread.specs.Asking.{is_join, printed_as}
-use Rattle.rb_thread.specs.Handing.{IsElsewhere, served_as}
+use Rattle.rb_thread.specs.Handing.{served_as}
 use Rattle.rb_thread.specs.Seats as seats
-use Rattle.rb_thread.proofs.Entries.{leaves_none}
 
-pub served_by : (v w : View) (n : ℕ) (c : Held) (a : Answer) (own : Private) → is_print (asked c) ≡ false → Each (IsElsewhere own) (handed_by (asked c)) → seats.Answered v n c a w
+served_by : (v w : View) (n : ℕ) (c : Held) (a : Answer) (own : Private) → is_print (asked c) ≡ false → handed_by (asked c) ≡ [] → seats.Answered v n c [] a [] w
     → IsServed (served_as a) n (asked c) v.log w.log own own
-served_by v w n c (answer.Done r) own p e x = ([], leaves_none own (handed_by (asked c)) e, ap (λ (y : View). y.log) x.0)
-served_by v w n c (answer.Full used wanted) own p e x = (refl, ([], own, leaves_none own (handed_by (asked c)) e, ap (λ (y : View). y.log) x.0))
-served_by v w n c answer.SinkFailed own p e x = absurd (let q : true ≡ false = sym x.1 ∙ p in cc)
-served_by v w n c answer.Memory own p e x = (refl, ap (λ (y : View). y.log) x.0)
+served_by v w n c a own p e x = by a x where
+  none : Leaves own (handed_by (asked c)) [] own
+  none = subst (λ vs. Leaves own vs [] own) (sym e) (nothing_waits own)
+
+  by : (a : Answer) → seats.Answered v n c [] a [] w → IsServed (served_as a) n (asked c) v.log w.log own own
+  by (answer.Done r) x = ([], none, ap (λ (y : View). y.log) x.0)
+  by (answer.Full used wanted) x = (refl, ([], own, none, ap (λ (y : View). y.log) x.0))
+  by answer.SinkFailed x = absurd (let q : true ≡ false = sym x.1 ∙ p in cc)
+  by answer.Memory x = (refl, ap (λ (y : View). y.log) x.0)
 
 -- with what the code has
-pub served_is : (v w : View) (n : ℕ) (c : Held) (a : Answer) (own : Private) (s : Served) (d : Call) → is_print (asked c) ≡ false → s ≡ served_as a → asked c ≡ d → Each (IsElsewhere own) (handed_by d) → seats.Answered v n c a w
+pub served_is : (v w : View) (n : ℕ) (c : Held) (a : Answer) (own : Private) (s : Served) (d : Call) → is_print (asked c) ≡ false → s ≡ served_as a → asked c ≡ d → handed_by d ≡ [] → seats.Answered v n c [] a [] w
     → IsServed s n d v.log w.log own own
 served_is v w n c a own s d p q i e x =
-    subst (λ k. IsServed s n k v.log w.log own own) i
-    (subst (λ o. IsServed o n (asked c) v.log w.log own own) (sym q) (served_by v w n c a own p (subst (λ k. Each (IsElsewhere own) (handed_by k)) (sym i) e) x))
+    subst (λ k. IsServed s n k v.log w.log own own) i (subst (λ o. IsServed o n (asked c) v.log w.log own own) (sym q) (served_by v w n c a own p (ap handed_by i ∙ e) x))
 
 -- what came before left the log and the private things
 pub served_since : (s : Served) (n : ℕ) (d : Call) (old now new : Log) (own own' : Private) → now ≡ old → own' ≡ own → IsServed s n d now new own own → IsServed s n d old new own own'
@@ -42,7 +44,7 @@ served_until s n d old new now own own' l x = subst (λ k. IsServed s n d old k 
 pub served_as_call : (s : Served) (n : ℕ) (c d : Call) (old new : Log) (own own' : Private) → c ≡ d → IsServed s n c old new own own' → IsServed s n d old new own own'
 served_as_call s n c d old new own own' e x = subst (λ k. IsServed s n k old new own own') e x
 
-pub prints_by : (v w : View) (n : ℕ) (text : _) (a : Answer) → seats.Answered v n (held.Print text) a w → Answers (printed_as a) n (Print text) v.log w.log
+pub prints_by : (v w : View) (n : ℕ) (text : _) (a : Answer) → seats.Answered v n (held.Print text) [] a [] w → Answers (printed_as a) n (Print text) v.log w.log
 prints_by v w n text (answer.Done r) x = ap (λ (y : View). y.log) x.0 ∙ ap (λ o. logged v.log (record { step = n; call = Print text; moved = []; reply = o })) x.1
 prints_by v w n text (answer.Full used wanted) x = absurd (let q : false ≡ true = x.1 in cc)
 prints_by v w n text answer.SinkFailed x = (refl, ap (λ (y : View). y.log) x.0)

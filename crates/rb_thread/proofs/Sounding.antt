@@ -1,15 +1,16 @@
 -- What holds of the pass of a thread, and of the threads that it started, goes on to hold.
-use Rattle.std.proofs.Common.{◌≡◌, ℕ, suc, zero, true, false, List, [], ◌∷◌, ◌++◌, set, Some, None, inl, inr, refl, sym, ap, subst, ◌∙◌, slice_get, append-nil}
+use Rattle.std.proofs.Common.{◌≡◌, ℕ, suc, zero, true, false, List, [], ◌∷◌, ◌++◌, map, set, Some, None, inl, inr, refl, sym, ap, subst, ◌∙◌, slice_get, append-nil}
 use Rattle.rb_model.specs.declared.value.Id.{Id}
 use Rattle.rb_model.specs.declared.value.Ref.{Ref}
 use Rattle.rb_model.specs.declared.value.Sort.TheVariants as sort
 use Rattle.rb_model.specs.declared.act.Reply.{Reply as Answered}
 use Rattle.rb_model.specs.declared.call.Call.{Call as Held}
+use Rattle.rb_model.specs.declared.moved.MovedItem.{MovedItem}
 use Rattle.rb_model.specs.Values.{Reference}
 use Rattle.rb_model.specs.Acts.{Reply}
 use Rattle.rb_model.specs.Doing.{said}
 use Rattle.rb_model.specs.Immediates.{reference}
-use Rattle.rb_model.specs.Moving.{refs_in_reply}
+use Rattle.rb_model.specs.Moving.{ref_of, refs_in_reply}
 use Rattle.rb_model.specs.Log.{Log, Call, asked, is_end}
 use Rattle.rb_model.specs.Started.{started, started_by, ungathered, after_entries, next_thread, thread_id, to_thread, without}
 use Rattle.rb_shared.specs.declared.answer.Answer.{Answer}
@@ -89,27 +90,29 @@ abbrev pub QuietAnswer : Held → Answer → Type 0
 QuietAnswer c (answer.Done r) = IsQuiet (asked c) (said r)
 QuietAnswer c a = Unit {0}
 
-pub quiet_logs : (v w : View) (n : ℕ) (c : Held) (a : Answer) → QuietAnswer c a → seats.Answered v n c a w → (started w.log.entries ≡ started v.log.entries) × (ungathered w.log ≡ ungathered v.log) × (jobs w.log.entries ≡ jobs v.log.entries)
-quiet_logs v w n c (answer.Done r) q x =
-    let e = entry_of n c [] (said r) in
+pub quiet_logs : (v w : View) (n : ℕ) (c : Held) (ms : List MovedItem) (a : Answer) (ms' : List MovedItem) → QuietAnswer c a → seats.Answered v n c ms a ms' w
+    → (started w.log.entries ≡ started v.log.entries) × (ungathered w.log ≡ ungathered v.log) × (jobs w.log.entries ≡ jobs v.log.entries)
+quiet_logs v w n c ms (answer.Done r) ms' q x =
+    let e = entry_of n c ms (said r) in
     let l = ap (λ (y : View). y.log.entries) x.0 in
     (ap started l ∙ quiet_started v.log.entries e q, ap (after_entries []) l ∙ quiet_after v.log.entries e q, ap jobs l ∙ quiet_jobs v.log.entries e q)
-quiet_logs v w n c (answer.Full used wanted) q x = let l = ap (λ (y : View). y.log.entries) x.0 in (ap started l, ap (after_entries []) l, ap jobs l)
-quiet_logs v w n c answer.SinkFailed q x = let l = ap (λ (y : View). y.log.entries) x.0 in (ap started l, ap (after_entries []) l, ap jobs l)
-quiet_logs v w n c answer.Memory q x = let l = ap (λ (y : View). y.log.entries) x.0 in (ap started l, ap (after_entries []) l, ap jobs l)
+quiet_logs v w n c ms (answer.Full used wanted) ms' q x = let l = ap (λ (y : View). y.log.entries) x.0 in (ap started l, ap (after_entries []) l, ap jobs l)
+quiet_logs v w n c ms answer.SinkFailed ms' q x = let l = ap (λ (y : View). y.log.entries) x.0 in (ap started l, ap (after_entries []) l, ap jobs l)
+quiet_logs v w n c ms answer.Memory ms' q x = let l = ap (λ (y : View). y.log.entries) x.0 in (ap started l, ap (after_entries []) l, ap jobs l)
 
-pub sound_quiet : {Q : Type 0} (S : Script) (N : ℕ) (j : Job) (v w : View) (ks : List (Kin Q)) (n : ℕ) (c : Held) (a : Answer) → Sound S N j v ks → is_end (asked c) ≡ false → QuietAnswer c a → seats.Answered v n c a w
-    → Sound S N j w ks
-sound_quiet S N j v w ks n c a s e q x =
-    let l = quiet_logs v w n c a q x in
-    sound_same S N j v w ks s (goes_answered v w n c a e x) l.0 l.1 l.2
+pub sound_quiet : {Q : Type 0} (S : Script) (N : ℕ) (j : Job) (v w : View) (ks : List (Kin Q)) (n : ℕ) (c : Held) (ms : List MovedItem) (a : Answer) (ms' : List MovedItem) → Sound S N j v ks → is_end (asked c) ≡ false
+    → QuietAnswer c a → seats.Answered v n c ms a ms' w → Sound S N j w ks
+sound_quiet S N j v w ks n c ms a ms' s e q x =
+    let l = quiet_logs v w n c ms a ms' q x in
+    sound_same S N j v w ks s (goes_answered v w n c ms a ms' e x) l.0 l.1 l.2
 
 -- what an answer tells is known then
-pub knows_told : (v w : View) (n : ℕ) (c : Held) (a : Answer) (r : Ref) → seats.Answered v n c a w → Has (refs_told a) r → Knows w r
-knows_told v w n c (answer.Done s) r x h = subst (λ (y : View). Knows y r) (sym x.0) (has_right v.known (refs_in_reply s) r h)
-knows_told v w n c (answer.Full used wanted) r x h = absurd h
-knows_told v w n c answer.SinkFailed r x h = absurd h
-knows_told v w n c answer.Memory r x h = absurd h
+pub knows_told : (v w : View) (n : ℕ) (c : Held) (ms : List MovedItem) (a : Answer) (ms' : List MovedItem) (r : Ref) → seats.Answered v n c ms a ms' w → Has (refs_told a) r → Knows w r
+knows_told v w n c ms (answer.Done s) ms' r x h =
+    subst (λ (y : View). Knows y r) (sym x.0) (has_right v.known (refs_in_reply s ++ map ref_of ms') r (has_left (refs_in_reply s) (map ref_of ms') r h))
+knows_told v w n c ms (answer.Full used wanted) ms' r x h = absurd h
+knows_told v w n c ms answer.SinkFailed ms' r x h = absurd h
+knows_told v w n c ms answer.Memory ms' r x h = absurd h
 
 joined_covers : (v u w : View) → v.ended ≡ false → w.told ≡ v.told ++ known_logs u → Covers (known_logs v) (known_logs w)
 joined_covers v u w live told t (inl e) q = absurd (not_ended v t live e q)
@@ -204,15 +207,15 @@ has_changed ks ls id y (one k x e i q) h = elim (has_set ks k x (done x) y e (su
 ]
 has_changed ks ls id y (none_is other q) h = (y, subst (λ m. Has m y) q h, refl, refl, refl)
 
-pub taken_jobs : (v w : View) (n : ℕ) (c : Held) (r : Answered) (id : Id) → TakesOver (asked c) (said r) id → seats.Answered v n c (answer.Done r) w → jobs w.log.entries ≡ jobs v.log.entries
+pub taken_jobs : (v w : View) (n : ℕ) (c : Held) (r : Answered) (id : Id) → TakesOver (asked c) (said r) id → seats.Answered v n c [] (answer.Done r) [] w → jobs w.log.entries ≡ jobs v.log.entries
 taken_jobs v w n c r id t x =
     let d = entry_of n c [] (said r) in
     ap (λ (y : View). jobs y.log.entries) x.0 ∙ (jobs_more v.log.entries d ∙ (ap (λ o. jobs v.log.entries ++ o) t.2 ∙ append-nil (jobs v.log.entries)))
 
 pub sound_taken : {Q : Type 0} (S : Script) (N : ℕ) (j : Job) (v w : View) (ks ls : List (Kin Q)) (n : ℕ) (c : Held) (r : Answered) (id : Id) → Sound S N j v ks → is_end (asked c) ≡ false → TakesOver (asked c) (said r) id
-    → seats.Answered v n c (answer.Done r) w → Changes done id ks ls → Sound S N j w ls
+    → seats.Answered v n c [] (answer.Done r) [] w → Changes done id ks ls → Sound S N j w ls
 sound_taken S N j v w ks ls n c r id s e t x ch =
-    let g = goes_answered v w n c (answer.Done r) e x in
+    let g = goes_answered v w n c [] (answer.Done r) [] e x in
     let d = entry_of n c [] (said r) in
     let l = ap (λ (y : View). y.log.entries) x.0 in
     sound_on S N j v w ks ls s g

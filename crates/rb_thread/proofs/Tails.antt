@@ -34,7 +34,7 @@ not_ended (answered.Started n t) e i = absurd (let q = i.1 in cc)
 not_ended (answered.Failed f) e i = absurd (let q = i.1 in cc)
 
 -- where no end is told there is no entry
-pub left_out : (v w : View) (n : ℕ) (r : Ref) (a : Answer) → ended_in a ≡ None → seats.Answered v n (held.Gather r) a w → (w.log ≡ v.log) × QuietAnswer (held.Gather r) a
+pub left_out : (v w : View) (n : ℕ) (r : Ref) (a : Answer) → ended_in a ≡ None → seats.Answered v n (held.Gather r) [] a [] w → (w.log ≡ v.log) × QuietAnswer (held.Gather r) a
 left_out v w n r (answer.Done s) e x = absurd (not_ended s e x.1)
 left_out v w n r (answer.Full used wanted) e x = absurd (let f : false ≡ true = x.1 in cc)
 left_out v w n r answer.SinkFailed e x = absurd (let f : false ≡ true = x.1 in cc)

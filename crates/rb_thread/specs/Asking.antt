@@ -1,5 +1,5 @@
 -- Words on calls and answers.
-use Rattle.std.specs.Prelude.{◌≡◌, ℕ, Bool, true, false, Option, Some, None}
+use Rattle.std.specs.Prelude.{◌≡◌, ℕ, Bool, true, false, List, Option, Some, None}
 use Rattle.rb_model.specs.declared.value.Ref.{Ref}
 use Rattle.rb_model.specs.declared.act.Reply.TheVariants as reply
 use Rattle.rb_model.specs.declared.call.End.{End as HeldEnd}
@@ -9,6 +9,7 @@ use Rattle.rb_model.specs.declared.call.Answer.{Answer as Printed}
 use Rattle.rb_model.specs.declared.call.Answer.TheVariants as printed
 use Rattle.rb_model.specs.Acts.{Act, Join}
 use Rattle.rb_shared.specs.declared.answer.Answer.{Answer}
+use Rattle.rb_shared.specs.Lists.{Each, Has}
 use Rattle.rb_thread.specs.declared.job.Job.{Job}
 use Rattle.rb_shared.specs.declared.answer.Answer.TheVariants as answer
 
@@ -38,7 +39,13 @@ printed_as (answer.Full used wanted) = printed.Memory
 printed_as answer.SinkFailed = printed.SinkFailed
 printed_as answer.Memory = printed.Memory
 
--- the job that a call hands over to the thread that it starts
-abbrev pub IsJobIn : Held → ℕ → Option Job → Type 0
-IsJobIn (held.Start id body values) number o = o ≡ Some (record { number = number; body = body; values = values })
-IsJobIn call number o = o ≡ None
+-- the job that a call hands over to the thread that it starts, with some of these references
+abbrev pub IsJobIn : List Ref → Held → ℕ → Option Job → Type 0
+IsJobIn refs (held.Start id body values) number (Some job) = (job.number ≡ number) × (job.body ≡ body) × (job.values ≡ values) × Each (Has refs) job.refs.items
+IsJobIn refs (held.Start id body values) number None = ⊥
+IsJobIn refs call number o = o ≡ None
+
+-- whether a call was done
+abbrev pub is_done : Answer → Bool
+is_done (answer.Done r) = true
+is_done a = false

@@ -1,7 +1,7 @@
 // What a thread asks of what is shared.
 
 ghost use Rattle.std.specs.Prelude.{◌≡◌, true, false};
-ghost use Rattle.rb_model.specs.Acts.{Join, handed};
+ghost use Rattle.rb_model.specs.Acts.{Join};
 ghost use Rattle.rb_model.specs.Doing.{doing};
 ghost use Rattle.rb_model.specs.Immediates.{reference};
 ghost use Rattle.rb_model.specs.Log.{Answers, On, Print};
@@ -10,13 +10,15 @@ ghost use Rattle.rb_model.specs.Outside.{IsServed};
 ghost use Rattle.rb_shared.specs.Lists.{Has, Each};
 ghost use Rattle.rb_shared.specs.Replies.{Serves};
 ghost use Rattle.rb_thread.specs.Asking.{is_join, printed_as as printed, tells_end as telling};
-ghost use Rattle.rb_thread.specs.Handing.{IsElsewhere};
+ghost use Rattle.publish_barrier.specs.Gathers.{IsAddressed};
 
-use crate::handing::{is_joining, outward_act, receiver_of};
+use crate::handing::{hand_over, is_joining, receiver_of};
 use crate::job::Job;
 use crate::seat::Seat;
+use crate::telling::take_in;
 use crate::threaded::Threaded;
 use crate::whose::Whose;
+use publish_barrier::{addressed_act, gather_act};
 use rb_model::{Act, Call, Ref, Reply, Served, SharedText, ThreadStore};
 use rb_shared::Answer;
 use shape_core::ShapeStore;
@@ -69,7 +71,7 @@ impl<
     /// Waits for the end of a thread, by a noted reference.
     fn join(&mut self, step: u64, thing: Ref) -> Served
         requires live { ⟦<Self as ThreadStore>⟧.live self.old }
-        requires known { Has self.old.known thing }
+        requires known { Has self.old.known.refs thing }
         requires serves { Serves thing.sort Join }
         ensures live { ⟦<Self as ThreadStore>⟧.live self.new }
         ensures served { IsServed result step (On (reference thing) Join)
@@ -79,29 +81,43 @@ impl<
         let answer = self.seat.ask(step, &Call::On(thing, Act::Join));
         if tells_end(&answer) {
             self.kids.mark_id(self.number, thing.id);
-            return self.known.take_in(answer);
+            return take_in(&mut self.known, answer);
         }
-        self.known.take_in(answer)
+        take_in(&mut self.known, answer)
     }
 
-    /// Asks something else of a thing, by a noted reference. What it hands over is as it may be handed over.
+    /// Asks something else of a thing, by a noted reference. What it hands over is as it may be handed over, and what that mentions moves.
+    /// Where there is no memory for that, nothing is asked.
     fn ask_act(&mut self, step: u64, thing: Ref, act: Act) -> Served
         requires live { ⟦<Self as ThreadStore>⟧.live self.old }
-        requires known { Has self.old.known thing }
+        requires known { Has self.old.known.refs thing }
         requires serves { Serves thing.sort (doing act) }
         requires other { is_join (doing act) ≡ false }
-        requires elsewhere { Each (IsElsewhere self.old.things) (handed (doing act)) }
-        requires outward { Each (Has self.old.known) (refs_in_act act) }
+        requires addressed { Each (IsAddressed self.old.things self.old.known.refs) (refs_in_act act) }
         ensures live { ⟦<Self as ThreadStore>⟧.live self.new }
         ensures served { IsServed result step (On (reference thing) (doing act))
             (K.view self.old.seat).log (K.view self.new.seat).log self.old.things self.new.things }
     {
-        let answer = self.seat.ask(step, &Call::On(thing, act));
-        self.known.take_in(answer)
+        let Ok(moved) = gather_act(self.alloc, &self.things, &self.known, &act) else {
+            return Served::Memory;
+        };
+        if let Err(_) = self.known.reserve(moved.len()) {
+            return Served::Memory;
+        }
+        let call = Call::On(thing, act);
+        let answer = hand_over(
+            &mut self.seat,
+            &mut self.things,
+            &mut self.known,
+            step,
+            &call,
+            moved,
+        );
+        take_in(&mut self.known, answer)
     }
 
-    /// Asks something of a thing that is not private here. Where a private thing would have to move, or one is not noted, that is want of
-    /// memory; and so it is where there is no room to note what the reply tells.
+    /// Asks something of a thing that is not private here. Where a reference is neither private nor noted, or there is no memory for what
+    /// moves, nothing is asked, and that is want of memory.
     pub(crate) fn ask_any(&mut self, step: u64, thing: Ref, act: Act) -> Served
         requires live { ⟦<Self as ThreadStore>⟧.live self.old }
         ensures live { ⟦<Self as ThreadStore>⟧.live self.new }
@@ -111,15 +127,12 @@ impl<
         let Some(receiver) = receiver_of(&self.known, thing, &act) else {
             return Served::Memory;
         };
-        let Some(act) = outward_act(&self.things, &self.known, act) else {
-            return Served::Memory;
-        };
-        if let Err(_) = self.known.reserve() {
-            return Served::Memory;
-        }
         if is_joining(&act) {
             return self.join(step, receiver);
         }
+        let Some(act) = addressed_act(&self.things, &self.known, act) else {
+            return Served::Memory;
+        };
         self.ask_act(step, receiver, act)
     }
 }

@@ -3,7 +3,6 @@
 ghost use Rattle.std.specs.Prelude.{◌≡◌, []};
 ghost use Rattle.rb_model.specs.Ends.{Memory};
 ghost use Rattle.rb_model.specs.Log.{fresh as no_log};
-ghost use Rattle.rb_model.specs.Moving.{refs_in_all};
 ghost use Rattle.rb_model.specs.Private.{bare};
 ghost use Rattle.rb_shared.specs.Asking.{Knows};
 ghost use Rattle.rb_shared.specs.Lists.{Each};
@@ -12,12 +11,12 @@ ghost use Rattle.rb_thread.specs.Family.{Fresh, number_of};
 
 use crate::job::Job;
 use crate::kids::Kids;
-use crate::known::Known;
 use crate::seat::Seat;
 use crate::threaded::Threaded;
 use crate::whose::Whose;
 use local_heap::LocalHeap;
-use rb_model::{Call, End, ThreadStore, Value};
+use publish_barrier::Known;
+use rb_model::{Call, End, Ref, ThreadStore};
 use shape_core::ShapeStore;
 use std::alloc::Global;
 use std::marker::PhantomData;
@@ -34,15 +33,15 @@ impl<
     F: Fn(Z, Job, K::Pass) -> C + Drop,
     J: Whose,
 > Threaded<'e, K, R, T, Z, C, F, J> {
-    /// The store of the thread of this number before its first step, with a heap that has no thing yet. `values` are those that its body is given;
-    /// its pass knows what they mention.
+    /// The store of the thread of this number before its first step, with a heap that has no thing yet. `refs` are the references that
+    /// its job gives it; its pass knows them.
     pub fn new(
         rt: &'e R,
         alloc: Global,
         seat: K,
         number: u64,
         things: LocalHeap<T>,
-        values: &[Value],
+        refs: &[Ref],
         again: Z,
         spawn: F,
     ) -> Self
@@ -50,7 +49,7 @@ impl<
         requires numbered { number ≡ number_of J.job }
         requires things { things ≡ bare number }
         requires fresh { Fresh J.script J.steps J.job (K.view seat) }
-        requires known { Each (Knows (K.view seat)) (refs_in_all values.now) }
+        requires known { Each (Knows (K.view seat)) refs.now }
         requires spawns { Spawns K.of K.seen C.keeps (λ f z j p. F.pre f z j p) (λ f z j p q. F.post f z j p q)
             J.id J.script J.steps (K.view seat) spawn again }
         ensures live { ⟦<Self as ThreadStore>⟧.live result }
@@ -58,11 +57,12 @@ impl<
         ensures private { result.things ≡ bare number }
     {
         let mut known = Known::new(alloc);
-        known.note_all(values);
+        known.note_all(refs);
         let mut seat = seat;
         seat.poll();
         Threaded {
             rt,
+            alloc,
             seat,
             number,
             things,

@@ -2,18 +2,21 @@
 
 ghost use Rattle.std.specs.Prelude.{◌≡◌, ◌<◌, true, false, length};
 ghost use Rattle.rb_model.specs.Ends.{over};
+ghost use Rattle.rb_model.specs.Ends as ending;
+ghost use Rattle.rb_model.specs.Values.{plain};
 ghost use Rattle.rb_model.specs.Log.{End as Ended, is_sure};
 ghost use Rattle.rb_machine.specs.Follows.{Tail};
 ghost use Rattle.rb_thread.specs.Alive.{Closes, Ends, Gathers, ended_view};
 ghost use Rattle.rb_thread.specs.Kins.{AreCleared, ChangesAt, waits};
 
 use crate::ends::{closing, either, end_in, end_told, later};
-use crate::handing::outward_end;
+use crate::handing::hand_over;
 use crate::job::Job;
 use crate::seat::Seat;
 use crate::threaded::Threaded;
 use crate::whose::Whose;
-use rb_model::{Call, End, ThreadStore};
+use publish_barrier::{addressed, gather_value};
+use rb_model::{Call, End, ThreadStore, Value};
 use rb_shared::Answer;
 use shape_core::ShapeStore;
 use std::thread::Threads;
@@ -98,19 +101,50 @@ impl<
         end_in(call)
     }
 
-    /// Makes the last entry. Where its value cannot be told, it is an end by want of memory or by the full heap.
-    fn close(&mut self, step: u64, end: End) -> End
+    /// Makes the last entry, of a value. What it mentions moves. Where there is no memory for that, or the value cannot be told, it is an end
+    /// by want of memory or by the full heap.
+    fn close_value(&mut self, step: u64, value: Value) -> End
         requires live { ⟦<Self as ThreadStore>⟧.live self.old }
         ensures home { K.home self.new.seat ≡ J.id }
-        ensures closes { Closes step self.old.things (over end) (K.view self.old.seat) (K.view self.new.seat) (over result) }
-        ensures things { self.new.things ≡ self.old.things }
+        ensures closes { Closes step self.old.things (ending.Value (plain value)) (K.view self.old.seat) (K.view self.new.seat)
+            (over result) self.new.things }
     {
-        let call = Call::End(outward_end(&self.things, &self.known, end));
-        match self.seat.ask(step, &call) {
+        let Some(value) = addressed(&self.things, &self.known, value) else {
+            return self.end_surely(step, End::Memory);
+        };
+        let Ok(moved) = gather_value(self.alloc, &self.things, &self.known, &value) else {
+            return self.end_surely(step, End::Memory);
+        };
+        if let Err(_) = self.known.reserve(moved.len()) {
+            return self.end_surely(step, End::Memory);
+        }
+        let call = Call::End(End::Value(value));
+        let answer = hand_over(
+            &mut self.seat,
+            &mut self.things,
+            &mut self.known,
+            step,
+            &call,
+            moved,
+        );
+        match answer {
             Answer::Done(_) => end_in(call),
             Answer::Full { used, asked } => self.end_surely(step, End::Full { used, asked }),
             Answer::Memory => self.end_surely(step, End::Memory),
             Answer::SinkFailed => unreachable!(),
+        }
+    }
+
+    /// Makes the last entry.
+    fn close(&mut self, step: u64, end: End) -> End
+        requires live { ⟦<Self as ThreadStore>⟧.live self.old }
+        ensures home { K.home self.new.seat ≡ J.id }
+        ensures closes { Closes step self.old.things (over end) (K.view self.old.seat) (K.view self.new.seat)
+            (over result) self.new.things }
+    {
+        match end {
+            End::Value(value) => self.close_value(step, value),
+            other => self.end_surely(step, other),
         }
     }
 

@@ -1,5 +1,5 @@
-//! What one thread has while others run: its pass of a shared store, its private things, the references that it knows, and the threads
-//! that it started.
+//! What one thread has while others run: its pass of a shared store, its private things, which move with the calls that hand them over,
+//! the references that it knows, and the threads that it started.
 #![tactic(auto)]
 
 mod asks;
@@ -9,10 +9,10 @@ mod finish;
 mod handing;
 mod job;
 mod kids;
-mod known;
 mod seat;
 mod starts;
 mod store;
+mod telling;
 mod threaded;
 mod whose;
 
@@ -20,7 +20,6 @@ pub use begin::give_up;
 pub use finish::Finished;
 pub use job::Job;
 pub use kids::Kids;
-pub use known::Known;
 pub use seat::{Seat, Seated};
 pub use threaded::Threaded;
 pub use whose::Whose;

@@ -36,7 +36,15 @@ pub trait Seat {
         requires polled { (view self.old).polled ≡ true }
         requires may { MayAsk (view self.old) call.now [] }
         ensures home { home self.new ≡ home self.old }
-        ensures answered { Answered (view self.old) step call.now result (view self.new) };
+        ensures answered { Answered (view self.old) step call.now [] result [] (view self.new) };
+
+    /// Makes a call with the things that move with it, which are laid where it is done. The gate stands round it.
+    fn hand(&mut self, step: u64, call: &Call, moved: &mut Moved) -> Answer
+        requires going { (view self.old).ended ≡ false }
+        requires polled { (view self.old).polled ≡ true }
+        requires may { MayAsk (view self.old) call.now moved.old }
+        ensures home { home self.new ≡ home self.old }
+        ensures answered { Answered (view self.old) step call.now moved.old result moved.new (view self.new) };
 
     /// Lets others change what is fixed while a thread runs. May wait; makes no entry.
     fn poll(&mut self)
@@ -101,6 +109,16 @@ impl<'e, S: SharedStore, R: Wait, G: Gate> Seat for Seated<'e, S, R, G> {
         let answer = self
             .store
             .call(self.rt, &mut self.pass, step, call, &mut moved);
+        self.gate.after(self.thread, step);
+        answer
+    }
+
+    fn hand(&mut self, step: u64, call: &Call, moved: &mut Moved) -> Answer {
+        if moved.is_empty() {
+            return self.ask(step, call);
+        }
+        self.gate.before(self.thread, step);
+        let answer = self.store.call(self.rt, &mut self.pass, step, call, moved);
         self.gate.after(self.thread, step);
         answer
     }

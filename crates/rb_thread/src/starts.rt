@@ -6,19 +6,22 @@ ghost use Rattle.rb_model.specs.Outside.{IsServed, starting};
 ghost use Rattle.rb_model.specs.Started.{thread_id};
 ghost use Rattle.rb_model.specs.Moving.{refs_in_all};
 ghost use Rattle.rb_model.specs.Values.{plain};
-ghost use Rattle.rb_shared.specs.Lists.{Has, Each};
+ghost use Rattle.rb_shared.specs.Lists.{Each};
 ghost use Rattle.rb_thread.specs.Asking.{number_in, IsJobIn};
-ghost use Rattle.rb_thread.specs.Handing.{IsElsewhere};
+ghost use Rattle.publish_barrier.specs.Gathers.{IsAddressed};
 
-use crate::handing::outward_all;
+use crate::handing::hand_over;
 use crate::job::Job;
 use crate::kids::{FIRST, MOST};
 use crate::seat::Seat;
+use crate::telling::{found_in, take_in};
 use crate::threaded::Threaded;
 use crate::whose::Whose;
+use publish_barrier::{Known, addressed_all, gather};
 use rb_model::{Call, Id, Ref, Reply, Served, ThreadStore, Value};
 use rb_shared::Answer;
 use shape_core::ShapeStore;
+use std::alloc::Global;
 use std::thread::Threads;
 use thread_calls::Due;
 
@@ -32,14 +35,15 @@ fn started_in(answer: &Answer) -> Option<(u64, Ref)>
     }
 }
 
-/// The job of the thread of this number, which the call started.
-fn job_in(call: Call, number: u64) -> Option<Job>
-    ensures { IsJobIn call number result }
+/// The job of the thread of this number, which the call started. It knows the noted references to what its values mention.
+fn job_in(alloc: Global, known: &Known, call: Call, number: u64) -> Option<Job>
+    ensures { IsJobIn known.now.refs call number result }
 {
     match call {
         Call::Start(_, body, values) => Some(Job {
             number,
             body,
+            refs: found_in(alloc, known, values.as_slice()),
             values,
         }),
         _ => None,
@@ -56,23 +60,36 @@ impl<
     F: Fn(Z, Job, K::Pass) -> C + Drop,
     J: Whose,
 > Threaded<'e, K, R, T, Z, C, F, J> {
-    /// Starts a thread that runs a body with values, which are as they may be handed over. There is room for it.
+    /// Starts a thread that runs a body with values, which are as they may be handed over. What they mention moves. There is room for one
+    /// thread more; where there is no memory for what moves, none is started.
     fn launch(&mut self, step: u64, id: Id, body: u32, values: Vec<Value>) -> Served
         requires live { ⟦<Self as ThreadStore>⟧.live self.old }
         requires room { self.old.kids.1 ≡ true }
         requires next { id ≡ thread_id self.old.number (length self.old.kids.0) }
-        requires elsewhere { Each (IsElsewhere self.old.things) (map plain values.items) }
-        requires outward { Each (Has self.old.known) (refs_in_all values.items) }
+        requires addressed { Each (IsAddressed self.old.things self.old.known.refs) (refs_in_all values.items) }
         ensures live { ⟦<Self as ThreadStore>⟧.live self.new }
         ensures served { IsServed result step (Start id body (map plain values.items))
             (K.view self.old.seat).log (K.view self.new.seat).log self.old.things self.new.things }
     {
-        let call = Call::Start(id, body, values);
-        let answer = self.seat.ask(step, &call);
-        let Some((number, thing)) = started_in(&answer) else {
-            return self.known.take_in(answer);
+        let Ok(moved) = gather(self.alloc, &self.things, &self.known, values.as_slice()) else {
+            return Served::Memory;
         };
-        let Some(job) = job_in(call, number) else {
+        if let Err(_) = self.known.reserve(moved.len()) {
+            return Served::Memory;
+        }
+        let call = Call::Start(id, body, values);
+        let answer = hand_over(
+            &mut self.seat,
+            &mut self.things,
+            &mut self.known,
+            step,
+            &call,
+            moved,
+        );
+        let Some((number, thing)) = started_in(&answer) else {
+            return take_in(&mut self.known, answer);
+        };
+        let Some(job) = job_in(self.alloc, &self.known, call, number) else {
             unreachable!()
         };
         let next = self.seat.split();
@@ -80,23 +97,20 @@ impl<
         let child = (self.spawn)(self.again, job, next);
         self.seat.poll();
         self.kids.push(number, thing, child);
-        self.known.take_in(answer)
+        take_in(&mut self.known, answer)
     }
 
-    /// Starts a thread that runs a body with values. Where a private thing would have to move, or one is not noted, that is want of
-    /// memory; and so it is where there is no room for one more.
+    /// Starts a thread that runs a body with values. Where a reference is neither private nor noted, or there is no memory for what moves or
+    /// for one thread more, none is started, and that is want of memory.
     pub(crate) fn begin(&mut self, step: u64, body: u32, values: Vec<Value>) -> Served
         requires live { ⟦<Self as ThreadStore>⟧.live self.old }
         ensures live { ⟦<Self as ThreadStore>⟧.live self.new }
         ensures served { IsServed result step (starting self.old.things (K.view self.old.seat).log body values.items)
             (K.view self.old.seat).log (K.view self.new.seat).log self.old.things self.new.things }
     {
-        let Some(values) = outward_all(&self.things, &self.known, values) else {
+        let Some(values) = addressed_all(&self.things, &self.known, values) else {
             return Served::Memory;
         };
-        if let Err(_) = self.known.reserve() {
-            return Served::Memory;
-        }
         if let Err(_) = self.kids.reserve() {
             return Served::Memory;
         }

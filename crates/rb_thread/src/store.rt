@@ -30,7 +30,7 @@ impl<
     ghost private = { λ t. t.things };
 
     ghost live = { λ t. alive.Alive K.of K.seen C.keeps (λ f z j p. F.pre f z j p) (λ f z j p q. F.post f z j p q)
-        J.id J.script J.steps J.job (K.home t.seat) (K.view t.seat) t.things t.number t.known t.kids.0 t.spawn t.again };
+        J.id J.script J.steps J.job (K.home t.seat) (K.view t.seat) t.things t.number t.known.refs t.kids.0 t.spawn t.again };
 
     #[inline(always)]
     fn print(&mut self, step: u64, text: SharedText) -> Answer {

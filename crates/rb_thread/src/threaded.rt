@@ -10,12 +10,13 @@ ghost use Rattle.rb_thread.specs.Kins.{Kin, childless, AreSettled};
 
 use crate::job::Job;
 use crate::kids::Kids;
-use crate::known::Known;
 use crate::seat::Seat;
 use crate::whose::Whose;
 use local_heap::LocalHeap;
+use publish_barrier::Known;
 use rb_model::{Id, ThreadStore};
 use shape_core::ShapeStore;
+use std::alloc::Global;
 use std::marker::PhantomData;
 use std::thread::Threads;
 use thread_calls::Due;
@@ -25,6 +26,7 @@ use thread_calls::Due;
 #[derive(Drop)]
 pub struct Threaded<'e, K, R, T: ShapeStore, Z, C, F, J> {
     pub rt: &'e R,
+    pub alloc: Global,
     pub seat: K,
     /// The number of the thread.
     pub number: u64,

@@ -2,9 +2,9 @@
 
 ghost use Rattle.std.specs.Prelude.{◌≡◌};
 ghost use Rattle.rb_thread.specs.Family.{number_of};
-ghost use Rattle.thread_run.specs.Tasks.{job_in, values_in};
+ghost use Rattle.thread_run.specs.Tasks.{job_in, refs_in};
 
-use rb_model::Value;
+use rb_model::Ref;
 use rb_thread::Job;
 
 /// What a thread is to do: the main one the top level of the script, another its job.
@@ -25,13 +25,13 @@ impl Task {
         }
     }
 
-    /// The values that its body is given.
-    pub fn values(&self) -> &[Value]
-        ensures { result.now ≡ values_in self.now }
+    /// The references to shared things that it knows by its job.
+    pub fn refs(&self) -> &[Ref]
+        ensures { result.now ≡ refs_in self.now }
     {
         match self {
             Task::Main => &[],
-            Task::Body(job) => job.values.as_slice(),
+            Task::Body(job) => job.refs.as_slice(),
         }
     }
 }

@@ -5,7 +5,6 @@ ghost use Rattle.std.specs.Thread.{IsSync};
 ghost use mathlib.Core.List.{Mem};
 ghost use Rattle.rb_code.specs.Stands.{StandsFor};
 ghost use Rattle.rb_model.specs.Ends.{over};
-ghost use Rattle.rb_model.specs.Moving.{refs_in_all};
 ghost use Rattle.rb_model.specs.Private.{bare};
 ghost use Rattle.rb_resolver.specs.Names.{script_of};
 ghost use Rattle.rb_shared.specs.Asking.{Knows};
@@ -69,7 +68,7 @@ fn run_thread<'s, 'e, W: Scripted + Sync, S: SharedStore, R: Threads + Wait + Sy
     requires stands { StandsFor (W.resolved script.now) (script_of (W.tree script.now)) }
     requires of { S.of pass ≡ S.id store.now }
     requires fresh { Fresh (script_of (W.tree script.now)) steps (job_of job) (S.view pass) }
-    requires known { Each (Knows (S.view pass)) (refs_in_all job.values.items) }
+    requires known { Each (Knows (S.view pass)) job.refs.items }
     ensures of { S.of result ≡ S.id store.now }
     ensures ran { Ran (script_of (W.tree script.now)) steps (job_of job) (S.view result) }
 {
@@ -90,7 +89,7 @@ fn run_thread<'s, 'e, W: Scripted + Sync, S: SharedStore, R: Threads + Wait + Sy
             requires stands { StandsFor (W.resolved script.now) (script_of (W.tree script.now)) }
             requires of { S.of pass ≡ S.id store.now }
             requires fresh { Fresh (script_of (W.tree script.now)) steps (job_of job) (S.view pass) }
-            requires known { Each (Knows (S.view pass)) (refs_in_all job.values.items) }
+            requires known { Each (Knows (S.view pass)) job.refs.items }
             ensures kept { (result.store.value ≡ store.entry.now) × (result.script.value ≡ script.entry.now) × (result.steps ≡ steps) × (result.job.value ≡ job) }
         { begin(rt, alloc, scope, script, job, store, pass, steps, gate) },
     )
@@ -112,7 +111,7 @@ fn begin<'s, 'e, W: Scripted + Sync, S: SharedStore, R: Threads + Wait + Sync, G
     requires stands { StandsFor (W.resolved script.now) (script_of (W.tree script.now)) }
     requires of { S.of pass ≡ S.id store.now }
     requires fresh { Fresh (script_of (W.tree script.now)) steps (job_of job) (S.view pass) }
-    requires known { Each (Knows (S.view pass)) (refs_in_all job.values.items) }
+    requires known { Each (Knows (S.view pass)) job.refs.items }
     ensures kept { (result.store.value ≡ store.now) × (result.script.value ≡ script.now) × (result.steps ≡ steps) × (result.job.value ≡ job) }
 {
     let again = scope;
@@ -131,7 +130,7 @@ fn begin<'s, 'e, W: Scripted + Sync, S: SharedStore, R: Threads + Wait + Sync, G
             requires stands { StandsFor (W.resolved script.now) (script_of (W.tree script.now)) }
             requires of { S.of pass ≡ S.id store.now }
             requires fresh { Fresh (script_of (W.tree script.now)) steps (job_of job) (S.view pass) }
-            requires known { Each (Knows (S.view pass)) (refs_in_all job.values.items) }
+            requires known { Each (Knows (S.view pass)) job.refs.items }
             ensures of { S.of result ≡ S.id store.entry.now }
             ensures ran { Ran (script_of (W.tree script.entry.now)) steps (job_of job) (S.view result) }
         { run_thread(rt, alloc, scope, script, job, store, pass, steps, gate) },
@@ -181,7 +180,7 @@ pub(crate) fn run_first<
             requires stands { StandsFor (W.resolved script.now) (script_of (W.tree script.now)) }
             requires of { S.of pass ≡ S.id store.now }
             requires fresh { Fresh (script_of (W.tree script.now)) steps (job_of job) (S.view pass) }
-            requires known { Each (Knows (S.view pass)) (refs_in_all job.values.items) }
+            requires known { Each (Knows (S.view pass)) job.refs.items }
             ensures kept { (result.store.value ≡ store.entry.now) × (result.script.value ≡ script.entry.now) × (result.steps ≡ steps) × (result.job.value ≡ job) }
         { begin(rt, alloc, scope, script, job, store, pass, steps, gate) },
     )

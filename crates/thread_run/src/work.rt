@@ -3,14 +3,13 @@
 ghost use Rattle.std.specs.Prelude.{◌≡◌, IfOk};
 ghost use Rattle.rb_code.specs.Stands.{StandsFor};
 ghost use Rattle.rb_model.specs.Ends.{over};
-ghost use Rattle.rb_model.specs.Moving.{refs_in_all};
 ghost use Rattle.rb_model.specs.Private.{bare};
 ghost use Rattle.rb_resolver.specs.Names.{script_of};
 ghost use Rattle.rb_shared.specs.Asking.{Knows};
 ghost use Rattle.rb_shared.specs.Lists.{Each};
 ghost use Rattle.rb_thread.specs.Alive.{Left, Spawns};
 ghost use Rattle.rb_thread.specs.Family.{Fresh, Main, Ran, number_of};
-ghost use Rattle.thread_run.specs.Tasks.{job_in, values_in};
+ghost use Rattle.thread_run.specs.Tasks.{job_in, refs_in};
 
 use crate::scripted::Scripted;
 use crate::task::Task;
@@ -72,7 +71,7 @@ fn work_with<
     requires things { things ≡ bare (number_of (job_in task)) }
     requires of { S.of pass ≡ S.id store.now }
     requires fresh { Fresh J.script steps (job_in task) (S.view pass) }
-    requires known { Each (Knows (S.view pass)) (refs_in_all (values_in task)) }
+    requires known { Each (Knows (S.view pass)) (refs_in task) }
     requires spawns { Spawns S.of S.view C.keeps (λ f z j p. F.pre f z j p) (λ f z j p q. F.post f z j p q)
         (S.id store.now) J.script steps (S.view pass) spawn again }
     ensures of { S.of result.pass ≡ S.id store.now }
@@ -93,7 +92,7 @@ fn work_with<
         seat,
         number,
         things,
-        task.values(),
+        task.refs(),
         again,
         spawn,
     );
@@ -141,7 +140,7 @@ fn work<
     requires stands { StandsFor (W.resolved script.now) J.script × (J.script.program ≡ W.tree script.now) }
     requires of { S.of pass ≡ S.id store.now }
     requires fresh { Fresh J.script steps (job_in task) (S.view pass) }
-    requires known { Each (Knows (S.view pass)) (refs_in_all (values_in task)) }
+    requires known { Each (Knows (S.view pass)) (refs_in task) }
     requires spawns { Spawns S.of S.view C.keeps (λ f z j p. F.pre f z j p) (λ f z j p q. F.post f z j p q)
         (S.id store.now) J.script steps (S.view pass) spawn again }
     ensures of { S.of result ≡ S.id store.now }
@@ -190,7 +189,7 @@ pub(crate) fn work_here<
     requires stands { StandsFor (W.resolved script.now) (script_of (W.tree script.now)) }
     requires of { S.of pass ≡ S.id store.now }
     requires fresh { Fresh (script_of (W.tree script.now)) steps (job_in task) (S.view pass) }
-    requires known { Each (Knows (S.view pass)) (refs_in_all (values_in task)) }
+    requires known { Each (Knows (S.view pass)) (refs_in task) }
     requires spawns { Spawns S.of S.view C.keeps (λ f z j p. F.pre f z j p) (λ f z j p q. F.post f z j p q)
         (S.id store.now) (script_of (W.tree script.now)) steps (S.view pass) spawn again }
     ensures of { S.of result ≡ S.id store.now }

@@ -9,14 +9,14 @@ use Rattle.rb_thread.proofs.Serving.{served_as_call}
 use Rattle.rb_thread.proofs.threaded.Threaded.begin.Goals as goal
 
 pub launch-requires-clause-live : goal.launch-requires-clause-live
-launch-requires-clause-live g c = alive_same c.reserve.ensures.same c.reserve-2.ensures.same c.requires.live
+launch-requires-clause-live g c = alive_same refl c.reserve.ensures.same c.requires.live
 
 pub returns-clause-served : goal.returns-clause-served
 returns-clause-served g c =
     let l = c.requires.live in
     let v = g.K.Seat.view c.args.self.now.seat in
     let own = c.args.self.now.things in
-    let count = c.len-count.ensures ∙ ap length c.reserve-2.ensures.same in
+    let count = c.len-count.ensures ∙ ap length c.reserve.ensures.same in
     let serial : 9223372036854775809 + c.len-count.result ≡ 2 ^ 63 + suc (length c.args.self.now.kids.0) = omega (arith, count) in
     let id : Id = record { thread = c.args.self.now.number; serial = 9223372036854775809 + c.len-count.result } in
     let here : id ≡ thread_id c.args.self.now.number (length c.args.self.now.kids.0) = λ i. record { thread = c.args.self.now.number; serial = serial i } in

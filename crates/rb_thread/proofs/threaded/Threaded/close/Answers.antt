@@ -1,25 +1,23 @@
-use Rattle.std.proofs.Common.{refl}
+use Rattle.std.proofs.Common.{◌∙◌, sym, subst}
 use Rattle.rb_model.specs.Ends.{over}
-use Rattle.rb_thread.proofs.Entries.{may_end}
-use Rattle.rb_thread.proofs.Closing.{told_known, closes_done, closes_full, closes_memory}
+use Rattle.rb_thread.specs.Alive.{Closes}
+use Rattle.rb_thread.proofs.Closing.{closes_surely, sure_of}
 use Rattle.rb_thread.proofs.threaded.Threaded.close.Goals as goal
 
-pub ask-requires-clause-may : goal.ask-requires-clause-may
-ask-requires-clause-may g c =
-    let v = g.K.Seat.view c.args.self.now.seat in
-    may_end v c.outward_end.result (told_known v c.args.self.now.things c.args.self.now.known (over c.args.end) c.outward_end.result c.requires.live.known c.outward_end.ensures)
+pub end_surely-requires-clause-sure : goal.end_surely-requires-clause-sure
+end_surely-requires-clause-sure g c = (sure_of c.args.end c.in_default.not-Value).0
 
-pub returns-in-Done-clause-closes : goal.returns-in-Done-clause-closes
-returns-in-Done-clause-closes g c =
-    closes_done (g.K.Seat.view c.args.self.now.seat) (g.K.Seat.view c.ask.new.self) c.args.step c.args.self.now.things c.args.self.now.known (over c.args.end) c.outward_end.result (over c.end_in.result) c.ask.result c.in-Done.field-0
-    c.in-Done.is c.outward_end.ensures c.ask.ensures.answered (c.end_in.ensures (over c.outward_end.result) refl)
+pub returns-in-Value-clause-closes : goal.returns-in-Value-clause-closes
+returns-in-Value-clause-closes g c =
+    let view = g.K.Seat.view in
+    subst (λ e. Closes c.args.step c.args.self.now.things (over e) (view c.args.self.now.seat) (view c.close_value.new.self.seat) (over c.close_value.result) c.close_value.new.self.things) (sym c.in-Value.is) c.close_value.ensures.closes
 
-pub returns-in-Full-clause-closes : goal.returns-in-Full-clause-closes
-returns-in-Full-clause-closes g c =
-    closes_full (g.K.Seat.view c.args.self.now.seat) (g.K.Seat.view c.ask.new.self) (g.K.Seat.view c.end_surely.new.self.seat) c.args.step c.args.self.now.things c.args.self.now.known (over c.args.end) c.outward_end.result
-    (over c.end_surely.result) c.ask.result c.in-Full.used c.in-Full.asked c.in-Full.is c.outward_end.ensures c.ask.ensures.answered c.end_surely.ensures.view c.end_surely.ensures.end
-
-pub returns-in-Memory-clause-closes : goal.returns-in-Memory-clause-closes
-returns-in-Memory-clause-closes g c =
-    closes_memory (g.K.Seat.view c.args.self.now.seat) (g.K.Seat.view c.ask.new.self) (g.K.Seat.view c.end_surely-in-Memory.new.self.seat) c.args.step c.args.self.now.things c.args.self.now.known (over c.args.end) c.outward_end.result
-    (over c.end_surely-in-Memory.result) c.ask.result c.in-Memory.is c.outward_end.ensures c.ask.ensures.answered c.end_surely-in-Memory.ensures.view c.end_surely-in-Memory.ensures.end
+pub returns-in_default : goal.returns-in_default
+returns-in_default g c =
+    let view = g.K.Seat.view in
+    record {
+      home = c.end_surely.ensures.home ∙ c.requires.live.home_is;
+      closes =
+          closes_surely (view c.args.self.now.seat) (view c.end_surely.new.self.seat) c.args.step c.args.self.now.things c.end_surely.new.self.things c.args.end (over c.end_surely.result) (sure_of c.args.end c.in_default.not-Value).1
+          c.end_surely.ensures.things c.end_surely.ensures.view c.end_surely.ensures.end;
+    }

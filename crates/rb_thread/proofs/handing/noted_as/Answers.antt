@@ -1,9 +1,0 @@
-use Rattle.std.proofs.Common.{sym, ◌∙◌}
-use Rattle.rb_thread.proofs.Noting.{noted_there}
-use Rattle.rb_thread.proofs.handing.noted_as.Goals as goal
-
-pub returns-then-is_same_sort : goal.returns-then-is_same_sort
-returns-then-is_same_sort c =
-    let there = noted_there c.args.known.now c.args.thing.id c.in_ok-found.found (sym c.find.ensures ∙ c.in_ok-found.was) in
-    let same = c.is_same_sort.ensures c.if-is_same_sort.true in
-    ((λ i. record { sort = same i; id = there.0 i }), there.1)
