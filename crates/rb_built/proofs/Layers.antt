@@ -1,6 +1,5 @@
 -- What is found in each node, from its parts.
-use Rattle.std.proofs.Common.{◌≡◌, ◌∙◌, ap, ℕ, List, [], ◌∷◌, Option, Some, None, map, length, refl, rules}
-use Rattle.std.proofs.lemmas.List.{length-map}
+use Rattle.std.proofs.Common.{◌≡◌, ◌∙◌, ap, ℕ, List, [], ◌∷◌, Option, Some, None, map, refl, rules}
 use Rattle.std.specs.Prelude.{ℤ, is_some}
 use Rattle.std.specs.Option.{option_map}
 use Rattle.rb_tree.specs.declared.span.Span.{Span}
@@ -14,9 +13,8 @@ use Rattle.rb_tree.specs.declared.node.Target.{Target}
 use Rattle.rb_tree.specs.declared.node.Target.TheVariants as target
 use Rattle.rb_tree.specs.declared.node.Block.{Block, out-Block}
 use Rattle.rb_tree.specs.declared.node.Class.{Class}
-use Rattle.rb_tree.specs.declared.node.Method.{Method}
 use Rattle.rb_built.specs.declared.look.Look.{Look}
-use Rattle.rb_built.specs.Unbuilt.{Found, earlier, first_of, in_any, in_pair, here, text_of, has_method, is_shared, is_made, is_call, is_new, is_built_class, found_in, found_in_pair, found_in_piece, found_in_target, found_in_block, found_in_all}
+use Rattle.rb_built.specs.Unbuilt.{Found, earlier, first_of, in_any, in_pair, here, is_shared, is_call, is_new, is_built_class, found_in, found_in_pair, found_in_piece, found_in_target, found_in_block, found_in_all}
 
 -- pairs, with what is found in their parts, and then in them
 of_pairs : (f : Node → Found) (pairs : List (Node × Node)) → first_of (map in_pair (map (λ (p : Node × Node). (f p.0, f p.1)) pairs)) ≡ first_of (map (λ (p : Node × Node). earlier (f p.0) (f p.1)) pairs)
@@ -28,171 +26,167 @@ some_of : {A B : Type 0} (f : A → B) (o : Option A) → is_some (option_map f 
 some_of f None = refl
 some_of f (Some x) = refl
 
-module _ (what : Look) (names : List (List ℕ)) (classes : List Class) (functions : List Method) where
-  pub found-nil : (at : Span) → found_in what names classes functions (node.Nil at) ≡ None
+module _ (what : Look) (names : List (List ℕ)) (classes : List Class) where
+  pub found-nil : (at : Span) → found_in what names classes (node.Nil at) ≡ None
   unfolding found_in
   found-nil at = search (rules, the_lemmas)
 
-  pub found-false : (at : Span) → found_in what names classes functions (node.False at) ≡ None
+  pub found-false : (at : Span) → found_in what names classes (node.False at) ≡ None
   unfolding found_in
   found-false at = search (rules, the_lemmas)
 
-  pub found-true : (at : Span) → found_in what names classes functions (node.True at) ≡ None
+  pub found-true : (at : Span) → found_in what names classes (node.True at) ≡ None
   unfolding found_in
   found-true at = search (rules, the_lemmas)
 
-  pub found-self_ref : (at : Span) → found_in what names classes functions (node.SelfRef at) ≡ None
+  pub found-self_ref : (at : Span) → found_in what names classes (node.SelfRef at) ≡ None
   unfolding found_in
   found-self_ref at = search (rules, the_lemmas)
 
-  pub found-int : (n : ℤ) (at : Span) → found_in what names classes functions (node.Int n at) ≡ None
+  pub found-int : (n : ℤ) (at : Span) → found_in what names classes (node.Int n at) ≡ None
   unfolding found_in
   found-int n at = search (rules, the_lemmas)
 
-  pub found-sym : (name : NameId) (at : Span) → found_in what names classes functions (node.Sym name at) ≡ None
+  pub found-sym : (name : NameId) (at : Span) → found_in what names classes (node.Sym name at) ≡ None
   unfolding found_in
   found-sym name at = search (rules, the_lemmas)
 
-  pub found-str : (pieces : List Piece) (at : Span) → found_in what names classes functions (node.Str pieces at) ≡ first_of (map (found_in_piece what names classes functions) pieces)
+  pub found-str : (pieces : List Piece) (at : Span) → found_in what names classes (node.Str pieces at) ≡ first_of (map (found_in_piece what names classes) pieces)
   unfolding found_in found_in_piece
   found-str pieces at = search (rules, the_lemmas)
 
-  pub found-array : (items : List Node) (at : Span) → found_in what names classes functions (node.Array items at) ≡ earlier (here (is_made what) at) (found_in_all what names classes functions items)
+  pub found-array : (items : List Node) (at : Span) → found_in what names classes (node.Array items at) ≡ found_in_all what names classes items
   unfolding found_in
   found-array items at = search (rules, the_lemmas)
 
   raw_hash : (pairs : List (Node × Node)) (at : Span)
-      → found_in what names classes functions (node.Hash pairs at)
-      ≡ earlier (here (is_made what) at) (first_of (map in_pair (map (λ (p : Node × Node). (found_in what names classes functions p.0, found_in what names classes functions p.1)) pairs)))
+      → found_in what names classes (node.Hash pairs at)
+      ≡ first_of (map in_pair (map (λ (p : Node × Node). (found_in what names classes p.0, found_in what names classes p.1)) pairs))
   unfolding found_in
   raw_hash pairs at = search (rules, the_lemmas)
 
-  pub found-hash : (pairs : List (Node × Node)) (at : Span) → found_in what names classes functions (node.Hash pairs at) ≡ earlier (here (is_made what) at) (first_of (map (found_in_pair what names classes functions) pairs))
-  found-hash pairs at = raw_hash pairs at ∙ ap (earlier (here (is_made what) at)) (of_pairs (found_in what names classes functions) pairs)
+  pub found-hash : (pairs : List (Node × Node)) (at : Span) → found_in what names classes (node.Hash pairs at) ≡ first_of (map (found_in_pair what names classes) pairs)
+  found-hash pairs at = raw_hash pairs at ∙ of_pairs (found_in what names classes) pairs
 
-  pub found-local : (name : NameId) (at : Span) → found_in what names classes functions (node.Local name at) ≡ None
+  pub found-local : (name : NameId) (at : Span) → found_in what names classes (node.Local name at) ≡ None
   unfolding found_in
   found-local name at = search (rules, the_lemmas)
 
-  pub found-field : (name : NameId) (at : Span) → found_in what names classes functions (node.Field name at) ≡ None
+  pub found-field : (name : NameId) (at : Span) → found_in what names classes (node.Field name at) ≡ None
   unfolding found_in
   found-field name at = search (rules, the_lemmas)
 
-  pub found-global : (name : NameId) (at : Span) → found_in what names classes functions (node.Global name at) ≡ here (is_shared what) at
+  pub found-global : (name : NameId) (at : Span) → found_in what names classes (node.Global name at) ≡ here (is_shared what) at
   unfolding found_in
   found-global name at = search (rules, the_lemmas)
 
-  pub found-set_local : (name : NameId) (value : Node) (at : Span) → found_in what names classes functions (node.SetLocal name value at) ≡ found_in what names classes functions value
+  pub found-set_local : (name : NameId) (value : Node) (at : Span) → found_in what names classes (node.SetLocal name value at) ≡ found_in what names classes value
   unfolding found_in
   found-set_local name value at = search (rules, the_lemmas)
 
-  pub found-set_field : (name : NameId) (value : Node) (at : Span) → found_in what names classes functions (node.SetField name value at) ≡ found_in what names classes functions value
+  pub found-set_field : (name : NameId) (value : Node) (at : Span) → found_in what names classes (node.SetField name value at) ≡ found_in what names classes value
   unfolding found_in
   found-set_field name value at = search (rules, the_lemmas)
 
-  pub found-set_global : (name : NameId) (value : Node) (at : Span) → found_in what names classes functions (node.SetGlobal name value at) ≡ earlier (here (is_shared what) at) (found_in what names classes functions value)
+  pub found-set_global : (name : NameId) (value : Node) (at : Span) → found_in what names classes (node.SetGlobal name value at) ≡ earlier (here (is_shared what) at) (found_in what names classes value)
   unfolding found_in
   found-set_global name value at = search (rules, the_lemmas)
 
-  pub found-store : (receiver : Node) (name : NameId) (args : List Node) (at : Span) → found_in what names classes functions (node.Store receiver name args at) ≡ earlier (found_in what names classes functions receiver) (found_in_all what names classes functions args)
+  pub found-store : (receiver : Node) (name : NameId) (args : List Node) (at : Span) → found_in what names classes (node.Store receiver name args at) ≡ earlier (found_in what names classes receiver) (found_in_all what names classes args)
   unfolding found_in
   found-store receiver name args at = search (rules, the_lemmas)
 
-  pub found-op_assign : (written : Target) (op : AssignOp) (value : Node) (at : Span) → found_in what names classes functions (node.OpAssign written op value at) ≡ earlier (found_in_target what names classes functions written at) (found_in what names classes functions value)
+  pub found-op_assign : (written : Target) (op : AssignOp) (value : Node) (at : Span) → found_in what names classes (node.OpAssign written op value at) ≡ earlier (found_in_target what names classes written at) (found_in what names classes value)
   unfolding found_in found_in_target
   found-op_assign written op value at = search (rules, the_lemmas)
 
-  pub found-new : (class : NameId) (args : List Node) (at : Span) → found_in what names classes functions (node.New class args at) ≡ earlier (here (is_new what (is_built_class what names classes functions class)) at) (found_in_all what names classes functions args)
+  pub found-new : (class : NameId) (args : List Node) (at : Span) → found_in what names classes (node.New class args at) ≡ earlier (here (is_new what (is_built_class what names classes class)) at) (found_in_all what names classes args)
   unfolding found_in
   found-new class args at = search (rules, the_lemmas)
 
-  pub found-thread_new : (args : List Node) (body : ℕ) (at : Span) → found_in what names classes functions (node.ThreadNew args body at) ≡ earlier (here (is_shared what) at) (found_in_all what names classes functions args)
+  pub found-thread_new : (args : List Node) (body : ℕ) (at : Span) → found_in what names classes (node.ThreadNew args body at) ≡ earlier (here (is_shared what) at) (found_in_all what names classes args)
   unfolding found_in
   found-thread_new args body at = search (rules, the_lemmas)
 
-  pub found-and : (first second : Node) (at : Span) → found_in what names classes functions (node.And first second at) ≡ earlier (found_in what names classes functions first) (found_in what names classes functions second)
+  pub found-and : (first second : Node) (at : Span) → found_in what names classes (node.And first second at) ≡ earlier (found_in what names classes first) (found_in what names classes second)
   unfolding found_in
   found-and first second at = search (rules, the_lemmas)
 
-  pub found-or : (first second : Node) (at : Span) → found_in what names classes functions (node.Or first second at) ≡ earlier (found_in what names classes functions first) (found_in what names classes functions second)
+  pub found-or : (first second : Node) (at : Span) → found_in what names classes (node.Or first second at) ≡ earlier (found_in what names classes first) (found_in what names classes second)
   unfolding found_in
   found-or first second at = search (rules, the_lemmas)
 
-  pub found-not : (value : Node) (at : Span) → found_in what names classes functions (node.Not value at) ≡ found_in what names classes functions value
+  pub found-not : (value : Node) (at : Span) → found_in what names classes (node.Not value at) ≡ found_in what names classes value
   unfolding found_in
   found-not value at = search (rules, the_lemmas)
 
-  pub found-if : (condition : Node) (first second : List Node) (at : Span) → found_in what names classes functions (node.If condition first second at) ≡ earlier (found_in what names classes functions condition) (earlier (found_in_all what names classes functions first) (found_in_all what names classes functions second))
+  pub found-if : (condition : Node) (first second : List Node) (at : Span) → found_in what names classes (node.If condition first second at) ≡ earlier (found_in what names classes condition) (earlier (found_in_all what names classes first) (found_in_all what names classes second))
   unfolding found_in
   found-if condition first second at = search (rules, the_lemmas)
 
-  pub found-while : (condition : Node) (body : List Node) (at : Span) → found_in what names classes functions (node.While condition body at) ≡ earlier (found_in what names classes functions condition) (found_in_all what names classes functions body)
+  pub found-while : (condition : Node) (body : List Node) (at : Span) → found_in what names classes (node.While condition body at) ≡ earlier (found_in what names classes condition) (found_in_all what names classes body)
   unfolding found_in
   found-while condition body at = search (rules, the_lemmas)
 
-  pub found-return : (value : Option Node) (at : Span) → found_in what names classes functions (node.Return value at) ≡ in_any (option_map (found_in what names classes functions) value)
+  pub found-return : (value : Option Node) (at : Span) → found_in what names classes (node.Return value at) ≡ in_any (option_map (found_in what names classes) value)
   unfolding found_in
   found-return value at = search (rules, the_lemmas)
 
-  pub found-break : (at : Span) → found_in what names classes functions (node.Break at) ≡ None
+  pub found-break : (at : Span) → found_in what names classes (node.Break at) ≡ None
   unfolding found_in
   found-break at = search (rules, the_lemmas)
 
-  pub found-next : (at : Span) → found_in what names classes functions (node.Next at) ≡ None
+  pub found-next : (at : Span) → found_in what names classes (node.Next at) ≡ None
   unfolding found_in
   found-next at = search (rules, the_lemmas)
 
   raw_call : (receiver : Option Node) (name : NameId) (args : List Node) (block : Option Block) (at : Span)
-      → found_in what names classes functions (node.Call receiver name args block at)
-      ≡ earlier (here (is_call what (text_of names name) (is_some (option_map (found_in what names classes functions) receiver)) (is_some (option_map (found_in_block what names classes functions) block)) (has_method functions name) (length (map (found_in what names classes functions) args))) at)
-      (earlier (in_any (option_map (found_in what names classes functions) receiver)) (earlier (found_in_all what names classes functions args) (in_any (option_map (found_in_block what names classes functions) block))))
+      → found_in what names classes (node.Call receiver name args block at)
+      ≡ earlier (here (is_call what (is_some (option_map (found_in what names classes) receiver)) (is_some (option_map (found_in_block what names classes) block))) at)
+      (earlier (in_any (option_map (found_in what names classes) receiver)) (earlier (found_in_all what names classes args) (in_any (option_map (found_in_block what names classes) block))))
   unfolding found_in found_in_block
   raw_call receiver name args block at = search (rules, the_lemmas)
 
   pub found-call : (receiver : Option Node) (name : NameId) (args : List Node) (block : Option Block) (at : Span)
-      → found_in what names classes functions (node.Call receiver name args block at)
-      ≡ earlier (here (is_call what (text_of names name) (is_some receiver) (is_some block) (has_method functions name) (length args)) at)
-      (earlier (in_any (option_map (found_in what names classes functions) receiver)) (earlier (found_in_all what names classes functions args) (in_any (option_map (found_in_block what names classes functions) block))))
+      → found_in what names classes (node.Call receiver name args block at)
+      ≡ earlier (here (is_call what (is_some receiver) (is_some block)) at)
+      (earlier (in_any (option_map (found_in what names classes) receiver)) (earlier (found_in_all what names classes args) (in_any (option_map (found_in_block what names classes) block))))
   found-call receiver name args block at =
-      let inside = earlier (in_any (option_map (found_in what names classes functions) receiver)) (earlier (found_in_all what names classes functions args) (in_any (option_map (found_in_block what names classes functions) block))) in
-      let block_found = is_some (option_map (found_in_block what names classes functions) block) in
-      let own = has_method functions name in
-      let text = text_of names name in
-      let count = length (map (found_in what names classes functions) args) in
+      let inside = earlier (in_any (option_map (found_in what names classes) receiver)) (earlier (found_in_all what names classes args) (in_any (option_map (found_in_block what names classes) block))) in
+      let block_found = is_some (option_map (found_in_block what names classes) block) in
       raw_call receiver name args block at
-      ∙ ap (λ r. earlier (here (is_call what text r block_found own count) at) inside) (some_of (found_in what names classes functions) receiver)
-      ∙ ap (λ b. earlier (here (is_call what text (is_some receiver) b own count) at) inside) (some_of (found_in_block what names classes functions) block)
-      ∙ ap (λ n. earlier (here (is_call what text (is_some receiver) (is_some block) own n) at) inside) (length-map args (found_in what names classes functions))
+      ∙ ap (λ r. earlier (here (is_call what r block_found) at) inside) (some_of (found_in what names classes) receiver)
+      ∙ ap (λ b. earlier (here (is_call what (is_some receiver) b) at) inside) (some_of (found_in_block what names classes) block)
 
-  pub piece-text : (text : List ℕ) → found_in_piece what names classes functions (piece.Text text) ≡ None
+  pub piece-text : (text : List ℕ) → found_in_piece what names classes (piece.Text text) ≡ None
   unfolding found_in_piece
   piece-text text = search (rules, the_lemmas)
 
-  pub piece-code : (code : Node) → found_in_piece what names classes functions (piece.Code code) ≡ found_in what names classes functions code
+  pub piece-code : (code : Node) → found_in_piece what names classes (piece.Code code) ≡ found_in what names classes code
   unfolding found_in found_in_piece
   piece-code code = search (rules, the_lemmas)
 
-  pub target-local : (name : NameId) (at : Span) → found_in_target what names classes functions (target.Local name) at ≡ None
+  pub target-local : (name : NameId) (at : Span) → found_in_target what names classes (target.Local name) at ≡ None
   unfolding found_in_target
   target-local name at = search (rules, the_lemmas)
 
-  pub target-field : (name : NameId) (at : Span) → found_in_target what names classes functions (target.Field name) at ≡ None
+  pub target-field : (name : NameId) (at : Span) → found_in_target what names classes (target.Field name) at ≡ None
   unfolding found_in_target
   target-field name at = search (rules, the_lemmas)
 
-  pub target-global : (name : NameId) (at : Span) → found_in_target what names classes functions (target.Global name) at ≡ here (is_shared what) at
+  pub target-global : (name : NameId) (at : Span) → found_in_target what names classes (target.Global name) at ≡ here (is_shared what) at
   unfolding found_in_target
   target-global name at = search (rules, the_lemmas)
 
-  pub target-index : (receiver index : Node) (at : Span) → found_in_target what names classes functions (target.Index receiver index) at ≡ earlier (found_in what names classes functions receiver) (found_in what names classes functions index)
+  pub target-index : (receiver index : Node) (at : Span) → found_in_target what names classes (target.Index receiver index) at ≡ earlier (found_in what names classes receiver) (found_in what names classes index)
   unfolding found_in found_in_target
   target-index receiver index at = search (rules, the_lemmas)
 
-  pub target-attribute : (receiver : Node) (name : NameId) (at : Span) → found_in_target what names classes functions (target.Attribute receiver name) at ≡ found_in what names classes functions receiver
+  pub target-attribute : (receiver : Node) (name : NameId) (at : Span) → found_in_target what names classes (target.Attribute receiver name) at ≡ found_in what names classes receiver
   unfolding found_in found_in_target
   target-attribute receiver name at = search (rules, the_lemmas)
 
-  pub block-body : (block : Block) → found_in_block what names classes functions block ≡ found_in_all what names classes functions (out-Block block).body
+  pub block-body : (block : Block) → found_in_block what names classes block ≡ found_in_all what names classes (out-Block block).body
   unfolding found_in found_in_block
   block-body block = search (rules, the_lemmas)
 

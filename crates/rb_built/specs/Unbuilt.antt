@@ -1,5 +1,5 @@
--- What of a program is not run yet, and what of that stands first in its text.
-use Rattle.std.specs.Prelude.{ℕ, Bool, true, false, not, ◌&&◌, ◌||◌, ◌==◌, nat_lt, nat_le, length, is_some, List, [], ◌∷◌, map, Option, Some, None, if◌then◌else◌, slice_get, unwrap_or, codes}
+-- What of a program is not run, and what of that stands first in its text; and whether threads share anything in it.
+use Rattle.std.specs.Prelude.{ℕ, Bool, true, false, not, ◌&&◌, ◌||◌, ◌==◌, nat_lt, is_some, List, [], ◌∷◌, map, Option, Some, None, if◌then◌else◌, slice_get, unwrap_or, codes}
 use Rattle.std.specs.List.{list_any}
 use Rattle.std.specs.Str.{bytes_eq}
 use Rattle.rb_tree.specs.declared.span.NameId.{NameId}
@@ -16,7 +16,7 @@ use Rattle.rb_tree.specs.declared.node.Method.{Method}
 use Rattle.rb_built.specs.declared.look.Look.{Look}
 use Rattle.rb_built.specs.declared.look.Look.TheVariants as look
 
--- a place, where there is something that is not run yet
+-- a place, where there is something that is looked for
 abbrev pub Found : Type 0
 Found = Option Span
 
@@ -53,19 +53,10 @@ is_builtin text = bytes_eq text (codes "Array") || bytes_eq text (codes "Hash") 
 abbrev pub has_class : List Class → NameId → Bool
 has_class classes name = list_any (λ (k : Class). k.name.0 == name.0) classes
 
--- whether one of the methods has this name
-abbrev pub has_method : List Method → NameId → Bool
-has_method methods name = list_any (λ (m : Method). m.name.0 == name.0) methods
-
 -- what threads share is looked for: threads and global variables
 abbrev pub is_shared : Look → Bool
 is_shared look.Shared = true
 is_shared other = false
-
--- what makes a thing, which threads could come to share, is looked for
-abbrev pub is_made : Look → Bool
-is_made look.Made = true
-is_made other = false
 
 -- a target, by the place of its assignment
 abbrev pub target_step : Look → Target-F Found Found (Span → Found) Found → Span → Found
@@ -82,36 +73,22 @@ piece_step (node.Code code) = code
 abbrev pub block_step : Block-F Found Found (Span → Found) Found → Found
 block_step block = first_of block.body
 
--- a call with a block that has no receiver, which no text spells
-abbrev pub is_unspelled : (receiver block : Bool) → Bool
-is_unspelled receiver block = not receiver && block
+-- a call that is looked for: one with a block and no receiver, which no text spells
+abbrev pub is_call : Look → (receiver block : Bool) → Bool
+is_call look.Missing receiver block = not receiver && block
+is_call look.Shared receiver block = false
 
--- a method of this name answers a new array
-abbrev pub is_maker : List ℕ → Bool
-is_maker text = bytes_eq text (codes "map") || bytes_eq text (codes "select") || bytes_eq text (codes "keys") || bytes_eq text (codes "values")
-
--- `p` of two values or more, where it is built in, answers an array of them
-abbrev pub prints_several : List ℕ → (receiver own : Bool) → (args : ℕ) → Bool
-prints_several text receiver own args = bytes_eq text (codes "p") && not receiver && not own && nat_le 2 args
-
--- A call: of a block with no receiver; or one that answers a new thing. `own` says whether a method of the top level has the name.
-abbrev pub is_call : Look → List ℕ → (receiver block own : Bool) → (args : ℕ) → Bool
-is_call look.Missing text receiver block own args = is_unspelled receiver block
-is_call look.Shared text receiver block own args = false
-is_call look.Made text receiver block own args = is_maker text || prints_several text receiver own args
-
--- a new thing: of a class that is not there, or any
+-- a new object that is looked for: of a class that is not there
 abbrev pub is_new : Look → (built : Bool) → Bool
 is_new look.Missing built = not built
 is_new look.Shared built = false
-is_new look.Made built = true
 
 -- of a pair of a hash
 abbrev pub in_pair : Found × Found → Found
 in_pair pair = earlier pair.0 pair.1
 
--- What is looked for, in a script with these texts of names, these classes, and these methods of its top level.
-module _ (what : Look) (names : List (List ℕ)) (classes : List Class) (functions : List Method) where
+-- What is looked for, in a script with these texts of names and these classes.
+module _ (what : Look) (names : List (List ℕ)) (classes : List Class) where
   -- a class that the script has, or one that is built in
   abbrev pub is_built_class : NameId → Bool
   is_built_class name = has_class classes name || is_builtin (text_of names name)
@@ -119,8 +96,8 @@ module _ (what : Look) (names : List (List ℕ)) (classes : List Class) (functio
   -- one layer of a node, with what is found in its parts
   abbrev pub node_step : Node-F Found Found (Span → Found) Found → Found
   node_step (node.Str pieces at) = first_of pieces
-  node_step (node.Array items at) = earlier (here (is_made what) at) (first_of items)
-  node_step (node.Hash pairs at) = earlier (here (is_made what) at) (first_of (map in_pair pairs))
+  node_step (node.Array items at) = first_of items
+  node_step (node.Hash pairs at) = first_of (map in_pair pairs)
   node_step (node.«Node::Global» name at) = here (is_shared what) at
   node_step (node.SetLocal name value at) = value
   node_step (node.SetField name value at) = value
@@ -128,7 +105,7 @@ module _ (what : Look) (names : List (List ℕ)) (classes : List Class) (functio
   node_step (node.Store receiver name args at) = earlier receiver (first_of args)
   node_step (node.OpAssign target op value at) = earlier (target at) value
   node_step (node.Call receiver name args block at) =
-      earlier (here (is_call what (text_of names name) (is_some receiver) (is_some block) (has_method functions name) (length args)) at)
+      earlier (here (is_call what (is_some receiver) (is_some block)) at)
       (earlier (in_any receiver) (earlier (first_of args) (in_any block)))
   node_step (node.New class args at) = earlier (here (is_new what (is_built_class class)) at) (first_of args)
   node_step (node.ThreadNew args body at) = earlier (here (is_shared what) at) (first_of args)
@@ -174,15 +151,14 @@ module _ (what : Look) (names : List (List ℕ)) (classes : List Class) (functio
 -- what stands first of a program: in its classes, in the methods of its top level, in the top level itself, or in the bodies of its threads
 abbrev pub first_found : Look → Program → Found
 first_found what program =
-    earlier (found_in_classes what program.names program.classes program.functions program.classes)
-    (earlier (found_in_methods what program.names program.classes program.functions program.functions)
-    (earlier (found_in_all what program.names program.classes program.functions program.main) (found_in_bodies what program.names program.classes program.functions program.bodies)))
+    earlier (found_in_classes what program.names program.classes program.classes)
+    (earlier (found_in_methods what program.names program.classes program.functions)
+    (earlier (found_in_all what program.names program.classes program.main) (found_in_bodies what program.names program.classes program.bodies)))
 
 -- whether a program starts threads or has global variables
 abbrev pub shares : Program → Bool
 shares program = is_some (first_found look.Shared program)
 
--- What is not run yet, and stands first: what is missing; or, in a program with threads or global variables, what makes a thing, since no thing
--- moves to other threads yet.
+-- what is not run, and stands first: what is missing
 abbrev pub first_unbuilt : Program → Found
-first_unbuilt program = earlier (first_found look.Missing program) (if shares program then first_found look.Made program else None)
+first_unbuilt = first_found look.Missing

@@ -1,10 +1,10 @@
 // Which calls and new objects are looked for.
 
-ghost use Rattle.std.specs.Prelude.{◌≡◌, ◌||◌, is_some, length};
+ghost use Rattle.std.specs.Prelude.{◌≡◌, ◌||◌, is_some};
 ghost use Rattle.rb_built.specs.Unbuilt as spec;
 
 use crate::look::Look;
-use rb_tree::{Block, Boxed, Class, Method, NameId, Names, Node, Program};
+use rb_tree::{Block, Boxed, Class, NameId, Names, Node, Program};
 
 /// The text of a name, empty where there is no such name.
 fn text_of(names: &Names, name: NameId) -> &[u8]
@@ -24,34 +24,12 @@ fn is_builtin(text: &[u8]) -> bool
     text == b"Array".as_slice() || text == b"Hash".as_slice() || text == b"Mutex".as_slice()
 }
 
-/// Whether a method of this name answers a new array.
-fn is_maker(text: &[u8]) -> bool
-    ensures { result ≡ spec.is_maker text.now }
-{
-    text == b"map".as_slice()
-        || text == b"select".as_slice()
-        || text == b"keys".as_slice()
-        || text == b"values".as_slice()
-}
-
 /// Whether one of the classes has this name.
 fn has_class(classes: &[Class], name: NameId) -> bool
     ensures { result ≡ spec.has_class classes.now name }
 {
     'classes: for class in classes {
         if class.name.0 == name.0 {
-            return true;
-        }
-    }
-    false
-}
-
-/// Whether one of the methods has this name.
-fn has_method(methods: &[Method], name: NameId) -> bool
-    ensures { result ≡ spec.has_method methods.now name }
-{
-    'methods: for method in methods {
-        if method.name.0 == name.0 {
             return true;
         }
     }
@@ -67,47 +45,24 @@ fn is_built_class(names: &Names, classes: &[Class], name: NameId) -> bool
 
 /// Whether the making of an object of this class is looked for.
 pub(crate) fn is_new(what: Look, program: &Program, class: NameId) -> bool
-    ensures { result ≡ spec.is_new what (spec.is_built_class what program.now.names program.now.classes program.now.functions class) }
+    ensures { result ≡ spec.is_new what (spec.is_built_class what program.now.names program.now.classes class) }
 {
     match what {
         Look::Missing => !is_built_class(&program.names, program.classes.as_slice(), class),
         Look::Shared => false,
-        Look::Made => true,
     }
-}
-
-/// Whether a call prints several values and answers an array of them, by its name in the script.
-fn prints_several(
-    program: &Program,
-    name: NameId,
-    receiver: &Option<Boxed<Node>>,
-    args: &[Node],
-) -> bool
-    ensures { result ≡ spec.prints_several (spec.text_of program.now.names name) (is_some receiver.now) (spec.has_method program.now.functions name) (length args.now) }
-{
-    if args.len() < 2 || receiver.is_some() {
-        return false;
-    }
-    text_of(&program.names, name) == b"p".as_slice()
-        && !has_method(program.functions.as_slice(), name)
 }
 
 /// Whether a call is looked for.
 pub(crate) fn is_call(
     what: Look,
-    program: &Program,
     receiver: &Option<Boxed<Node>>,
-    name: NameId,
-    args: &[Node],
     block: &Option<Boxed<Block>>,
 ) -> bool
-    ensures { result ≡ spec.is_call what (spec.text_of program.now.names name) (is_some receiver.now) (is_some block.now) (spec.has_method program.now.functions name) (length args.now) }
+    ensures { result ≡ spec.is_call what (is_some receiver.now) (is_some block.now) }
 {
     match what {
         Look::Missing => receiver.is_none() && block.is_some(),
         Look::Shared => false,
-        Look::Made => {
-            is_maker(text_of(&program.names, name)) || prints_several(program, name, receiver, args)
-        }
     }
 }

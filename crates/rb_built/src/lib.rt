@@ -1,4 +1,4 @@
-//! What of a program is not run yet, and which place of that stands first in its text.
+//! What of a program is not run, and which place of that stands first in its text; and whether threads share anything in it.
 #![tactic(auto)]
 
 mod call;

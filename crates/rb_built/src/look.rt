@@ -10,8 +10,6 @@ pub(crate) enum Look {
     Missing,
     /// What threads share: a thread that is started, and a global variable.
     Shared,
-    /// What makes a thing: an array or hash literal, a `new`, and a call that answers a new array.
-    Made,
 }
 
 impl Look {
@@ -20,12 +18,5 @@ impl Look {
         ensures { result ≡ spec.is_shared self }
     {
         matches!(self, Look::Shared)
-    }
-
-    /// Whether what makes a thing is looked for.
-    pub(crate) fn is_made(self) -> bool
-        ensures { result ≡ spec.is_made self }
-    {
-        matches!(self, Look::Made)
     }
 }

@@ -13,7 +13,7 @@ use rb_tree::{Block, Boxed, Node, Piece, Program, Span, Target};
 #[cycle(looking)]
 #[tactic(auto, using(crate::proofs::Layers::layers))]
 fn in_node(what: Look, program: &Program, node: &Node) -> Option<Span>
-    ensures { result ≡ spec.found_in what program.now.names program.now.classes program.now.functions node.now }
+    ensures { result ≡ spec.found_in what program.now.names program.now.classes node.now }
 {
     match node {
         Node::Nil(_)
@@ -31,14 +31,8 @@ fn in_node(what: Look, program: &Program, node: &Node) -> Option<Span>
             here(what.is_shared(), *at),
             in_all(what, program, args.as_slice()),
         ),
-        Node::Array(items, at) => earlier(
-            here(what.is_made(), *at),
-            in_all(what, program, items.as_slice()),
-        ),
-        Node::Hash(pairs, at) => earlier(
-            here(what.is_made(), *at),
-            in_pairs(what, program, pairs.as_slice()),
-        ),
+        Node::Array(items, _) => in_all(what, program, items.as_slice()),
+        Node::Hash(pairs, _) => in_pairs(what, program, pairs.as_slice()),
         Node::Str(pieces, _) => in_pieces(what, program, pieces.as_slice()),
         Node::SetLocal(_, value, _) => in_node(what, program, value.get()),
         Node::SetField(_, value, _) => in_node(what, program, value.get()),
@@ -61,14 +55,13 @@ fn in_node(what: Look, program: &Program, node: &Node) -> Option<Span>
         ),
         Node::Call {
             receiver,
-            name,
             args,
             block,
             at,
+            ..
         } => {
-            let given = args.as_slice();
-            let is_found = is_call(what, program, receiver, *name, given, block);
-            let in_args = in_all(what, program, given);
+            let is_found = is_call(what, receiver, block);
+            let in_args = in_all(what, program, args.as_slice());
             let behind = earlier(in_args, in_block(what, program, block));
             let inside = earlier(in_optional(what, program, receiver), behind);
             earlier(here(is_found, *at), inside)
@@ -103,7 +96,7 @@ fn in_node(what: Look, program: &Program, node: &Node) -> Option<Span>
 /// In nodes, one behind the other.
 #[cycle(looking)]
 pub(crate) fn in_all(what: Look, program: &Program, nodes: &[Node]) -> Option<Span>
-    ensures { result ≡ spec.found_in_all what program.now.names program.now.classes program.now.functions nodes.now }
+    ensures { result ≡ spec.found_in_all what program.now.names program.now.classes nodes.now }
 {
     let mut first = None;
     'nodes: for node in nodes {
@@ -115,7 +108,7 @@ pub(crate) fn in_all(what: Look, program: &Program, nodes: &[Node]) -> Option<Sp
 /// In the pairs of a hash.
 #[cycle(looking)]
 fn in_pairs(what: Look, program: &Program, pairs: &[(Node, Node)]) -> Option<Span>
-    ensures { result ≡ spec.first_of (map (spec.found_in_pair what program.now.names program.now.classes program.now.functions) pairs.now) }
+    ensures { result ≡ spec.first_of (map (spec.found_in_pair what program.now.names program.now.classes) pairs.now) }
 {
     let mut first = None;
     'pairs: for pair in pairs {
@@ -129,7 +122,7 @@ fn in_pairs(what: Look, program: &Program, pairs: &[(Node, Node)]) -> Option<Spa
 /// In the pieces of a text.
 #[cycle(looking)]
 fn in_pieces(what: Look, program: &Program, pieces: &[Piece]) -> Option<Span>
-    ensures { result ≡ spec.first_of (map (spec.found_in_piece what program.now.names program.now.classes program.now.functions) pieces.now) }
+    ensures { result ≡ spec.first_of (map (spec.found_in_piece what program.now.names program.now.classes) pieces.now) }
 {
     let mut first = None;
     'pieces: for piece in pieces {
@@ -142,7 +135,7 @@ fn in_pieces(what: Look, program: &Program, pieces: &[Piece]) -> Option<Span>
 #[cycle(looking)]
 #[tactic(auto, using(crate::proofs::Layers::layers))]
 fn in_piece(what: Look, program: &Program, piece: &Piece) -> Option<Span>
-    ensures { result ≡ spec.found_in_piece what program.now.names program.now.classes program.now.functions piece.now }
+    ensures { result ≡ spec.found_in_piece what program.now.names program.now.classes piece.now }
 {
     match piece {
         Piece::Text(_) => None,
@@ -154,7 +147,7 @@ fn in_piece(what: Look, program: &Program, piece: &Piece) -> Option<Span>
 #[cycle(looking)]
 #[tactic(auto, using(crate::proofs::Layers::layers))]
 fn in_target(what: Look, program: &Program, target: &Target, at: Span) -> Option<Span>
-    ensures { result ≡ spec.found_in_target what program.now.names program.now.classes program.now.functions target.now at }
+    ensures { result ≡ spec.found_in_target what program.now.names program.now.classes target.now at }
 {
     match target {
         Target::Local(_) => None,
@@ -171,7 +164,7 @@ fn in_target(what: Look, program: &Program, target: &Target, at: Span) -> Option
 /// In a node that may be there.
 #[cycle(looking)]
 fn in_optional(what: Look, program: &Program, node: &Option<Boxed<Node>>) -> Option<Span>
-    ensures { result ≡ spec.in_any (option_map (spec.found_in what program.now.names program.now.classes program.now.functions) node.now) }
+    ensures { result ≡ spec.in_any (option_map (spec.found_in what program.now.names program.now.classes) node.now) }
 {
     match node {
         None => None,
@@ -183,7 +176,7 @@ fn in_optional(what: Look, program: &Program, node: &Option<Boxed<Node>>) -> Opt
 #[cycle(looking)]
 #[tactic(auto, using(crate::proofs::Layers::layers))]
 fn in_block(what: Look, program: &Program, block: &Option<Boxed<Block>>) -> Option<Span>
-    ensures { result ≡ spec.in_any (option_map (spec.found_in_block what program.now.names program.now.classes program.now.functions) block.now) }
+    ensures { result ≡ spec.in_any (option_map (spec.found_in_block what program.now.names program.now.classes) block.now) }
 {
     match block {
         None => None,

@@ -1,6 +1,6 @@
-// What of a program is not run yet and stands first.
+// What of a program is looked for and stands first.
 
-ghost use Rattle.std.specs.Prelude.{◌≡◌, if◌then◌else◌};
+ghost use Rattle.std.specs.Prelude.{◌≡◌};
 ghost use Rattle.rb_built.specs.Unbuilt as spec;
 
 use crate::earlier::earlier;
@@ -10,7 +10,7 @@ use rb_tree::{Block, Class, Method, Program, Span};
 
 /// In methods, one behind the other.
 fn in_methods(what: Look, program: &Program, methods: &[Method]) -> Option<Span>
-    ensures { result ≡ spec.found_in_methods what program.now.names program.now.classes program.now.functions methods.now }
+    ensures { result ≡ spec.found_in_methods what program.now.names program.now.classes methods.now }
 {
     let mut first = None;
     'methods: for method in methods {
@@ -21,7 +21,7 @@ fn in_methods(what: Look, program: &Program, methods: &[Method]) -> Option<Span>
 
 /// In the methods of classes.
 fn in_classes(what: Look, program: &Program, classes: &[Class]) -> Option<Span>
-    ensures { result ≡ spec.found_in_classes what program.now.names program.now.classes program.now.functions classes.now }
+    ensures { result ≡ spec.found_in_classes what program.now.names program.now.classes classes.now }
 {
     let mut first = None;
     'classes: for class in classes {
@@ -32,7 +32,7 @@ fn in_classes(what: Look, program: &Program, classes: &[Class]) -> Option<Span>
 
 /// In the bodies of threads.
 fn in_bodies(what: Look, program: &Program, bodies: &[Block]) -> Option<Span>
-    ensures { result ≡ spec.found_in_bodies what program.now.names program.now.classes program.now.functions bodies.now }
+    ensures { result ≡ spec.found_in_bodies what program.now.names program.now.classes bodies.now }
 {
     let mut first = None;
     'bodies: for block in bodies {
@@ -59,20 +59,9 @@ pub fn shares(program: &Program) -> bool
     first_found(Look::Shared, program).is_some()
 }
 
-/// The first place that makes a thing, where the program starts threads or has global variables.
-fn first_made(program: &Program) -> Option<Span>
-    ensures { result ≡ (if spec.shares program.now then spec.first_found Look.Made program.now else None) }
-{
-    if shares(program) {
-        first_found(Look::Made, program)
-    } else {
-        None
-    }
-}
-
-/// The first place of a program that is not run yet, where there is one.
+/// The first place of a program that is not run, where there is one.
 pub fn first_unbuilt(program: &Program) -> Option<Span>
     ensures { result ≡ spec.first_unbuilt program.now }
 {
-    earlier(first_found(Look::Missing, program), first_made(program))
+    first_found(Look::Missing, program)
 }

@@ -24,7 +24,7 @@ use Rattle.rb_prog.specs.declared.refusal.Refusal.TheVariants as refusal
 use Rattle.rb_prog.specs.Remarks.{refusal_line, end_line, memory_line, missing_line, failed_line}
 use Rattle.rb_prog.specs.Shapes.{shape_lines, TellsLines}
 
--- a source that has tokens, which spell the program, which keeps the rules of names, and has nothing in it that is not run yet
+-- a source that has tokens, which spell the program, which keeps the rules of names, and has nothing in it that is not run
 pub record Accepts (source : List ℕ) (program : Program) : Type 0 where
   pub tokens : List Token
   pub lexed : Lexes source (Ok tokens)

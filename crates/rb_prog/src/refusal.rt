@@ -17,7 +17,7 @@ pub enum Refusal {
     Unparsed(ParseFault),
     /// Its program breaks a rule of names.
     Broken(CheckFault),
-    /// Its program has something in it that is not run yet, at this place.
+    /// Its program has something in it that is not run, at this place.
     NotBuilt(Span),
 }
 

@@ -48,7 +48,7 @@ fn broken(error: CheckError) -> Unaccepted
     }
 }
 
-/// A program, where it keeps the rules of names and has nothing in it that is not run yet.
+/// A program, where it keeps the rules of names and has nothing in it that is not run.
 fn judged(alloc: Global, program: Program) -> Result<Program, Unaccepted>
     ensures { Judges program result }
 {

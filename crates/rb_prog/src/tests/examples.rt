@@ -118,6 +118,13 @@ const THREADS: Row = (
     "",
 );
 
+/// `examples/shared.rb`.
+const SHARED: Row = (
+    "# Threads count words into one hash that they share. A mutex keeps each count whole.\nclass WordCount\n  def initialize\n    @counts = {}\n    @lock = Mutex.new\n  end\n\n  def add(word)\n    @lock.synchronize do\n      @counts[word] ||= 0\n      @counts[word] += 1\n    end\n  end\n\n  def count(word)\n    @counts[word]\n  end\nend\n\nlines = [[\"a\", \"rose\", \"is\", \"a\", \"rose\"], [\"the\", \"rose\", \"is\", \"red\"], [\"and\", \"red\", \"is\", \"the\", \"sun\"]]\ncounted = WordCount.new\n\n# Each thread is given a line of its own, and all of them the same counts.\nthreads = lines.map do |line|\n  Thread.new(line) { |words| words.each { |word| counted.add(word) } }\nend\nthreads.each { |thread| thread.join }\n[\"a\", \"and\", \"is\", \"red\", \"rose\", \"sun\", \"the\"].each { |word| puts \"#{word} #{counted.count(word)}\" }\n",
+    "a 2\nand 1\nis 3\nred 2\nrose 3\nsun 1\nthe 2\n",
+    "",
+);
+
 /// `examples/shapes.rb`, and what it prints.
 pub(super) const SHAPES: &str =
     "# rbso shapes examples/shapes.rb tells the shapes of these objects behind what the script prints.\nclass Point\n  attr_accessor :x, :y, :name\n\n  def initialize(x, y)\n    @x = x\n    @y = y\n  end\nend\n\na = Point.new(1, 2)\nb = Point.new(3, 4)\nputs a.x + b.x\n\n# One name more is a step to another shape.\nb.name = \"b\"\n\n# A text does not fit a place for integers: x moves to a new place.\na.x = \"left\"\nputs a.x, b.name\n\n# The same names in another order are another path.\nclass Size\n  attr_accessor :wide, :high\nend\n\none = Size.new\none.wide = 1\none.high = 2\nother = Size.new\nother.high = 3\nother.wide = 4\nputs one.wide * other.high\n";
@@ -143,6 +150,7 @@ fn examples_print_what_they_should(rt: HostRuntime) -> Result<(), Fail> {
         BANK,
         LIFE,
         THREADS,
+        SHARED,
         FAULTS,
         (SHAPES, SHAPES_PRINT, ""),
     ];

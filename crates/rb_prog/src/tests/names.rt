@@ -7,17 +7,15 @@ mod large;
 mod parts;
 mod syntax;
 
-use crate::refusal::{Refusal, Row, row_of};
+use crate::refusal::{Row, row_of};
 use crate::source::{Unaccepted, accept};
 use std::alloc::{AllocError, Global};
 use std::test::Fail;
 
-/// What is found in a source: the name of the fault that counts and its first byte, or that it keeps the rules of names.
+/// What is found in a source: the name of the fault that counts and its first byte, or that it keeps the rules of names and is run.
 pub(super) fn found(alloc: Global, source: &str) -> Result<String, Fail> {
     match accept(alloc, source.as_bytes()) {
-        Ok(_) | Err(Unaccepted::Refused(Refusal::NotBuilt(_))) => {
-            Ok(String::from_str(alloc, "kept")?)
-        }
+        Ok(_) => Ok(String::from_str(alloc, "kept")?),
         Err(Unaccepted::Refused(refusal)) => Ok(said(alloc, row_of(refusal))?),
         Err(Unaccepted::Memory) => Err(Fail::from(AllocError)),
     }
