@@ -1,16 +1,18 @@
 -- What laying words leaves of a pass.
-use Rattle.std.proofs.Common.{◌≡◌, ◌≢◌, ◌<◌, ◌≤◌, ℕ, zero, suc, ◌+◌, ◌-◌, ◌/◌, ◌&&◌, nat_lt, Bool, true, false, cond, ℤ, List, [], ◌∷◌, length, map, set, get_or, Some, refl, sym, ap, ◌∙◌, subst, inl, inr, le-leb, lt-ltb, get_or-set_same, get_or-set_other, arith}
+use Rattle.std.proofs.Common.{◌≡◌, ◌≢◌, ◌<◌, ◌≤◌, ℕ, zero, suc, ◌+◌, ◌-◌, ◌/◌, ◌&&◌, nat_lt, Bool, true, false, cond, ℤ, List, [], ◌∷◌, length, map, set, get_or, Option, Some, None, refl, sym, ap, ◌∙◌, subst, inl, inr, le-leb, lt-ltb, get_or-set_same, get_or-set_other, arith}
 use Rattle.std.proofs.lemmas.List.{length-set}
 use Rattle.rb_shared.specs.Lists.{Has}
 use Rattle.typed_location.specs.Word.{twos_complement}
-use Rattle.heap_core.specs.Blocks.{BoxAt, TextAt, size_of}
+use Rattle.rb_model.specs.declared.value.Id.{Id}
+use Rattle.heap_core.specs.Blocks.{BoxAt, MutexAt, TextAt, size_of}
 use Rattle.heap_core.specs.Fixed.{fixed_word}
 use Rattle.heap_core.specs.Moment.{Moment, word}
+use Rattle.heap_core.specs.Owning.{owner_word}
 use Rattle.heap_core.specs.Rule.{Stands}
 use Rattle.heap_core.specs.Spelling.{byte_word}
 use Rattle.heap_core.proofs.Takes.{holds_of}
 use Rattle.heap_core.specs.View.{Holder, InOwn, InRegion, Region, holds_word, stored, with_stored}
-use Rattle.block_kinds.specs.Built.{OwnsWords, box_block, byte_words, text_block, with_words}
+use Rattle.block_kinds.specs.Built.{OwnsWords, box_block, byte_words, mutex_block, text_block, with_words}
 use Rattle.block_kinds.specs.Reading.{IsLaid, OwnWord}
 use Rattle.block_kinds.proofs.Eights.{byte_words_at, length_byte_words}
 
@@ -131,6 +133,28 @@ text_stands m bytes at same = (
 pub box_stored : (k k1 k2 : Holder) (at w : ℕ) (n : ℤ) → k1 ≡ with_stored k at 7 → k2 ≡ with_stored k1 (at + 1) w → w ≡ twos_complement 64 n → k2 ≡ with_words k at (box_block n)
 box_stored k k1 k2 at w n one two is =
     two ∙ (ap (λ h. with_stored h (at + 1) w) one ∙ (ap (λ i. with_stored (with_stored k at 7) i w) (let z : at + 1 ≡ suc at = omega arith in z) ∙ ap (with_stored (with_stored k at 7) (suc at)) is))
+
+-- a mutex's four words
+pub mutex_stored : (k k1 k2 k3 k4 : Holder) (at w : ℕ) (id : Id) (owner : Option ℕ) → k1 ≡ with_stored k at 4 → k2 ≡ with_stored k1 (at + 1) id.thread → k3 ≡ with_stored k2 (at + 2) id.serial → k4 ≡ with_stored k3 (at + 3) w → w ≡ owner_word owner
+    → k4 ≡ with_words k at (mutex_block id owner)
+mutex_stored k k1 k2 k3 k4 at w id owner one two three four is =
+    let second : k2 ≡ with_stored (with_stored k at 4) (suc at) id.thread = two ∙ (ap (λ h. with_stored h (at + 1) id.thread) one ∙ ap (λ i. with_stored (with_stored k at 4) i id.thread) (let z : at + 1 ≡ suc at = omega arith in z)) in
+    let third : k3 ≡ with_stored (with_stored (with_stored k at 4) (suc at) id.thread) (suc (suc at)) id.serial =
+    three ∙ (ap (λ h. with_stored h (at + 2) id.serial) second ∙ ap (λ i. with_stored (with_stored (with_stored k at 4) (suc at) id.thread) i id.serial) (let z : at + 2 ≡ suc (suc at) = omega arith in z)) in
+    four ∙ (ap (λ h. with_stored h (at + 3) w) third
+    ∙ (ap (λ i. with_stored (with_stored (with_stored (with_stored k at 4) (suc at) id.thread) (suc (suc at)) id.serial) i w) (let z : at + 3 ≡ suc (suc (suc at)) = omega arith in z)
+    ∙ ap (with_stored (with_stored (with_stored (with_stored k at 4) (suc at) id.thread) (suc (suc at)) id.serial) (suc (suc (suc at)))) is))
+
+-- what never changes of it stands in own words
+pub mutex_laid : (k : Holder) (at : ℕ) (id : Id) (owner : Option ℕ) → OwnsWords k at 4 → IsLaid (with_words k at (mutex_block id owner)) (MutexAt id at)
+mutex_laid k at id owner own zero x lt is = subst (OwnWord (with_words k at (mutex_block id owner)) (at + zero)) (some_is _ _ is) (words_laid (mutex_block id owner) k at zero own lt)
+mutex_laid k at id owner own (suc zero) x lt is = subst (OwnWord (with_words k at (mutex_block id owner)) (at + 1)) (some_is _ _ is) (words_laid (mutex_block id owner) k at 1 own lt)
+mutex_laid k at id owner own (suc (suc zero)) x lt is = subst (OwnWord (with_words k at (mutex_block id owner)) (at + 2)) (some_is _ _ is) (words_laid (mutex_block id owner) k at 2 own lt)
+mutex_laid k at id owner own (suc (suc (suc i))) x lt is = absurd (let h : None ≡ Some x = is in cc)
+
+-- one and the other own word is still own after stores
+pub owns_after : (k k' : Holder) (i j x : ℕ) → k' ≡ with_stored k j x → InOwn i k → InOwn i k'
+owns_after k k' i j x is own = subst (InOwn i) (sym is) (own_stays k i j x own)
 
 -- a text's two first words
 pub text_begun : (k k1 k2 : Holder) (at : ℕ) (bytes : List ℕ) → k1 ≡ with_stored k at 6 → k2 ≡ with_stored k1 (at + 1) (length bytes)

@@ -1,11 +1,14 @@
 -- The blocks of values, word by word, and what laying them leaves of a pass.
-use Rattle.std.specs.Prelude.{◌≡◌, ◌≤◌, ◌<◌, ℕ, zero, suc, ◌+◌, ◌/◌, ◌^◌, ℤ, if◌then◌else◌, List, [], ◌∷◌, ◌++◌, length}
+use Rattle.std.specs.Prelude.{◌≡◌, ◌≤◌, ◌<◌, ℕ, zero, suc, ◌+◌, ◌/◌, ◌^◌, ℤ, if◌then◌else◌, List, [], ◌∷◌, ◌++◌, length, Option}
+use Rattle.rb_model.specs.declared.value.Id.{Id}
 use Rattle.rb_model.specs.Values.{Value as Val, Int, Str, plain}
 use Rattle.rb_model.specs.declared.value.Value.{Value as Held}
 use Rattle.rb_model.specs.declared.value.Value.TheVariants as held
 use Rattle.typed_location.specs.Word.{twos_complement}
 use Rattle.heap_core.specs.Blocks.{Block, BoxAt, TextAt}
 use Rattle.heap_core.specs.Charges.{is_small}
+use Rattle.heap_core.specs.Mutexes.{mutex_tag}
+use Rattle.heap_core.specs.Owning.{owner_word}
 use Rattle.heap_core.specs.Rule.{LiesIn}
 use Rattle.heap_core.specs.Spelling.{Spells, byte_word}
 use Rattle.heap_core.specs.Texts.{text_tag, box_tag}
@@ -24,6 +27,9 @@ text_block bytes = text_tag ∷ length bytes ∷ byte_words ((length bytes + 7) 
 
 abbrev pub box_block : ℤ → List ℕ
 box_block n = box_tag ∷ twos_complement 64 n ∷ []
+
+abbrev pub mutex_block : Id → Option ℕ → List ℕ
+mutex_block id owner = mutex_tag ∷ id.thread ∷ id.serial ∷ owner_word owner ∷ []
 
 -- the words of the block of a value, where it has one
 abbrev pub value_words : Val → List ℕ

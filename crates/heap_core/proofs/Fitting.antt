@@ -2,7 +2,7 @@
 use Rattle.std.proofs.Common.{◌≡◌, ◌≤◌, ◌<◌, ℕ, ◌+◌, List, [], ◌∷◌, length, Option, Some, None, IsSome, refl, sym, subst, ⊎_elim, arith, true≢false}
 use Rattle.rb_shared.specs.Lists.{Has}
 use Rattle.shared_run.proofs.Events.{has_either}
-use Rattle.heap_core.specs.declared.holder.Plan.{Plan}
+use Rattle.heap_core.specs.Handing.{Plan}
 use Rattle.heap_core.specs.declared.take.Take.{Take}
 use Rattle.heap_core.specs.declared.take.Take.TheVariants as take
 use Rattle.heap_core.specs.Blocks.{place_of, size_of}
@@ -30,7 +30,7 @@ first_fits p room = record {
   size = refl;
   opening = omega (arith, room);
   own = λ o h. absurd h;
-  blocks = λ b h. first_each (λ b. place_of b + size_of b ≤ p.words) (omega (arith, room)) (omega (arith, room)) (omega (arith, room)) (omega (arith, room)) b h;
+  blocks = λ b h. first_each (λ b. place_of b + size_of b ≤ p.words) (omega (arith, room)) (omega (arith, room)) (omega (arith, room)) (omega (arith, room)) (omega (arith, room)) b h;
 }
 
 pub maker_fits : (k : Holder) (words : ℕ) → Fits k words → Fits (maker k) words

@@ -5,7 +5,8 @@ use mathlib.Core.Option.{none}
 use Rattle.atomic_table.specs.Table.{Me, Allows, keeps, step}
 use Rattle.atomic_table.proofs.Lists.{set_again}
 use Rattle.shape_core.specs.Path.{Path}
-use Rattle.heap_core.specs.Blocks.{Block, ObjectAt, ChunkAt, MutexAt, TextAt, BoxAt, ShapeAt, LockAt, place_of, Inside}
+use Rattle.heap_core.specs.Handing.{Plan, Slot}
+use Rattle.heap_core.specs.Blocks.{Block, ObjectAt, ChunkAt, MutexAt, TextAt, BoxAt, ShapeAt, LockAt, TheTurn, place_of, Inside}
 use Rattle.heap_core.specs.Fixed.{fixed_word, edge_of, places_before}
 use Rattle.heap_core.specs.Moment.{Moment, word}
 use Rattle.heap_core.specs.Passes.{FixedLoads, StillLoads}
@@ -49,27 +50,27 @@ fixed_is m (ShapeAt shape at) (suc (suc (suc zero))) o s = (edge_is m shape.clas
 fixed_is m (ShapeAt shape at) (suc (suc (suc (suc zero)))) o s = s.count
 fixed_is m (ShapeAt shape at) (suc (suc (suc (suc (suc i))))) o s = tt
 fixed_is m (LockAt at) i o s = tt
+fixed_is m TheTurn i o s = tt
 
-module _ {S : Type 0} where
-  pub fixed_loads : (slots count id i : ℕ) (me : Me S Holder) → Allows (Kept slots) count id me i (λ n. n) (FixedLoads (step count i 0 0 none) me)
-  fixed_loads slots count id i me s r size at small = (
-    me.0,
-    keeps,
-    tt,
-    subst (λ ws. Kept slots (whole ws s.homes (set s.views id me.0))) (sym (set-get_or s.words i 0)) (subst (λ vs. Kept slots (whole s.words s.homes vs)) (sym (set_again s.views id me.0 at)) r),
-    (
-      λ b kn ib.
-          let lo = ib.0 in
-          let same : place_of b + (i - place_of b) ≡ i = omega (arith, lo) in
-          subst (λ x. IfSome (fixed_word b (i - place_of b)) (λ y. get_or s.words x 0 ≡ y)) same
-          (fixed_is (moment slots s r.run r.blocks) b (i - place_of b) (subst (λ x. Inside x b) (sym same) ib) (r.each b (r.known id me.0 b at kn))),
-      refl,
-    ),
-  )
+pub fixed_loads : (plan : Plan) (count id i : ℕ) (me : Me Slot Holder) → Allows (Kept plan) count id me i (λ n. n) (FixedLoads (step count i 0 0 none) me)
+fixed_loads plan count id i me s r size at small = (
+  me.0,
+  keeps,
+  tt,
+  subst (λ ws. Kept plan (whole ws s.homes (set s.views id me.0))) (sym (set-get_or s.words i 0)) (subst (λ vs. Kept plan (whole s.words s.homes vs)) (sym (set_again s.views id me.0 at)) r),
+  (
+    λ b kn ib.
+        let lo = ib.0 in
+        let same : place_of b + (i - place_of b) ≡ i = omega (arith, lo) in
+        subst (λ x. IfSome (fixed_word b (i - place_of b)) (λ y. get_or s.words x 0 ≡ y)) same
+        (fixed_is (moment plan s r.run r.lines r.blocks) b (i - place_of b) (subst (λ x. Inside x b) (sym same) ib) (r.each b (r.known id me.0 b at kn))),
+    refl,
+  ),
+)
 
-  -- the same of a word that may be the pass's own
-  pub still_loads : (slots count id i : ℕ) (me : Me S Holder) → Allows (Kept slots) count id me i (λ n. n) (StillLoads (step count i 0 0 none) me)
-  still_loads slots count id i me s r size at small =
-      let own = own_loads slots count id i me s r size at small in
-      let fixed = fixed_loads slots count id i me s r size at small in
-      (fixed.0, fixed.1, fixed.2, fixed.3, (own.4.0, fixed.4))
+-- the same of a word that may be the pass's own
+pub still_loads : (plan : Plan) (count id i : ℕ) (me : Me Slot Holder) → Allows (Kept plan) count id me i (λ n. n) (StillLoads (step count i 0 0 none) me)
+still_loads plan count id i me s r size at small =
+    let own = own_loads plan count id i me s r size at small in
+    let fixed = fixed_loads plan count id i me s r size at small in
+    (fixed.0, fixed.1, fixed.2, fixed.3, (own.4.0, fixed.4))

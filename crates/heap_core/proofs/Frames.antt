@@ -13,8 +13,11 @@ use Rattle.shape_core.specs.declared.edge.Kind.{Kind}
 use Rattle.shape_core.specs.declared.edge.Kind.TheVariants.{IntLoc, AnyLoc}
 use Rattle.shape_core.specs.Path.{Path}
 use Rattle.shape_core.specs.Shape.{Shape, child_of}
-use Rattle.heap_core.specs.Blocks.{Block, ObjectAt, ChunkAt, MutexAt, TextAt, BoxAt, ShapeAt, LockAt, home_of, id_of, InFamily}
-use Rattle.heap_core.specs.Sizes.{Size, Shaped}
+use Rattle.shared_run.specs.Run.{Sunk, IsThread}
+use Rattle.heap_core.specs.Places.{turn_word}
+use Rattle.heap_core.specs.declared.line.Line.{Line}
+use Rattle.heap_core.specs.Handing.{Handed}
+use Rattle.heap_core.specs.Blocks.{Block, ObjectAt, ChunkAt, MutexAt, TextAt, BoxAt, ShapeAt, LockAt, TheTurn, home_of, id_of, InFamily}
 use Rattle.heap_core.specs.Spelling.{Spells, SpellsAt}
 use Rattle.heap_core.specs.View.{Holder, Idle, Locked, busy_at}
 use Rattle.heap_core.specs.Moment.{Moment, At, word, thing_at, size_at, is_over, owner_in}
@@ -22,6 +25,7 @@ use Rattle.heap_core.specs.Locks.{LockStands}
 use Rattle.heap_core.specs.Objects.{ObjectStands, FieldStands, LinksChunk, IsPlace, lock_of, shape_of, chunk_of}
 use Rattle.heap_core.specs.Shapes.{ShapeStands, Leads, LinksChild, LinksSibling}
 use Rattle.heap_core.specs.Mutexes.{MutexStands, owner_of}
+use Rattle.heap_core.specs.Turns.{Sinks, LinesTell, IsHanded, HasTurn, HasNone, TurnStands}
 use Rattle.heap_core.specs.Rule.{Stands}
 
 -- each of the one list is in the other
@@ -47,13 +51,25 @@ abbrev pub Stays : Moment → Moment → ℕ → Type 0
 Stays m m' at = (j : ℕ) (k' : Holder) → At m'.holders j k' → k'.live ≡ true
     → (busy_at at k'.doing ≡ Idle) ⊎ ((k : Holder) × At m.holders j k × (k.live ≡ true) × (busy_at at k.doing ≡ busy_at at k'.doing))
 
+-- What a step elsewhere leaves of the turn: the slot, the lines, that the sink has taken the prints, and who has the turn.
+pub record TurnStays (m m' : Moment) : Type 0 where
+  pub homes : m'.homes ≡ m.homes
+  pub lines : m'.lines ≡ m.lines
+  pub sinks : (x : Sunk) → Sinks m x → Sinks m' x
+  pub over : SameOver m m'
+  pub threads : (t : ℕ) → IsThread m'.run t → IsThread m.run t
+  pub keeps : (j : ℕ) (k : Holder) → At m.holders j k → k.live ≡ true → k.view.ended ≡ false → (h : Handed) (out : Bool) → HasTurn k h out
+      → (k' : Holder) × At m'.holders j k' × (k'.live ≡ true) × (k'.view.ended ≡ false) × HasTurn k' h out
+
 -- What a step leaves of a block.
 pub record Leaves (m m' : Moment) (b : Block) : Type 0 where
   pub words : (i : ℕ) → InFamily m.blocks (home_of b) i → word m' i ≡ word m i
   pub blocks : Among m.blocks m'.blocks
   pub thing : (id : Id) → id_of b ≡ Some id → Follows m m' id
-  pub size : (id : Id) (x : Size) → id_of b ≡ Some id → size_at m id ≡ Some x → size_at m' id ≡ Some x
+  pub size : (id : Id) → id_of b ≡ Some id → size_at m' id ≡ size_at m id
+  pub threads : (t : ℕ) → IsThread m.run t → IsThread m'.run t
   pub stays : Stays m m' (home_of b)
+  pub turn : b ≡ TheTurn → TurnStays m m'
 
 -- ---- values
 
@@ -131,7 +147,7 @@ module _ (m m' : Moment) where
           (λ (f : (thing_at m' id ≡ thing_at m id) × SameOver m m'). f.0 ∙ s.thing)
           (λ (f : (t : ℕ) × (how : Ending) × (thing_at m' id ≡ option_map (ended_thing t how) (thing_at m id)) × EndsNow m m' t). f.2 ∙ ap (option_map (ended_thing f.0 f.1)) s.thing)
           (l.thing id refl);
-      size = l.size id (Shaped (record { class = s.class; path = s.path })) refl s.size;
+      size = l.size id refl ∙ s.size;
       names = s.names;
       tag = own at (omega arith) (omega arith) ∙ s.tag;
       made_by = own (at + 1) (omega arith) (omega arith) ∙ s.made_by;
@@ -167,7 +183,7 @@ module _ (m m' : Moment) where
     }
 
   -- a mutex
-  same_owner : SameOver m m' → (n : ℕ) → owner_in m' n ≡ owner_in m n
+  pub same_owner : SameOver m m' → (n : ℕ) → owner_in m' n ≡ owner_in m n
   same_owner same zero = refl
   same_owner same (suc t) = ap (λ b. cond b None (Some t)) (same t)
 
@@ -204,6 +220,53 @@ module _ (m m' : Moment) where
           tag = mutex_word at (omega arith) (omega arith) ∙ s.tag;
           made_by = mutex_word (at + 1) (omega arith) (omega arith) ∙ s.made_by;
           serial = mutex_word (at + 2) (omega arith) (omega arith) ∙ s.serial;
+          size = l.size id refl ∙ s.size;
+          who = λ t is. l.threads t (s.who t (sym owner ∙ is));
+        }
+
+  -- what the table of threads tells stays so
+  pub lines_on : (lines : List (Option Line)) → SameOver m m' → ((t : ℕ) → IsThread m'.run t → IsThread m.run t) → LinesTell m.run lines → LinesTell m'.run lines
+  lines_on lines over threads tell = record {
+    over = λ l h. tell.over l h ∙ sym (over l.number);
+    all = λ t is going. tell.all t (threads t is) (sym (over t) ∙ going);
+  }
+
+  -- the turn
+  module _ (here : Has m.blocks TheTurn) (l : Leaves m m' TheTurn) where
+    same_turn : word m' turn_word ≡ word m turn_word
+    same_turn = l.words turn_word (TheTurn, here, refl, (omega arith, omega arith))
+
+    still_handed : (h : Handed) → IsHanded m h → IsHanded m' h
+    still_handed h p = (p.0 ∙ sym (l.turn refl).lines, lines_on h.lines (l.turn refl).over (l.turn refl).threads p.1, (l.turn refl).sinks h.sink p.2)
+
+    still_none : (j : ℕ) (k' : Holder) → At m'.holders j k' → k'.live ≡ true → ((k : Holder) → At m.holders j k → k.live ≡ true → HasNone k) → HasNone k'
+    still_none j k' at live before = ⊎_elim
+        (λ (idle : busy_at turn_word k'.doing ≡ Idle). idle)
+        (λ (p : (k : Holder) × At m.holders j k × (k.live ≡ true) × (busy_at turn_word k.doing ≡ busy_at turn_word k'.doing)). sym p.3 ∙ before p.0 p.1 p.2)
+        (l.stays j k' at live)
+
+    pub turn_frame : TurnStands m → TurnStands m'
+    turn_frame (inl f) = inl record {
+      word = same_turn ∙ f.word;
+      what = f.what;
+      home = (l.turn refl).homes ∙ f.home;
+      handed = still_handed f.what f.handed;
+      nobody = λ j k' at live. still_none j k' at live (f.nobody j);
+    }
+    turn_frame (inr t) =
+        let on = (l.turn refl).keeps t.holder t.who t.there t.live t.going t.what t.out t.has in inr record {
+          word = same_turn ∙ t.word;
+          holder = t.holder;
+          who = on.0;
+          there = on.1;
+          live = on.2;
+          going = on.3;
+          what = t.what;
+          out = t.out;
+          has = on.4;
+          home = (l.turn refl).homes ∙ t.home;
+          handed = still_handed t.what t.handed;
+          others = λ j k' ne at live. still_none j k' at live (λ k. t.others j k ne);
         }
 
   -- ---- all kinds
@@ -224,3 +287,4 @@ module _ (m m' : Moment) where
   )
   stands_frame (ShapeAt shape at) here l s = shape_frame shape at here l s
   stands_frame (LockAt at) here l s = lock_frame at at (l.words at (LockAt at, here, refl, (omega arith, omega arith))) l.stays s
+  stands_frame TheTurn here l s = turn_frame here l s

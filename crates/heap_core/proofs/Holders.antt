@@ -1,11 +1,16 @@
 -- Facts of each seat, after one changed, one came and one was spent; and what all seats own.
-use Rattle.std.proofs.Common.{◌≡◌, ◌≢◌, ◌⊎◌, ℕ, zero, suc, ◌+◌, List, [], ◌∷◌, ◌++◌, length, set, refl, sym, ap, ◌∙◌, subst, inl, inr, ⊎_elim, arith}
+use Rattle.std.proofs.Common.{◌≡◌, ◌≢◌, ◌⊎◌, ℕ, zero, suc, ◌+◌, Bool, true, false, List, [], ◌∷◌, ◌++◌, length, set, refl, sym, ap, ◌∙◌, subst, inl, inr, ⊎_elim, arith}
 use mathlib.Core.Option.{some, some-injective, some-ne-none}
 use lib.ListN.{get_elem?}
-use Rattle.atomic_table.proofs.Lists.{at_set}
+use Rattle.atomic_table.proofs.Lists.{at_set, set_here, set_else}
+use mathlib.Core.Logic.{dite}
+use native.Mathlib.Decide.{ℕ_discrete}
+use Rattle.heap_core.specs.Places.{turn_word}
+use Rattle.heap_core.specs.Handing.{Handed}
 use Rattle.heap_core.specs.Blocks.{Block, words_of_shapes}
-use Rattle.heap_core.specs.View.{Holder, held}
+use Rattle.heap_core.specs.View.{Holder, busy_at, held}
 use Rattle.heap_core.specs.Moment.{At}
+use Rattle.heap_core.specs.Turns.{HasTurn}
 use Rattle.heap_core.specs.Rule.{Claims, Apart, owned}
 
 pub at_within : {A : Type 0} (l : List A) (j : ℕ) (b : A) → get_elem? l j ≡ some b → Rattle.std.specs.Prelude.◌<◌ j (length l)
@@ -57,6 +62,22 @@ apart_set views id k w apart at new i j n a b ai bj ca cb =
     (λ cw. ⊎_elim (λ (c : Claims k n). apart l id n u k au at cu c) (λ (nobody : (j : ℕ) (u : Holder) → At views j u → Claims u n → ⊥). absurd (nobody l u au cu)) (new n cw))
     (λ m x nel ax cx. apart l m n u x au ax cu cx) j b bj cb)
     i a ai ca
+
+-- ---- who has the turn
+
+-- the seat that changes has the turn if it had it
+pub keeps_set : (views : List Holder) (id : ℕ) (k w : Holder) → At views id k → w.live ≡ true → busy_at turn_word w.doing ≡ busy_at turn_word k.doing → (k.view.ended ≡ false → w.view.ended ≡ false)
+    → (j : ℕ) (u : Holder) → At views j u → u.live ≡ true → u.view.ended ≡ false → (h : Handed) (out : Bool) → HasTurn u h out
+    → (u' : Holder) × At (set views id w) j u' × (u'.live ≡ true) × (u'.view.ended ≡ false) × HasTurn u' h out
+keeps_set views id k w at alive same going j u a l g h out has = dite (ℕ_discrete j id)
+    (λ is. let q : k ≡ u = some-injective k u (sym at ∙ (ap (get_elem? views) (sym is) ∙ a)) in (
+      w,
+      subst (λ x. At (set views id w) x w) (sym is) (set_here views id w (at_within views id k at)),
+      alive,
+      going (ap (λ (x : Holder). x.view.ended) q ∙ g),
+      same ∙ (ap (λ (x : Holder). busy_at turn_word x.doing) q ∙ has),
+    ))
+    (λ ne. (u, set_else views id j w ne ∙ a, l, g, has))
 
 -- ---- what is owned
 

@@ -14,3 +14,7 @@ pub mod Fitting
 pub mod Fixing
 pub mod Doings
 pub mod Locking
+pub mod Turning
+pub mod Printing
+pub mod Owning
+pub mod Ending

@@ -1,5 +1,5 @@
 -- The steps on a lock that is a word alone keep the law.
-use Rattle.std.proofs.Common.{◌≡◌, ℕ, Bool, true, [], ◌++◌, set, get_or, refl, sym, ap, ◌∙◌, subst, arith, append-nil, eq-eqb, ne_eqb, true≢false}
+use Rattle.std.proofs.Common.{◌≡◌, ℕ, Bool, true, [], ◌++◌, set, get_or, refl, sym, ◌∙◌, subst, arith, append-nil, eq-eqb, ne_eqb, true≢false}
 use Rattle.std.proofs.lemmas.List.{set-get_or, get_or-set_same}
 use mathlib.Core.Logic.{dite}
 use native.Mathlib.Decide.{ℕ_discrete}
@@ -7,7 +7,8 @@ use prog.Atomic.{either}
 use Rattle.atomic_table.specs.Table.{State, keeps}
 use Rattle.atomic_table.proofs.Lists.{set_again}
 use Rattle.rb_shared.specs.Lists.{Has}
-use Rattle.heap_core.specs.Blocks.{Block, ObjectAt, ChunkAt, MutexAt, TextAt, BoxAt, ShapeAt, LockAt, home_of, Inside}
+use Rattle.heap_core.specs.Handing.{Plan, Slot}
+use Rattle.heap_core.specs.Blocks.{Block, ObjectAt, LockAt, Inside}
 use Rattle.heap_core.specs.View.{Holder, Busy, Idle, Locked, Knows, busy_at, with_busy}
 use Rattle.heap_core.specs.Moment.{At}
 use Rattle.heap_core.specs.Locks.{LockStands}
@@ -18,7 +19,7 @@ use Rattle.heap_core.proofs.Doings.{busy_set, busy_else}
 use Rattle.heap_core.proofs.Holders.{each_set}
 use Rattle.heap_core.proofs.Owes.{whole}
 use Rattle.heap_core.proofs.Rooms.{place_inside}
-use Rattle.heap_core.proofs.Seats.{note_same, only_block}
+use Rattle.heap_core.proofs.Seats.{alone_at, note_same, only_block}
 use Rattle.heap_core.proofs.Steps.{whole_part, quiet_step}
 
 lock_is : (at : ℕ) (b : Block) → LockAt at ≡ b → (P : Block → Type 0) → P (LockAt at) → P b
@@ -30,24 +31,11 @@ idle_locked e = cc
 object_not_lock : (id : Rattle.rb_model.specs.declared.value.Id.Id) (a at : ℕ) → ObjectAt id a ≡ LockAt at → ⊥
 object_not_lock id a at e = cc
 
-module _ {S : Type 0} (slots : ℕ) (s : State S Holder) (r : Kept slots s) (id : ℕ) (k : Holder) (at : ℕ) (seat : At s.views id k) (live : k.live ≡ true) (here : Has r.blocks (LockAt at)) where
-  -- no other block has the lock's place as its home
-  alone : (c : Block) → Has r.blocks c → home_of c ≡ at → c ≡ LockAt at
-  alone (ChunkAt object number place) hc is =
-      let home = r.homes (ChunkAt object number place) hc in
-      let same = r.laid.apart at (ObjectAt home.0 object) (LockAt at) home.1 here (subst (λ x. Inside x (ObjectAt home.0 object)) is (place_inside (ObjectAt home.0 object))) (place_inside (LockAt at)) in
-      absurd (object_not_lock home.0 object at same)
-  alone (ObjectAt x place) hc is = r.laid.apart at (ObjectAt x place) (LockAt at) hc here (subst (λ y. Inside y (ObjectAt x place)) is (place_inside (ObjectAt x place))) (place_inside (LockAt at))
-  alone (MutexAt x place) hc is = r.laid.apart at (MutexAt x place) (LockAt at) hc here (subst (λ y. Inside y (MutexAt x place)) is (place_inside (MutexAt x place))) (place_inside (LockAt at))
-  alone (TextAt bytes place) hc is = r.laid.apart at (TextAt bytes place) (LockAt at) hc here (subst (λ y. Inside y (TextAt bytes place)) is (place_inside (TextAt bytes place))) (place_inside (LockAt at))
-  alone (BoxAt n place) hc is = r.laid.apart at (BoxAt n place) (LockAt at) hc here (subst (λ y. Inside y (BoxAt n place)) is (place_inside (BoxAt n place))) (place_inside (LockAt at))
-  alone (ShapeAt shape place) hc is = r.laid.apart at (ShapeAt shape place) (LockAt at) hc here (subst (λ y. Inside y (ShapeAt shape place)) is (place_inside (ShapeAt shape place))) (place_inside (LockAt at))
-  alone (LockAt place) hc is = ap LockAt is
-
+module _ (plan : Plan) (s : State Slot Holder) (r : Kept plan s) (id : ℕ) (k : Holder) (at : ℕ) (seat : At s.views id k) (live : k.live ≡ true) (here : Has r.blocks (LockAt at)) where
   -- the word is stored, and the pass has the lock, or has it no more
-  lock_step : (n : ℕ) (busy : Busy) → LockStands (moment slots (whole (set s.words at n) s.homes (set s.views id (with_busy k at busy))) r.run (r.blocks ++ [])) at at
-      → Kept slots (whole (set s.words at n) s.homes (set s.views id (with_busy k at busy)))
-  lock_step n busy stands = quiet_step slots s r id k (with_busy k at busy) at n (LockAt at) seat live live refl refl here (place_inside (LockAt at)) [] record {
+  lock_step : (n : ℕ) (busy : Busy) → LockStands (moment plan (whole (set s.words at n) s.homes (set s.views id (with_busy k at busy))) r.run r.lines (r.blocks ++ [])) at at
+      → Kept plan (whole (set s.words at n) s.homes (set s.views id (with_busy k at busy)))
+  lock_step n busy stands = quiet_step plan s r s.homes id k (with_busy k at busy) at n (LockAt at) seat live live refl refl here (place_inside (LockAt at)) [] record {
     note = note_same k.view k.view refl;
     due = refl;
     late = r.late id k seat live;
@@ -59,8 +47,9 @@ module _ {S : Type 0} (slots : ℕ) (s : State S Holder) (r : Kept slots s) (id 
     was_own = λ x c h. absurd h;
     bounded = λ c h. absurd h;
     parted = λ x c d h. absurd h;
+    slot = λ off. refl;
     doing = λ x far. busy_else at busy x k.doing (λ is. true≢false (sym (eq-eqb x at is) ∙ far));
-    anew = λ c hc is. lock_is at c (sym (alone c hc is)) (Stands (moment slots (whole (set s.words at n) s.homes (set s.views id (with_busy k at busy))) r.run (r.blocks ++ []))) stands;
+    anew = λ c hc is. lock_is at c (sym (alone_at plan s r (LockAt at) here (λ x place. object_not_lock x place at) c hc is)) (Stands (moment plan (whole (set s.words at n) s.homes (set s.views id (with_busy k at busy))) r.run r.lines (r.blocks ++ []))) stands;
     new = λ c h. absurd h;
     no_thing = λ c h. absurd h;
     shapes_on = λ shape h. h;
@@ -69,64 +58,63 @@ module _ {S : Type 0} (slots : ℕ) (s : State S Holder) (r : Kept slots s) (id 
     one_shape = λ shape place to h. absurd h;
   }
 
-module _ {S : Type 0} where
-  -- what is known of the lock is that of its block
-  of_lock : (slots : ℕ) (s : State S Holder) (r : Kept slots s) (id at : ℕ) (k : Holder) (T : Block → Type 0) → At s.views id k → Knows k (LockAt at) → T (LockAt at) → (b : Block) → Knows k b → Inside at b → T b
-  of_lock slots s r id at k T seat known t b kb ib = subst T (only_block slots s r id at k (LockAt at) b seat known kb (place_inside (LockAt at)) ib) t
+-- what is known of the lock is that of its block
+of_lock : (plan : Plan) (s : State Slot Holder) (r : Kept plan s) (id at : ℕ) (k : Holder) (T : Block → Type 0) → At s.views id k → Knows k (LockAt at) → T (LockAt at) → (b : Block) → Knows k b → Inside at b → T b
+of_lock plan s r id at k T seat known t b kb ib = subst T (only_block plan s r id at k (LockAt at) b seat known kb (place_inside (LockAt at)) ib) t
 
-  -- the lock is tried
-  pub tries_lock : (slots count id at : ℕ) (k : Holder) → k.live ≡ true → Knows k (LockAt at) → MayExchange TriesLock S slots count id k at 0 1
-  tries_lock slots count id at k live known s r size seat small =
-      let n : ℕ = get_or s.words at 0 in
-      let here = r.known id k (LockAt at) seat known in
-      let rule = r.each (LockAt at) here in
-      let top = (r.laid.blocks_in (LockAt at) here).0 in
-      let within = r.laid.used_in in
-      dite (ℕ_discrete n 0)
-      (λ is. (
-        with_busy k at Locked,
-        keeps,
-        tt,
-        subst (λ (b : Bool). Kept slots (whole (set s.words at (either b 1 n)) s.homes (set s.views id (with_busy k at Locked)))) (sym (eq-eqb n 0 is))
-            (lock_step slots s r id k at seat live here 1 Locked (
-              id,
-              each_set (λ j u. u.live ≡ true → busy_at at u.doing ≡ Locked → (get_or (set s.words at 1) at 0 ≡ 1) × (j ≡ id)) s.views id (with_busy k at Locked)
-                  (λ _ _. (get_or-set_same s.words at 1 0 (omega (arith, top, within)), refl))
-                  (λ j u _ a l busy. let one = (rule.1 j u a l busy).0 in absurd (omega (arith, one, is))),
-            )),
-        (
-          refl,
-          (λ f. record { live = f.live; size = f.size; opening = f.opening; own = f.own; blocks = f.blocks }),
-          of_lock slots s r id at k (λ b. TriesLock b at 0 1 k n (with_busy k at Locked)) seat known ((λ _. refl), λ ne. absurd (ne is)),
-        ),
-      ))
-      (λ ne. (
-        k,
-        keeps,
-        tt,
-        subst (λ (b : Bool). Kept slots (whole (set s.words at (either b 1 n)) s.homes (set s.views id k))) (sym (ne_eqb n 0 ne))
-            (subst (λ ws. Kept slots (whole ws s.homes (set s.views id k))) (sym (set-get_or s.words at 0)) (subst (λ vs. Kept slots (whole s.words s.homes vs)) (sym (set_again s.views id k seat)) r)),
-        (refl, (λ f. f), of_lock slots s r id at k (λ b. TriesLock b at 0 1 k n k) seat known ((λ is. absurd (ne is)), λ _. refl)),
-      ))
+-- the lock is tried
+pub tries_lock : (plan : Plan) (count id at : ℕ) (k : Holder) → k.live ≡ true → Knows k (LockAt at) → MayExchange TriesLock plan count id k at 0 1
+tries_lock plan count id at k live known s r size seat small =
+    let n : ℕ = get_or s.words at 0 in
+    let here = r.known id k (LockAt at) seat known in
+    let rule = r.each (LockAt at) here in
+    let top = (r.laid.blocks_in (LockAt at) here).0 in
+    let within = r.laid.used_in in
+    dite (ℕ_discrete n 0)
+    (λ is. (
+      with_busy k at Locked,
+      keeps,
+      tt,
+      subst (λ (b : Bool). Kept plan (whole (set s.words at (either b 1 n)) s.homes (set s.views id (with_busy k at Locked)))) (sym (eq-eqb n 0 is))
+          (lock_step plan s r id k at seat live here 1 Locked (
+            id,
+            each_set (λ j u. u.live ≡ true → busy_at at u.doing ≡ Locked → (get_or (set s.words at 1) at 0 ≡ 1) × (j ≡ id)) s.views id (with_busy k at Locked)
+                (λ _ _. (get_or-set_same s.words at 1 0 (omega (arith, top, within)), refl))
+                (λ j u _ a l busy. let one = (rule.1 j u a l busy).0 in absurd (omega (arith, one, is))),
+          )),
+      (
+        refl,
+        (λ f. record { live = f.live; size = f.size; opening = f.opening; own = f.own; blocks = f.blocks }),
+        of_lock plan s r id at k (λ b. TriesLock b at 0 1 k n (with_busy k at Locked)) seat known ((λ _. refl), λ ne. absurd (ne is)),
+      ),
+    ))
+    (λ ne. (
+      k,
+      keeps,
+      tt,
+      subst (λ (b : Bool). Kept plan (whole (set s.words at (either b 1 n)) s.homes (set s.views id k))) (sym (ne_eqb n 0 ne))
+          (subst (λ ws. Kept plan (whole ws s.homes (set s.views id k))) (sym (set-get_or s.words at 0)) (subst (λ vs. Kept plan (whole s.words s.homes vs)) (sym (set_again s.views id k seat)) r)),
+      (refl, (λ f. f), of_lock plan s r id at k (λ b. TriesLock b at 0 1 k n k) seat known ((λ is. absurd (ne is)), λ _. refl)),
+    ))
 
-  -- it is given back by the pass that has it
-  pub gives_lock : (slots count id at : ℕ) (k : Holder) → k.live ≡ true → Knows k (LockAt at) → busy_at at k.doing ≡ Locked → MayStore GivesLock S slots count id k at 0
-  gives_lock slots count id at k live known has s r size seat small =
-      let here = r.known id k (LockAt at) seat known in
-      let rule = r.each (LockAt at) here in
-      let mine = (rule.1 id k seat live has).1 in (
-        with_busy k at Idle,
-        keeps,
-        tt,
-        lock_step slots s r id k at seat live here 0 Idle (
-          id,
-          each_set (λ j u. u.live ≡ true → busy_at at u.doing ≡ Locked → (get_or (set s.words at 0) at 0 ≡ 1) × (j ≡ id)) s.views id (with_busy k at Idle)
-              (λ _ busy. absurd (idle_locked (sym (busy_set at Idle k.doing) ∙ busy)))
-              (λ j u ne a l busy. absurd (ne ((rule.1 j u a l busy).1 ∙ sym mine))),
-        ),
-        (
-          refl,
-          (λ f. record { live = f.live; size = f.size; opening = f.opening; own = f.own; blocks = f.blocks }),
-          of_lock slots s r id at k (λ b. GivesLock b at 0 0 k 0 (with_busy k at Idle)) seat known refl,
-        ),
-      )
+-- it is given back by the pass that has it
+pub gives_lock : (plan : Plan) (count id at : ℕ) (k : Holder) → k.live ≡ true → Knows k (LockAt at) → busy_at at k.doing ≡ Locked → MayStore GivesLock plan count id k at 0
+gives_lock plan count id at k live known has s r size seat small =
+    let here = r.known id k (LockAt at) seat known in
+    let rule = r.each (LockAt at) here in
+    let mine = (rule.1 id k seat live has).1 in (
+      with_busy k at Idle,
+      keeps,
+      tt,
+      lock_step plan s r id k at seat live here 0 Idle (
+        id,
+        each_set (λ j u. u.live ≡ true → busy_at at u.doing ≡ Locked → (get_or (set s.words at 0) at 0 ≡ 1) × (j ≡ id)) s.views id (with_busy k at Idle)
+            (λ _ busy. absurd (idle_locked (sym (busy_set at Idle k.doing) ∙ busy)))
+            (λ j u ne a l busy. absurd (ne ((rule.1 j u a l busy).1 ∙ sym mine))),
+      ),
+      (
+        refl,
+        (λ f. record { live = f.live; size = f.size; opening = f.opening; own = f.own; blocks = f.blocks }),
+        of_lock plan s r id at k (λ b. GivesLock b at 0 0 k 0 (with_busy k at Idle)) seat known refl,
+      ),
+    )

@@ -11,16 +11,19 @@ use Rattle.shape_core.specs.declared.edge.Edge.TheVariants.{Share}
 use Rattle.shape_core.specs.Shape.{Shape, root_of}
 use Rattle.shared_run.specs.Run as runs
 use Rattle.shared_run.proofs.Starting.{first_run, first_is_run, first_knows}
-use Rattle.heap_core.specs.Places.{opening_words, used_word, first_root, first_shared, tree_lock, shape_words}
-use Rattle.heap_core.specs.Blocks.{Block, ObjectAt, ShapeAt, LockAt, place_of, size_of, id_of, HasHome, Inside}
+use Rattle.shared_run.proofs.Sinking.{first_stands as sink_stands}
+use Rattle.heap_core.specs.Places.{opening_words, used_word, turn_word, first_root, first_shared, tree_lock, shape_words}
+use Rattle.heap_core.specs.declared.line.Line.{Line}
+use Rattle.heap_core.specs.Handing.{Plan, Handed, Slot, numbers}
+use Rattle.heap_core.specs.Blocks.{Block, ObjectAt, ShapeAt, LockAt, TheTurn, place_of, size_of, id_of, HasHome, Inside}
 use Rattle.heap_core.specs.Charges.{globals_shape}
-use Rattle.heap_core.specs.declared.holder.Plan.{Plan}
 use Rattle.heap_core.specs.View.{Region, Holder, Idle, Locked, InOwn, opening_blocks, first_holder, busy_at}
 use Rattle.heap_core.specs.Moment.{Moment, At}
 use Rattle.heap_core.specs.Locks.{LockStands}
 use Rattle.heap_core.specs.Objects.{object_tag, shape_of}
 use Rattle.heap_core.specs.Shapes.{flagged, edge_word, first_child}
-use Rattle.heap_core.specs.Opening.{IsOpening, globals_class, laid_in, first_lines}
+use Rattle.heap_core.specs.Opening.{IsOpening, IsFirst, globals_class, laid_in, first_lines, first_table}
+use Rattle.heap_core.specs.Turns.{Any, LinesTell}
 use Rattle.heap_core.specs.Rule.{Stands, Kept, LiesIn, Below, moment}
 
 -- ---- the words
@@ -147,12 +150,13 @@ opened_words n fit =
 
 -- ---- the blocks
 
-pub first_each : (P : Block → Type 0) → P (ObjectAt globals 0) → P (LockAt tree_lock) → P (ShapeAt (root_of globals_class) first_root) → P (ShapeAt globals_shape first_shared) → (b : Block) → Has opening_blocks b → P b
-first_each P object lock root shared b (inl e) = subst P (sym e) object
-first_each P object lock root shared b (inr (inl e)) = subst P (sym e) lock
-first_each P object lock root shared b (inr (inr (inl e))) = subst P (sym e) root
-first_each P object lock root shared b (inr (inr (inr (inl e)))) = subst P (sym e) shared
-first_each P object lock root shared b (inr (inr (inr (inr h)))) = absurd h
+pub first_each : (P : Block → Type 0) → P (ObjectAt globals 0) → P TheTurn → P (LockAt tree_lock) → P (ShapeAt (root_of globals_class) first_root) → P (ShapeAt globals_shape first_shared) → (b : Block) → Has opening_blocks b → P b
+first_each P object turn lock root shared b (inl e) = subst P (sym e) object
+first_each P object turn lock root shared b (inr (inl e)) = subst P (sym e) turn
+first_each P object turn lock root shared b (inr (inr (inl e))) = subst P (sym e) lock
+first_each P object turn lock root shared b (inr (inr (inr (inl e)))) = subst P (sym e) root
+first_each P object turn lock root shared b (inr (inr (inr (inr (inl e))))) = subst P (sym e) shared
+first_each P object turn lock root shared b (inr (inr (inr (inr (inr h))))) = absurd h
 
 -- blocks that follow one another share no word
 abbrev Ordered : List Block → Type 0
@@ -171,11 +175,11 @@ ordered_apart (x ∷ xs) o i b c (inr p) (inl q) ib ic =
 ordered_apart (x ∷ xs) o i b c (inr p) (inr q) ib ic = ordered_apart xs o.1 i b c p q ib ic
 
 first_ordered : Ordered opening_blocks
-first_ordered = ((omega arith, (omega arith, (omega arith, tt))), ((omega arith, (omega arith, tt)), ((omega arith, tt), (tt, tt))))
+first_ordered = ((omega arith, (omega arith, (omega arith, (omega arith, tt)))), ((omega arith, (omega arith, (omega arith, tt))), ((omega arith, (omega arith, tt)), ((omega arith, tt), (tt, tt)))))
 
 -- one of them is a thing
 only_object : (b : Block) → Has opening_blocks b → (id : Id) → id_of b ≡ Some id → b ≡ ObjectAt globals 0
-only_object b h id is = first_each (λ b. id_of b ≡ Some id → b ≡ ObjectAt globals 0) (λ _. refl) (λ e. absurd (gone e)) (λ e. absurd (gone e)) (λ e. absurd (gone e)) b h is
+only_object b h id is = first_each (λ b. id_of b ≡ Some id → b ≡ ObjectAt globals 0) (λ _. refl) (λ e. absurd (gone e)) (λ e. absurd (gone e)) (λ e. absurd (gone e)) (λ e. absurd (gone e)) b h is
   where
     gone : ◌≡◌ {A = Option Id} None (Some id) → ⊥
     gone e = cc
@@ -188,9 +192,10 @@ shape_in b = root_of 0
 first_shapes : (shape : Shape) (at : ℕ) → Has opening_blocks (ShapeAt shape at) → ((shape ≡ root_of globals_class) × (at ≡ first_root)) ⊎ ((shape ≡ globals_shape) × (at ≡ first_shared))
 first_shapes shape at (inl e) = absurd (cc)
 first_shapes shape at (inr (inl e)) = absurd (cc)
-first_shapes shape at (inr (inr (inl e))) = inl (ap shape_in e, ap place_of e)
-first_shapes shape at (inr (inr (inr (inl e)))) = inr (ap shape_in e, ap place_of e)
-first_shapes shape at (inr (inr (inr (inr h)))) = absurd h
+first_shapes shape at (inr (inr (inl e))) = absurd (cc)
+first_shapes shape at (inr (inr (inr (inl e)))) = inl (ap shape_in e, ap place_of e)
+first_shapes shape at (inr (inr (inr (inr (inl e))))) = inr (ap shape_in e, ap place_of e)
+first_shapes shape at (inr (inr (inr (inr (inr h))))) = absurd h
 
 two_shapes : (shape : Shape) → shape ≡ root_of globals_class → shape ≡ globals_shape → ⊥
 two_shapes shape p q = let h : [] ≡ Share ∷ [] = ap (λ (x : Shape). x.path) (sym p ∙ q) in cc
@@ -214,120 +219,158 @@ main_line slots zero t e = sym (number 0 t (some-injective (Some 0) (Some t) e))
     number n m h = cc
 main_line slots (suc i) t e = absurd (none_at (slots - 1) i t e)
 
+-- the first table has these lines, and that of the main thread alone
+numbers_first : (slots : ℕ) → numbers (first_table slots) ≡ first_lines slots
+numbers_first slots = ap (λ l. Some 0 ∷ l) (free (slots - 1))
+  where
+    free : (n : ℕ) → numbers (replicate n None) ≡ lines_none n
+    free zero = refl
+    free (suc n) = ap (λ l. None ∷ l) (free n)
+
+only_main : (slots : ℕ) (l : Line) → Has (first_table slots) (Some l) → l ≡ record { number = 0; over = false }
+only_main slots l (inl e) = line_is l (record { number = 0; over = false }) e
+  where
+    line_is : (a b : Line) → Some a ≡ Some b → a ≡ b
+    line_is a b h = cc
+only_main slots l (inr h) = absurd (none_has (slots - 1) l h)
+  where
+    none_has : (n : ℕ) (l : Line) → Has (replicate n None) (Some l) → ⊥
+    none_has zero l h = h
+    none_has (suc n) l (inl e) = cc
+    none_has (suc n) l (inr h) = none_has n l h
+
 -- ---- the law
 
-module _ {S : Type 0} where
-  pub starts : (ws : List ℕ) (hs : List S) (p : Plan) → 1 ≤ p.slots → opening_words ≤ p.words → length ws ≡ p.words → IsOpening (λ i. get_or ws i 0) → Kept p.slots (opening ws hs (first_holder p))
-  starts ws hs p some_slots some_words size o = record {
-    run = first_run;
-    blocks = opening_blocks;
-    lines = first_lines p.slots;
-    is_run = first_is_run p.slots;
-    knows = λ j k a _. subst (λ (u : Holder). runs.Knows p.slots first_run u.view) (only j k a).1 (first_knows p.slots);
-    apart = λ i j n k l a b _ _. (only i k a).0 ∙ sym (only j l b).0;
-    seated = record {
-      long = let z : ℕ = p.slots - 1 in let long : length (lines_none z) ≡ z = length-replicate z None in omega (arith, long, some_slots);
-      main = refl;
-      taken = λ i t a. inl (main_line p.slots i t a);
-      once = λ i j t a b. first_line p.slots i t a ∙ sym (first_line p.slots j t b);
-      mine = λ j k a _. subst (λ (u : Holder). get_elem? (first_lines p.slots) u.line ≡ some (Some u.view.thread)) (only j k a).1 refl;
-      due = λ j n k a _ e. absurd (let h : None ≡ Some n = ap (λ (u : Holder). u.view.unsplit) (only j k a).1 ∙ e in cc);
-    };
-    laid = record {
-      apart = ordered_apart opening_blocks first_ordered;
-      beside = λ i j k b a _ own _. nobody i j k a own;
-      alone = λ i j l k u a b own _. absurd (nobody i j k a own);
-      blocks_in = λ b h. first_each (λ b. (place_of b + size_of b ≤ get_or ws used_word 0) × (Inside used_word b → ⊥))
-          (omega (arith, used), λ i. let hi = i.1 in omega (arith, hi)) (omega (arith, used), λ i. let lo = i.0 in omega (arith, lo))
-          (omega (arith, used), λ i. let lo = i.0 in omega (arith, lo)) (omega (arith, used), λ i. let lo = i.0 in omega (arith, lo)) b h;
-      single = λ i j k o p a h. absurd (empty j k o a h);
-      own_in = λ j k o a h. absurd (empty j k o a h);
-      opening_in = omega (arith, used);
-      used_in = omega (arith, used, some_words, size);
-      size = λ j k a _. subst (λ (u : Holder). u.size ≡ length ws) (only j k a).1 (sym size);
-    };
-    each = first_stands;
-    one = λ id b c hb hc ib ic. only_object b hb id ib ∙ sym (only_object c hc id ic);
-    one_shape = λ shape at to ha ht. ⊎_elim
-        (λ (x : (shape ≡ root_of globals_class) × (at ≡ first_root)). ⊎_elim
-        (λ (y : (shape ≡ root_of globals_class) × (to ≡ first_root)). x.1 ∙ sym y.1)
-        (λ (y : (shape ≡ globals_shape) × (to ≡ first_shared)). absurd (two_shapes shape x.0 y.0))
-        (first_shapes shape to ht))
-        (λ (x : (shape ≡ globals_shape) × (at ≡ first_shared)). ⊎_elim
-        (λ (y : (shape ≡ root_of globals_class) × (to ≡ first_root)). absurd (two_shapes shape y.0 x.0))
-        (λ (y : (shape ≡ globals_shape) × (to ≡ first_shared)). x.1 ∙ sym y.1)
-        (first_shapes shape to ht))
-        (first_shapes shape at ha);
-    homes = first_each (HasHome opening_blocks) tt tt tt tt;
-    known = λ j k b a kn. subst (λ (u : Holder). Has u.blocks b) (sym (only j k a).1) kn;
-    lie = λ j k a _. subst (λ (u : Holder). Each (LiesIn u.blocks) u.view.known) (only j k a).1 ((ObjectAt globals 0, inl refl, refl, refl), tt);
-    own = λ i j k o a h. absurd (empty j k o a h);
-    used = let z : get_or ws used_word 0 + shape_words * 2 ≡ opening_words + 0 + 14 + 0 = omega (arith, used) in z;
-    made = λ shape at h. ⊎_elim
-        (λ (x : (shape ≡ root_of globals_class) × (at ≡ first_root)). inl (inl x.0))
-        (λ (x : (shape ≡ globals_shape) × (at ≡ first_shared)). inl (inr (inl x.0)))
-        (first_shapes shape at h);
-    late = λ j k a _. subst (λ (u : Holder). Each (runs.MayStill p.slots first_run u.view.thread) u.late) (only j k a).1 tt;
-    refused = none_refused;
-    spent = λ j k a e. absurd (true≢false (ap (λ (u : Holder). u.live) (only j k a).1 ∙ e));
-  }
-    where
-      w : ℕ → ℕ
-      w i = get_or ws i 0
+pub starts : (ws : List ℕ) (what : Handed) (p : Plan) → what.lines ≡ first_table p.slots → what.sink ≡ p.begun → p.begun.failed ≡ false → 1 ≤ p.slots → opening_words ≤ p.words → length ws ≡ p.words → IsOpening (λ i. get_or ws i 0) → Kept p (opening ws (Some what ∷ []) (first_holder p))
+starts ws what p lines_are sink_is fine some_slots some_words size o = record {
+  run = first_run;
+  blocks = opening_blocks;
+  lines = first_lines p.slots;
+  is_run = first_is_run p.slots;
+  knows = λ j k a _. subst (λ (u : Holder). runs.Knows p.slots first_run u.view) (only j k a).1 (first_knows p.slots);
+  apart = λ i j n k l a b _ _. (only i k a).0 ∙ sym (only j l b).0;
+  seated = record {
+    long = let z : ℕ = p.slots - 1 in let long : length (lines_none z) ≡ z = length-replicate z None in omega (arith, long, some_slots);
+    main = refl;
+    taken = λ i t a. inl (main_line p.slots i t a);
+    once = λ i j t a b. first_line p.slots i t a ∙ sym (first_line p.slots j t b);
+    mine = λ j k a _. subst (λ (u : Holder). get_elem? (first_lines p.slots) u.line ≡ some (Some u.view.thread)) (only j k a).1 refl;
+    due = λ j n k a _ e. absurd (let h : None ≡ Some n = ap (λ (u : Holder). u.view.unsplit) (only j k a).1 ∙ e in cc);
+  };
+  laid = record {
+    apart = ordered_apart opening_blocks first_ordered;
+    beside = λ i j k b a _ own _. nobody i j k a own;
+    alone = λ i j l k u a b own _. absurd (nobody i j k a own);
+    blocks_in = λ b h. first_each (λ b. (place_of b + size_of b ≤ get_or ws used_word 0) × (Inside used_word b → ⊥))
+        (omega (arith, used), λ i. let hi = i.1 in omega (arith, hi)) (omega (arith, used), λ i. let lo = i.0 in omega (arith, lo)) (omega (arith, used), λ i. let lo = i.0 in omega (arith, lo))
+        (omega (arith, used), λ i. let lo = i.0 in omega (arith, lo)) (omega (arith, used), λ i. let lo = i.0 in omega (arith, lo)) b h;
+    single = λ i j k o p a h. absurd (empty j k o a h);
+    own_in = λ j k o a h. absurd (empty j k o a h);
+    opening_in = omega (arith, used);
+    used_in = omega (arith, used, some_words, size);
+    size = λ j k a _. subst (λ (u : Holder). u.size ≡ length ws) (only j k a).1 (sym size);
+  };
+  each = first_stands;
+  one = λ id b c hb hc ib ic. only_object b hb id ib ∙ sym (only_object c hc id ic);
+  one_shape = λ shape at to ha ht. ⊎_elim
+      (λ (x : (shape ≡ root_of globals_class) × (at ≡ first_root)). ⊎_elim
+      (λ (y : (shape ≡ root_of globals_class) × (to ≡ first_root)). x.1 ∙ sym y.1)
+      (λ (y : (shape ≡ globals_shape) × (to ≡ first_shared)). absurd (two_shapes shape x.0 y.0))
+      (first_shapes shape to ht))
+      (λ (x : (shape ≡ globals_shape) × (at ≡ first_shared)). ⊎_elim
+      (λ (y : (shape ≡ root_of globals_class) × (to ≡ first_root)). absurd (two_shapes shape y.0 x.0))
+      (λ (y : (shape ≡ globals_shape) × (to ≡ first_shared)). x.1 ∙ sym y.1)
+      (first_shapes shape to ht))
+      (first_shapes shape at ha);
+  turn = inr (inl refl);
+  homes = first_each (HasHome opening_blocks) tt tt tt tt tt;
+  known = λ j k b a kn. subst (λ (u : Holder). Has u.blocks b) (sym (only j k a).1) kn;
+  lie = λ j k a _. subst (λ (u : Holder). Each (LiesIn u.blocks) u.view.known) (only j k a).1 ((ObjectAt globals 0, inl refl, refl, refl), tt);
+  own = λ i j k o a h. absurd (empty j k o a h);
+  used = let z : get_or ws used_word 0 + shape_words * 2 ≡ opening_words + 0 + 14 + 0 = omega (arith, used) in z;
+  made = λ shape at h. ⊎_elim
+      (λ (x : (shape ≡ root_of globals_class) × (at ≡ first_root)). inl (inl x.0))
+      (λ (x : (shape ≡ globals_shape) × (at ≡ first_shared)). inl (inr (inl x.0)))
+      (first_shapes shape at h);
+  late = λ j k a _. subst (λ (u : Holder). Each (runs.MayStill p.slots first_run u.view.thread) u.late) (only j k a).1 tt;
+  refused = none_refused;
+  spent = λ j k a e. absurd (true≢false (ap (λ (u : Holder). u.live) (only j k a).1 ∙ e));
+}
+  where
+    w : ℕ → ℕ
+    w i = get_or ws i 0
 
-      m : Moment
-      m = moment p.slots (opening ws hs (first_holder p)) first_run opening_blocks
+    m : Moment
+    m = moment p (opening ws (Some what ∷ []) (first_holder p)) first_run (first_lines p.slots) opening_blocks
 
-      used : get_or ws used_word 0 ≡ opening_words
-      used = o.used
+    used : get_or ws used_word 0 ≡ opening_words
+    used = o.used
 
-      only : (j : ℕ) (k : Holder) → At (first_holder p ∷ []) j k → (j ≡ 0) × (first_holder p ≡ k)
-      only zero k e = (refl, some-injective (first_holder p) k e)
-      only (suc j) k e = absurd (some-ne-none k (sym e))
+    only : (j : ℕ) (k : Holder) → At (first_holder p ∷ []) j k → (j ≡ 0) × (first_holder p ≡ k)
+    only zero k e = (refl, some-injective (first_holder p) k e)
+    only (suc j) k e = absurd (some-ne-none k (sym e))
 
-      empty : (j : ℕ) (k : Holder) (o : Region) → At (first_holder p ∷ []) j k → Has k.own o → ⊥
-      empty j k o a h = subst (λ (u : Holder). Has u.own o) (sym (only j k a).1) h
+    empty : (j : ℕ) (k : Holder) (o : Region) → At (first_holder p ∷ []) j k → Has k.own o → ⊥
+    empty j k o a h = subst (λ (u : Holder). Has u.own o) (sym (only j k a).1) h
 
-      nobody : (i j : ℕ) (k : Holder) → At (first_holder p ∷ []) j k → InOwn i k → ⊥
-      nobody i j k a own = empty j k own.0 a own.1
+    nobody : (i j : ℕ) (k : Holder) → At (first_holder p ∷ []) j k → InOwn i k → ⊥
+    nobody i j k a own = empty j k own.0 a own.1
 
-      none_refused : (t : ℕ) → Each (Below (get_or ws used_word 0) (length ws)) (runs.refused_at ([] ∷ []) t)
-      none_refused zero = tt
-      none_refused (suc t) = tt
+    none_refused : (t : ℕ) → Each (Below (get_or ws used_word 0) (length ws)) (runs.refused_at ([] ∷ []) t)
+    none_refused zero = tt
+    none_refused (suc t) = tt
 
-      no_lock : (place i : ℕ) → LockStands (moment p.slots (opening ws hs (first_holder p)) first_run opening_blocks) place i
-      no_lock place i = (0, λ j k a _ busy. absurd (let h : Idle ≡ Locked = ap (λ (u : Holder). busy_at place u.doing) (only j k a).1 ∙ busy in cc))
+    no_lock : (place i : ℕ) → LockStands (moment p (opening ws (Some what ∷ []) (first_holder p)) first_run (first_lines p.slots) opening_blocks) place i
+    no_lock place i = (0, λ j k a _ busy. absurd (let h : Idle ≡ Locked = ap (λ (u : Holder). busy_at place u.doing) (only j k a).1 ∙ busy in cc))
 
-      first_stands : (b : Block) → Has opening_blocks b → Stands (moment p.slots (opening ws hs (first_holder p)) first_run opening_blocks) b
-      first_stands b h = first_each (Stands (moment p.slots (opening ws hs (first_holder p)) first_run opening_blocks))
-          record {
-            class = globals_class;
-            fields = [];
-            path = Share ∷ [];
-            thing = refl;
-            size = refl;
-            names = refl;
-            tag = o.globals;
-            made_by = o.rest 1 refl;
-            serial = o.rest 2 refl;
-            lock = no_lock 0 3;
-            shape = subst (λ x. Has opening_blocks (ShapeAt globals_shape x)) (sym o.shape) (inr (inr (inr (inl refl))));
-            chunk = inl (o.rest 5 refl);
-            stands = tt;
-          }
-          (no_lock tree_lock tree_lock)
-          record {
-            tag = o.root;
-            leads = (o.rest 18 refl, o.rest 19 refl, o.rest 20 refl);
-            count = o.rest 21 refl;
-            child = inr (Share, subst (λ x. Has opening_blocks (ShapeAt globals_shape x)) (sym o.child) (inr (inr (inr (inl refl)))));
-            sibling = inl (o.rest 23 refl);
-          }
-          record {
-            tag = o.shared;
-            leads = (subst (λ x. Has opening_blocks (ShapeAt (root_of globals_class) x)) (sym o.parent) (inr (inr (inl refl))), o.edge, o.rest 27 refl);
-            count = o.rest 28 refl;
-            child = inl (o.rest 29 refl);
-            sibling = inl (o.rest 30 refl);
-          }
-          b h
+    first_tell : LinesTell first_run (first_table p.slots)
+    first_tell = record {
+      over = λ l h. let is = only_main p.slots l h in ap (λ (x : Line). x.over) is;
+      all = λ t lt going. (record { number = 0; over = false }, inl refl, let z : 0 ≡ t = omega (arith, lt) in z);
+    }
+
+    first_stands : (b : Block) → Has opening_blocks b → Stands (moment p (opening ws (Some what ∷ []) (first_holder p)) first_run (first_lines p.slots) opening_blocks) b
+    first_stands b h = first_each (Stands (moment p (opening ws (Some what ∷ []) (first_holder p)) first_run (first_lines p.slots) opening_blocks))
+        record {
+          class = globals_class;
+          fields = [];
+          path = Share ∷ [];
+          thing = refl;
+          size = refl;
+          names = refl;
+          tag = o.globals;
+          made_by = o.rest 1 refl;
+          serial = o.rest 2 refl;
+          lock = no_lock 0 3;
+          shape = subst (λ x. Has opening_blocks (ShapeAt globals_shape x)) (sym o.shape) (inr (inr (inr (inr (inl refl)))));
+          chunk = inl (o.rest 5 refl);
+          stands = tt;
+        }
+        (inl record {
+          word = o.rest 15 refl;
+          what = what;
+          home = refl;
+          handed = (ap numbers lines_are ∙ numbers_first p.slots, subst (LinesTell first_run) (sym lines_are) first_tell, subst (runs.Stands Any p.begun [] ([] ∷ [])) (sym sink_is) (sink_stands Any p.begun fine));
+          nobody = λ j k a _. ap (λ (u : Holder). busy_at turn_word u.doing) (sym (only j k a).1);
+        })
+        (no_lock tree_lock tree_lock)
+        record {
+          tag = o.root;
+          leads = (o.rest 18 refl, o.rest 19 refl, o.rest 20 refl);
+          count = o.rest 21 refl;
+          child = inr (Share, subst (λ x. Has opening_blocks (ShapeAt globals_shape x)) (sym o.child) (inr (inr (inr (inr (inl refl))))));
+          sibling = inl (o.rest 23 refl);
+        }
+        record {
+          tag = o.shared;
+          leads = (subst (λ x. Has opening_blocks (ShapeAt (root_of globals_class) x)) (sym o.parent) (inr (inr (inr (inl refl)))), o.edge, o.rest 27 refl);
+          count = o.rest 28 refl;
+          child = inl (o.rest 29 refl);
+          sibling = inl (o.rest 30 refl);
+        }
+        b h
+
+-- the same over a row of slots
+pub starts_from : (ws : List ℕ) (l : List Slot) (what : Handed) (p : Plan) → l ≡ Some what ∷ [] → IsFirst p.begun p.slots what → p.begun.failed ≡ false → 1 ≤ p.slots → opening_words ≤ p.words → length ws ≡ p.words → IsOpening (λ i. get_or ws i 0)
+    → Kept p (opening ws l (first_holder p))
+starts_from ws l what p is first fine some_slots some_words size o = subst (λ (x : List Slot). Kept p (opening ws x (first_holder p))) (sym is) (starts ws what p first.1 first.0 fine some_slots some_words size o)

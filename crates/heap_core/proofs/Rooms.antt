@@ -3,7 +3,7 @@ use Rattle.std.proofs.Common.{◌≡◌, ◌≤◌, ◌<◌, ◌⊎◌, ℕ, ◌
 use Rattle.rb_shared.specs.Lists.{Has}
 use Rattle.shared_run.proofs.Events.{has_either}
 use Rattle.heap_core.specs.Places.{used_word, opening_words}
-use Rattle.heap_core.specs.Blocks.{Block, ObjectAt, ChunkAt, MutexAt, TextAt, BoxAt, ShapeAt, LockAt, place_of, size_of, Inside}
+use Rattle.heap_core.specs.Blocks.{Block, ObjectAt, ChunkAt, MutexAt, TextAt, BoxAt, ShapeAt, LockAt, TheTurn, place_of, size_of, Inside}
 use Rattle.heap_core.specs.View.{Region, InRegion, Holder, InOwn, spent_holder, maker, joined}
 use Rattle.heap_core.specs.Moment.{At}
 use Rattle.heap_core.specs.Rule.{Laid}
@@ -17,6 +17,7 @@ some_size (TextAt bytes at) = omega arith
 some_size (BoxAt n at) = omega arith
 some_size (ShapeAt shape at) = omega arith
 some_size (LockAt at) = omega arith
+some_size TheTurn = omega arith
 
 -- a block has its own first word
 pub place_inside : (b : Block) → Inside (place_of b) b

@@ -7,16 +7,18 @@ use Rattle.rb_model.specs.declared.value.Id.{Id}
 use Rattle.rb_model.specs.declared.value.Ref.{Ref}
 use Rattle.rb_model.specs.Things.{Thing, Object, Mutex}
 use Rattle.rb_shared.specs.Lists.{Has, Each}
-use Rattle.rb_shared.specs.Store.{found}
+use Rattle.rb_shared.specs.Store.{found, threads}
 use Rattle.rb_shared.specs.View.{View}
 use Rattle.rb_shared.proofs.Runs.{each_more}
 use Rattle.shared_run.specs.Run.{IsNote}
-use Rattle.heap_core.specs.Blocks.{Block, ObjectAt, ChunkAt, MutexAt, TextAt, BoxAt, ShapeAt, LockAt, id_of, Inside}
+use Rattle.heap_core.specs.Handing.{Plan, Slot}
+use Rattle.heap_core.specs.Blocks.{Block, ObjectAt, ChunkAt, MutexAt, TextAt, BoxAt, ShapeAt, LockAt, TheTurn, home_of, id_of, place_of, Inside}
 use Rattle.heap_core.specs.View.{Holder, Knows}
 use Rattle.heap_core.specs.Moment.{At, owner_in, word}
 use Rattle.heap_core.specs.Mutexes.{owner_of}
-use Rattle.heap_core.specs.Rule.{Stands, Claims, Seated, LiesIn, Kept, moment}
+use Rattle.heap_core.specs.Rule.{Stands, Claims, IsUngathered, Seated, LiesIn, Kept, moment}
 use Rattle.heap_core.proofs.Holders.{each_set}
+use Rattle.heap_core.proofs.Rooms.{place_inside}
 
 -- ---- notes
 
@@ -25,6 +27,9 @@ note_thread v w i = ap (λ (x : View). x.thread) i.2
 
 pub note_known : (v w : View) → IsNote v w → w.known ≡ v.known
 note_known v w i = ap (λ (x : View). x.known) i.2
+
+pub note_ended : (v w : View) → IsNote v w → w.ended ≡ v.ended
+note_ended v w i = ap (λ (x : View). x.ended) i.2
 
 -- what a note says is still unsplit was so before
 pub note_unsplit : (v w : View) (n : ℕ) → IsNote v w → w.unsplit ≡ Some n → v.unsplit ≡ Some n
@@ -60,13 +65,38 @@ seated_note slots z lines views id k w s at live line due note = record {
       (λ l e. ap (get_elem? lines) due ∙ s.due id n k at (sym live ∙ l) (note_unsplit k.view w.view n note e)) (λ j u _ a. s.due j n u a) j u a;
 }
 
+-- the same where an entry was made that starts no thread
+pub seated_plain : (slots : ℕ) (z : Rattle.rb_shared.specs.Store.Store) (lines : List (Option ℕ)) (views : List Holder) (id : ℕ) (k w : Holder) → Seated slots z lines views → At views id k → w.live ≡ k.live → w.line ≡ k.line → w.view.thread ≡ k.view.thread
+    → w.view.unsplit ≡ None → Seated slots z lines (set views id w)
+seated_plain slots z lines views id k w s at live line thread nobody = record {
+  long = s.long;
+  main = s.main;
+  taken = s.taken;
+  once = s.once;
+  mine = each_set (λ j u. u.live ≡ true → get_elem? lines u.line ≡ some (Some u.view.thread)) views id w
+      (λ l. ap (get_elem? lines) line ∙ (s.mine id k at (sym live ∙ l) ∙ ap (λ t. some (Some t)) (sym thread))) (λ j u _ a. s.mine j u a);
+  due = λ j n u a. each_set (λ j u. u.live ≡ true → u.view.unsplit ≡ Some n → get_elem? lines u.due ≡ some (Some n)) views id w
+      (λ _ e. absurd (let h : None ≡ Some n = sym nobody ∙ e in cc)) (λ j u _ a. s.due j n u a) j u a;
+}
+
+-- the same over a store with the same threads
+pub seated_store : (slots : ℕ) (z z' : Rattle.rb_shared.specs.Store.Store) (lines : List (Option ℕ)) (views : List Holder) → threads z' ≡ threads z → Seated slots z lines views → Seated slots z' lines views
+seated_store slots z z' lines views same s = record {
+  long = s.long;
+  main = s.main;
+  taken = λ i t a. ⊎_elim (λ e. inl e) (λ (u : IsUngathered z t). inr (u.0, subst (λ l. Has l u.0) (sym same) u.1, u.2, u.3)) (s.taken i t a);
+  once = s.once;
+  mine = s.mine;
+  due = s.due;
+}
+
 -- references lie where they lay, in more blocks
 pub lies_more : (bs cs : List Block) → ((b : Block) → Has bs b → Has cs b) → (rs : List Ref) → Each (LiesIn bs) rs → Each (LiesIn cs) rs
 lies_more bs cs more rs l = each_more (LiesIn bs) (LiesIn cs) (λ r p. (p.0, more p.0 p.1, p.2, p.3)) rs l
 
 -- ---- the things that blocks stand for
 
-module _ {S : Type 0} (slots : ℕ) (s : State S Holder) (r : Kept slots s) where
+module _ (plan : Plan) (s : State Slot Holder) (r : Kept plan s) where
   some_is : (id id' : Id) → Some id ≡ Some id' → id ≡ id'
   some_is id id' e = cc
 
@@ -77,14 +107,15 @@ module _ {S : Type 0} (slots : ℕ) (s : State S Holder) (r : Kept slots s) wher
   pub there : (b : Block) (id : Id) → Has r.blocks b → id_of b ≡ Some id → (thing : Thing) × (found r.run.store id ≡ Some thing)
   there b id here is = by_kind b is (r.each b here)
     where
-      by_kind : (b : Block) → id_of b ≡ Some id → Stands (moment slots s r.run r.blocks) b → (thing : Thing) × (found r.run.store id ≡ Some thing)
+      by_kind : (b : Block) → id_of b ≡ Some id → Stands (moment plan s r.run r.lines r.blocks) b → (thing : Thing) × (found r.run.store id ≡ Some thing)
       by_kind (ObjectAt x at) is k = (Object k.class k.fields, ap (found r.run.store) (sym (some_is x id is)) ∙ k.thing)
-      by_kind (MutexAt x at) is k = (Mutex (owner_in (moment slots s r.run r.blocks) (word (moment slots s r.run r.blocks) (owner_of at))), ap (found r.run.store) (sym (some_is x id is)) ∙ k.thing)
+      by_kind (MutexAt x at) is k = (Mutex (owner_in (moment plan s r.run r.lines r.blocks) (word (moment plan s r.run r.lines r.blocks) (owner_of at))), ap (found r.run.store) (sym (some_is x id is)) ∙ k.thing)
       by_kind (ChunkAt object number at) is k = absurd (none_is id is)
       by_kind (TextAt bytes at) is k = absurd (none_is id is)
       by_kind (BoxAt n at) is k = absurd (none_is id is)
       by_kind (ShapeAt shape at) is k = absurd (none_is id is)
       by_kind (LockAt at) is k = absurd (none_is id is)
+      by_kind TheTurn is k = absurd (none_is id is)
 
   -- no seat claims a number that no thread has
   pub nobody_claims : (n : ℕ) → n ≡ length r.run.refusals → (j : ℕ) (u : Holder) → At s.views j u → Claims u n → ⊥
@@ -97,3 +128,16 @@ module _ {S : Type 0} (slots : ℕ) (s : State S Holder) (r : Kept slots s) wher
   -- of the blocks that a view knows, a word is in one alone
   pub only_block : (id i : ℕ) (k : Holder) (b c : Block) → At s.views id k → Knows k b → Knows k c → Inside i b → Inside i c → b ≡ c
   only_block id i k b c at kb kc ib ic = r.laid.apart i b c (r.known id k b at kb) (r.known id k c at kc) ib ic
+
+  -- a block that is no object is alone with its place as its home
+  pub alone_at : (b : Block) → Has r.blocks b → ((x : Id) (place : ℕ) → ObjectAt x place ≡ b → ⊥) → (c : Block) → Has r.blocks c → home_of c ≡ place_of b → c ≡ b
+  alone_at b here no_object (ChunkAt object number place) hc is =
+      let home = r.homes (ChunkAt object number place) hc in
+      absurd (no_object home.0 object (r.laid.apart (place_of b) (ObjectAt home.0 object) b home.1 here (subst (λ y. Inside y (ObjectAt home.0 object)) is (place_inside (ObjectAt home.0 object))) (place_inside b)))
+  alone_at b here no_object (ObjectAt x place) hc is = r.laid.apart (place_of b) (ObjectAt x place) b hc here (subst (λ y. Inside y (ObjectAt x place)) is (place_inside (ObjectAt x place))) (place_inside b)
+  alone_at b here no_object (MutexAt x place) hc is = r.laid.apart (place_of b) (MutexAt x place) b hc here (subst (λ y. Inside y (MutexAt x place)) is (place_inside (MutexAt x place))) (place_inside b)
+  alone_at b here no_object (TextAt bytes place) hc is = r.laid.apart (place_of b) (TextAt bytes place) b hc here (subst (λ y. Inside y (TextAt bytes place)) is (place_inside (TextAt bytes place))) (place_inside b)
+  alone_at b here no_object (BoxAt n place) hc is = r.laid.apart (place_of b) (BoxAt n place) b hc here (subst (λ y. Inside y (BoxAt n place)) is (place_inside (BoxAt n place))) (place_inside b)
+  alone_at b here no_object (ShapeAt shape place) hc is = r.laid.apart (place_of b) (ShapeAt shape place) b hc here (subst (λ y. Inside y (ShapeAt shape place)) is (place_inside (ShapeAt shape place))) (place_inside b)
+  alone_at b here no_object (LockAt place) hc is = r.laid.apart (place_of b) (LockAt place) b hc here (subst (λ y. Inside y (LockAt place)) is (place_inside (LockAt place))) (place_inside b)
+  alone_at b here no_object TheTurn hc is = r.laid.apart (place_of b) TheTurn b hc here (subst (λ y. Inside y TheTurn) is (place_inside TheTurn)) (place_inside b)

@@ -5,29 +5,33 @@ use Rattle.std.specs.Option.{option_map}
 use Rattle.atomic_table.specs.Table.{State}
 use Rattle.rb_model.specs.declared.value.Id.{Id}
 use Rattle.rb_model.specs.declared.value.Ref.{Ref}
-use Rattle.rb_model.specs.Log.{Call, On, Start, Gather, Print, End, Entry, is_end}
+use Rattle.rb_model.specs.Log.{Call, On, Start, Gather, Print, End, Entry, is_end, printed}
+use Rattle.rb_model.specs.Started.{started_by}
 use Rattle.rb_model.specs.Things.{Thing}
 use Rattle.rb_shared.specs.Lists.{Has, Each}
 use Rattle.rb_shared.specs.Step.{Steps, store_behind, ended_thing}
 use Rattle.rb_shared.specs.Store.{Store, found}
-use Rattle.rb_shared.specs.View.{with_entry, started_number}
+use Rattle.rb_shared.specs.View.{View, with_entry, started_number}
 use Rattle.rb_shared.proofs.Runs.{each_more, has_front, found_more}
 use Rattle.shape_core.specs.Shape.{Shape}
 use Rattle.shared_run.specs.Standing.{NamesHeld}
-use Rattle.shared_run.specs.Run.{Run, IsNote, MayEnter, MayStill, run_after, refused_at}
+use Rattle.shared_run.specs.Run.{Run, IsNote, MayEnter, MayStill, run_after, opened, refused_at}
 use Rattle.shared_run.specs.Run as runs
 use Rattle.shared_run.proofs.Events.{has_either, refused_opened}
 use Rattle.shared_run.proofs.Knowing.{noted, knows_on}
 use Rattle.shared_run.proofs.Points.{point_entry}
 use Rattle.shared_run.proofs.Enters.{run_on, entry_grows, entry_knows, unended, new_is_past}
-use Rattle.heap_core.specs.Places.{used_word, shape_words}
+use Rattle.shared_run.proofs.Sinking.{stands_silent}
+use Rattle.heap_core.specs.Places.{used_word, turn_word, shape_words}
+use Rattle.heap_core.specs.Handing.{Plan, Slot, Homes}
 use Rattle.heap_core.specs.Blocks.{Block, ShapeAt, place_of, size_of, home_of, id_of, HasHome, Inside, InFamily, words_of_shapes}
 use Rattle.heap_core.specs.Charges.{budget, tally_of}
 use Rattle.heap_core.specs.View.{Region, InRegion, words_in, Holder, Busy, InOwn, Knows, held, busy_at}
 use Rattle.heap_core.specs.Moment.{Moment, At}
+use Rattle.heap_core.specs.Turns.{Any}
 use Rattle.heap_core.specs.Rule.{IsMade, Stands, Seated, Below, LiesIn, Kept, moment}
 use Rattle.heap_core.proofs.Frames.{Follows, Stays}
-use Rattle.heap_core.proofs.Holders.{at_within, each_set, apart_set, owned_set, shapes_append}
+use Rattle.heap_core.proofs.Holders.{at_within, each_set, apart_set, keeps_set, owned_set, shapes_append}
 use Rattle.heap_core.proofs.Things.{Touches, found_behind, found_at_end, over_same, over_now, over_other, size_after}
 use mathlib.Core.Option.{some-injective}
 use mathlib.Core.Logic.{dite}
@@ -37,7 +41,7 @@ use Rattle.atomic_table.proofs.Lists.{set_here, set_else}
 use Rattle.heap_core.proofs.Tallies.{made_after}
 use Rattle.heap_core.proofs.Owes.{whole, owes_kept}
 use Rattle.heap_core.proofs.Rooms.{laid_step}
-use Rattle.heap_core.proofs.Seats.{note_thread, note_known, note_claims, seated_note, lies_more, there, nobody_claims}
+use Rattle.heap_core.proofs.Seats.{note_thread, note_ended, note_known, note_claims, seated_note, lies_more, there, nobody_claims}
 
 -- a region is a part of one of these, with its words
 abbrev pub PartOf : List Region → Region → Type 0
@@ -55,7 +59,7 @@ EndsIn os n = (o : Region) × Has os o × (n ≤ o.at + length o.words)
 abbrev pub is_home : Block → ℕ → Bool
 is_home b x = x == home_of b
 
-module _ {S : Type 0} (slots : ℕ) (s : State S Holder) (r : Kept slots s) (id : ℕ) (k k' : Holder) (i n : ℕ) (b : Block)
+module _ (plan : Plan) (s : State Slot Holder) (r : Kept plan s) (hs' : Homes) (id : ℕ) (k k' : Holder) (i n : ℕ) (b : Block)
     (at : At s.views id k) (live : k.live ≡ true) (alive : k'.live ≡ true) (line : k'.line ≡ k.line) (size : k'.size ≡ k.size) (here : Has r.blocks b) (inside : Inside i b) where
   abbrev pub ws' : List ℕ
   ws' = set s.words i n
@@ -63,8 +67,8 @@ module _ {S : Type 0} (slots : ℕ) (s : State S Holder) (r : Kept slots s) (id 
   abbrev pub views' : List Holder
   views' = set s.views id k'
 
-  abbrev pub after : Run → List Block → Moment
-  after run blocks = moment slots (whole ws' s.homes views') run blocks
+  abbrev pub after : Run → List (Option ℕ) → List Block → Moment
+  after run lines blocks = moment plan (whole ws' hs' views') run lines blocks
 
   -- ---- words
 
@@ -81,9 +85,9 @@ module _ {S : Type 0} (slots : ℕ) (s : State S Holder) (r : Kept slots s) (id 
   pub family_same : (mine : ℕ → Bool) → mine (home_of b) ≡ true → (x : ℕ) (c : Block) → Has r.blocks c → mine (home_of c) ≡ false → InFamily r.blocks (home_of c) x → get_or ws' x 0 ≡ get_or s.words x 0
   family_same mine own x c hc not_mine f = word_else x f.0 f.1 f.3 (λ is. true≢false (sym own ∙ (ap (λ (y : Block). mine (home_of y)) (sym is) ∙ (ap mine f.2 ∙ not_mine))))
 
-  pub stays_else : (mine : ℕ → Bool) (run : Run) (added : List Block) → ((x : ℕ) → mine x ≡ false → busy_at x k'.doing ≡ busy_at x k.doing)
-      → (c : Block) → Has r.blocks c → mine (home_of c) ≡ false → Stays (moment slots s r.run r.blocks) (after run (r.blocks ++ added)) (home_of c)
-  stays_else mine run added doing c hc not_mine = each_set (λ j u. u.live ≡ true → (busy_at (home_of c) u.doing ≡ Busy.Idle) ⊎ ((y : Holder) × At s.views j y × (y.live ≡ true) × (busy_at (home_of c) y.doing ≡ busy_at (home_of c) u.doing))) s.views id k'
+  pub stays_else : (mine : ℕ → Bool) (run : Run) (lines : List (Option ℕ)) (added : List Block) → ((x : ℕ) → mine x ≡ false → busy_at x k'.doing ≡ busy_at x k.doing)
+      → (c : Block) → Has r.blocks c → mine (home_of c) ≡ false → Stays (moment plan s r.run r.lines r.blocks) (after run lines (r.blocks ++ added)) (home_of c)
+  stays_else mine run lines added doing c hc not_mine = each_set (λ j u. u.live ≡ true → (busy_at (home_of c) u.doing ≡ Busy.Idle) ⊎ ((y : Holder) × At s.views j y × (y.live ≡ true) × (busy_at (home_of c) y.doing ≡ busy_at (home_of c) u.doing))) s.views id k'
       (λ _. inr (k, at, live, sym (doing (home_of c) not_mine))) (λ j u _ a l. inr (u, a, l, refl))
 
   pub others_own : ((x : ℕ) (o : Region) → Has k'.own o → x < length o.words → get_or ws' (o.at + x) 0 ≡ get_or o.words x 0) → (x j : ℕ) (u : Holder) (o : Region) → At views' j u → Has u.own o → x < length o.words → get_or ws' (o.at + x) 0 ≡ get_or o.words x 0
@@ -109,7 +113,7 @@ module _ {S : Type 0} (slots : ℕ) (s : State S Holder) (r : Kept slots s) (id 
   pub record Quiet (added : List Block) : Type 0 where
     pub note : IsNote k.view k'.view
     pub due : k'.due ≡ k.due
-    pub late : Each (MayStill slots r.run k.view.thread) k'.late
+    pub late : Each (MayStill plan.slots r.run k.view.thread) k'.late
     pub knows_more : (c : Block) → Knows k c → Knows k' c
     pub knows_in : (c : Block) → Knows k' c → Has (r.blocks ++ added) c
     -- each region that is left is a part of one that was, and what comes was own
@@ -121,29 +125,31 @@ module _ {S : Type 0} (slots : ℕ) (s : State S Holder) (r : Kept slots s) (id 
     pub parted : (x : ℕ) (c d : Block) → Has added c → Has added d → Inside x c → Inside x d → c ≡ d
     -- what is in progress elsewhere goes on
     pub doing : (x : ℕ) → is_home b x ≡ false → busy_at x k'.doing ≡ busy_at x k.doing
+    -- off the turn word the slot is left
+    pub slot : is_home b turn_word ≡ false → hs' ≡ s.homes
     -- the block that was stepped on stands, with its parts, and so do those that came, which are no things
-    pub anew : (c : Block) → Has r.blocks c → home_of c ≡ home_of b → Stands (after r.run (r.blocks ++ added)) c
-    pub new : (c : Block) → Has added c → Stands (after r.run (r.blocks ++ added)) c
+    pub anew : (c : Block) → Has r.blocks c → home_of c ≡ home_of b → Stands (after r.run r.lines (r.blocks ++ added)) c
+    pub new : (c : Block) → Has added c → Stands (after r.run r.lines (r.blocks ++ added)) c
     pub no_thing : (c : Block) → Has added c → id_of c ≡ None
     pub shapes_on : (shape : Shape) → Has k.shapes shape → Has k'.shapes shape
     pub shapes_new : (shape : Shape) (place : ℕ) → Has added (ShapeAt shape place) → Has k'.shapes shape
     pub homes : (c : Block) → Has added c → HasHome (r.blocks ++ added) c
     pub one_shape : (shape : Shape) (place to : ℕ) → Has added (ShapeAt shape place) → Has (r.blocks ++ added) (ShapeAt shape to) → place ≡ to
 
-  pub quiet_step : (added : List Block) → Quiet added → Kept slots (whole ws' s.homes views')
+  pub quiet_step : (added : List Block) → Quiet added → Kept plan (whole ws' hs' views')
   quiet_step added q =
       let top = r.laid.used_in in
       let used = used_same in
       let long = length-set s.words i n in
-      owes_kept slots s r ws' s.homes views' record {
+      owes_kept plan s r ws' hs' views' record {
         run = r.run;
         added = added;
         lines = r.lines;
         mine = is_home b;
         is_run = r.is_run;
-        knows = each_set (λ j u. u.live ≡ true → runs.Knows slots r.run u.view) s.views id k' (λ _. noted slots r.run k.view k'.view q.note (r.knows id k at live)) (λ j u _ a. r.knows j u a);
+        knows = each_set (λ j u. u.live ≡ true → runs.Knows plan.slots r.run u.view) s.views id k' (λ _. noted plan.slots r.run k.view k'.view q.note (r.knows id k at live)) (λ j u _ a. r.knows j u a);
         apart = apart_set s.views id k k' r.apart at (λ t c. inl (note_claims k k' t (alive ∙ sym live) q.note c));
-        seated = seated_note slots r.run.store r.lines s.views id k k' r.seated at (alive ∙ sym live) line q.due q.note;
+        seated = seated_note plan.slots r.run.store r.lines s.views id k k' r.seated at (alive ∙ sym live) line q.due q.note;
         laid = laid_step s.words ws' s.views r.blocks added r.laid id k k' at (λ _. live) size long (omega (arith, used)) (omega (arith, used, long, top))
             (λ x o. let part = q.left o.0 o.1 in let lo = o.2.0 in let hi = o.2.1 in let from = part.2 in let to = part.3 in inl (part.0, part.1, (omega (arith, lo, from), omega (arith, hi, to))))
             (λ o h. let part = q.left o h in let was = r.laid.own_in id k part.0 at part.1 in let low = was.0 in let high = was.1 in let from = part.2 in let to = part.3 in (omega (arith, low, from), omega (arith, high, to, used)))
@@ -153,8 +159,17 @@ module _ {S : Type 0} (slots : ℕ) (s : State S Holder) (r : Kept slots s) (id 
             (λ c h. let end = q.bounded c h in let high = (r.laid.own_in id k end.0 at end.1).1 in let le = end.2 in omega (arith, le, high, used));
         words = λ x c hc not_mine f. family_same (is_home b) (eq-eqb (home_of b) (home_of b) refl) x c hc not_mine f;
         things = λ y c hc not_mine is. inl (refl, λ t. refl);
-        sizes = λ y c x hc not_mine is e. e;
-        stays = stays_else (is_home b) r.run added q.doing;
+        sizes = λ y c hc not_mine is. refl;
+        threads = λ t lt. lt;
+        stays = stays_else (is_home b) r.run r.lines added q.doing;
+        turn = λ off. record {
+          homes = q.slot off;
+          lines = refl;
+          sinks = λ x st. st;
+          over = λ t. refl;
+          threads = λ t lt. lt;
+          keeps = keeps_set s.views id k k' at alive (q.doing turn_word off) (λ g. note_ended k.view k'.view q.note ∙ g);
+        };
         anew = λ c hc mine. q.anew c hc (eqb-true (home_of c) (home_of b) mine);
         new = q.new;
         one = λ y c d hc hd ic id. absurd (let none_is = q.no_thing c hc in let h : None ≡ Some y = sym none_is ∙ ic in cc);
@@ -172,9 +187,9 @@ module _ {S : Type 0} (slots : ℕ) (s : State S Holder) (r : Kept slots s) (id 
             ∙ (r.own (o.at - part.0.at + x) id k part.0 at part.1 (omega (arith, lt, from, to)) ∙ sym (part.4 x lt))));
         used = let was = r.used in let owns = owned_set s.views id k k' at in let counted = q.counted in let more = shapes_append r.blocks added in omega (arith, was, owns, counted, more, used);
         made_on = λ shape h. h;
-        ahead_on = ahead_else (tally_of slots r.run.events).shapes (λ shape h. inr (q.shapes_on shape h));
-        made_new = λ shape place h. ahead_new (tally_of slots r.run.events).shapes shape (inr (q.shapes_new shape place h));
-        late = each_set (λ j u. u.live ≡ true → Each (MayStill slots r.run u.view.thread) u.late) s.views id k' (λ _. subst (λ t. Each (MayStill slots r.run t) k'.late) (sym (note_thread k.view k'.view q.note)) q.late) (λ j u _ a. r.late j u a);
+        ahead_on = ahead_else (tally_of plan.slots r.run.events).shapes (λ shape h. inr (q.shapes_on shape h));
+        made_new = λ shape place h. ahead_new (tally_of plan.slots r.run.events).shapes shape (inr (q.shapes_new shape place h));
+        late = each_set (λ j u. u.live ≡ true → Each (MayStill plan.slots r.run u.view.thread) u.late) s.views id k' (λ _. subst (λ t. Each (MayStill plan.slots r.run t) k'.late) (sym (note_thread k.view k'.view q.note)) q.late) (λ j u _ a. r.late j u a);
         refused = λ t. subst (λ u. Each (Below u (length ws')) (refused_at r.run.refusals t)) (sym used) (subst (λ m. Each (Below (get_or s.words used_word 0) m) (refused_at r.run.refusals t)) (sym long) (r.refused t));
         spent = each_set (λ j u. u.live ≡ false → held u ≡ 0) s.views id k' (λ e. absurd (true≢false (sym alive ∙ e))) (λ j u _ a. r.spent j u a);
       }
@@ -185,7 +200,7 @@ module _ {S : Type 0} (slots : ℕ) (s : State S Holder) (r : Kept slots s) (id 
   pub record Enters (added : List Block) (e : Entry) (refs : List Ref) (z : Store) : Type 0 where
     pub going : k.view.ended ≡ false
     pub may : MayEnter k.view r.run.store e
-    pub steps : Steps slots r.run.store k.view.thread e z
+    pub steps : Steps plan.slots r.run.store k.view.thread e z
     pub named : Each (NamesHeld z) refs
     pub view : k'.view ≡ with_entry k.view e refs
     pub own : k'.own ≡ []
@@ -194,9 +209,9 @@ module _ {S : Type 0} (slots : ℕ) (s : State S Holder) (r : Kept slots s) (id 
     pub knows_in : (c : Block) → Knows k' c → Has (r.blocks ++ added) c
     pub lie : Each (LiesIn k'.blocks) k'.view.known
     pub lines : List (Option ℕ)
-    pub seated : Seated slots z lines views'
-    pub charged : budget slots r.run.events + held k + shape_words * length (tally_of slots (run_after r.run k.view.thread e z).events).shapes
-        ≡ budget slots (run_after r.run k.view.thread e z).events + words_of_shapes added + shape_words * length (tally_of slots r.run.events).shapes
+    pub seated : Seated plan.slots z lines views'
+    pub charged : budget plan.slots r.run.events + held k + shape_words * length (tally_of plan.slots (run_after r.run k.view.thread e z).events).shapes
+        ≡ budget plan.slots (run_after r.run k.view.thread e z).events + words_of_shapes added + shape_words * length (tally_of plan.slots r.run.events).shapes
     -- the words that come were own
     pub inside_own : (x : ℕ) (c : Block) → Has added c → Inside x c → InOwn x k
     pub bounded : (c : Block) → Has added c → EndsIn k.own (place_of c + size_of c)
@@ -206,12 +221,14 @@ module _ {S : Type 0} (slots : ℕ) (s : State S Holder) (r : Kept slots s) (id 
     pub own_home : mine (home_of b) ≡ true
     pub receiver : (y : Id) (c : Block) → Has r.blocks c → id_of c ≡ Some y → Touches e.call y → mine (home_of c) ≡ true
     pub doing : (x : ℕ) → mine x ≡ false → busy_at x k'.doing ≡ busy_at x k.doing
-    pub anew : (c : Block) → Has r.blocks c → mine (home_of c) ≡ true → Stands (after (run_after r.run k.view.thread e z) (r.blocks ++ added)) c
-    pub new : (c : Block) → Has added c → Stands (after (run_after r.run k.view.thread e z) (r.blocks ++ added)) c
+    -- where the turn is not shown anew, the slot and the lines are left, and the call neither prints, nor ends its thread or starts another
+    pub off_turn : mine turn_word ≡ false → (hs' ≡ s.homes) × (lines ≡ r.lines) × (printed e.call ≡ []) × (is_end e.call ≡ false) × (started_by e.call e.reply ≡ [])
+    pub anew : (c : Block) → Has r.blocks c → mine (home_of c) ≡ true → Stands (after (run_after r.run k.view.thread e z) lines (r.blocks ++ added)) c
+    pub new : (c : Block) → Has added c → Stands (after (run_after r.run k.view.thread e z) lines (r.blocks ++ added)) c
     -- what comes was not there
     pub homes : (c : Block) → Has added c → HasHome (r.blocks ++ added) c
-    pub shapes_on : (shape : Shape) → Has k.shapes shape → Has (tally_of slots (run_after r.run k.view.thread e z).events).shapes shape ⊎ Has k'.shapes shape
-    pub shapes_new : (shape : Shape) (place : ℕ) → Has added (ShapeAt shape place) → Has (tally_of slots (run_after r.run k.view.thread e z).events).shapes shape ⊎ Has k'.shapes shape
+    pub shapes_on : (shape : Shape) → Has k.shapes shape → Has (tally_of plan.slots (run_after r.run k.view.thread e z).events).shapes shape ⊎ Has k'.shapes shape
+    pub shapes_new : (shape : Shape) (place : ℕ) → Has added (ShapeAt shape place) → Has (tally_of plan.slots (run_after r.run k.view.thread e z).events).shapes shape ⊎ Has k'.shapes shape
     pub fresh : (y : Id) (c : Block) → Has added c → id_of c ≡ Some y → found r.run.store y ≡ None
     pub one : (y : Id) (c d : Block) → Has added c → Has added d → id_of c ≡ Some y → id_of d ≡ Some y → c ≡ d
     pub one_shape : (shape : Shape) (place to : ℕ) → Has added (ShapeAt shape place) → Has (r.blocks ++ added) (ShapeAt shape to) → place ≡ to
@@ -224,28 +241,28 @@ module _ {S : Type 0} (slots : ℕ) (s : State S Holder) (r : Kept slots s) (id 
     run' = run_after r.run t e z
 
     -- another thing is as it was, or the thread ends
-    follows : (y : Id) (d : Block) → Has r.blocks d → c.mine (home_of d) ≡ false → id_of d ≡ Some y → Follows (moment slots s r.run r.blocks) (after run' (r.blocks ++ added)) y
+    follows : (y : Id) (d : Block) → Has r.blocks d → c.mine (home_of d) ≡ false → id_of d ≡ Some y → Follows (moment plan s r.run r.lines r.blocks) (after run' c.lines (r.blocks ++ added)) y
     follows y d hd not_mine is = by_call e.call refl
       where
         far : Touches e.call y → ⊥
         far touched = true≢false (sym (c.receiver y d hd is touched) ∙ not_mine)
 
         was : (thing : Thing) × (found r.run.store y ≡ Some thing)
-        was = there slots s r d y hd is
+        was = there plan s r d y hd is
 
-        goes_on : is_end e.call ≡ false → Follows (moment slots s r.run r.blocks) (after run' (r.blocks ++ added)) y
+        goes_on : is_end e.call ≡ false → Follows (moment plan s r.run r.lines r.blocks) (after run' c.lines (r.blocks ++ added)) y
         goes_on going = inl (
-          ap (λ x. found x y) c.steps.store_is ∙ (found_behind slots (r.run.store ++ e.moved) t e.call y was.0 (found_more r.run.store e.moved y was.0 was.1) far going ∙ sym was.1),
+          ap (λ x. found x y) c.steps.store_is ∙ (found_behind plan.slots (r.run.store ++ e.moved) t e.call y was.0 (found_more r.run.store e.moved y was.0 was.1) far going ∙ sym was.1),
           λ u. over_same r.run.events t e going u,
         )
 
-        by_call : (x : Call) → e.call ≡ x → Follows (moment slots s r.run r.blocks) (after run' (r.blocks ++ added)) y
+        by_call : (x : Call) → e.call ≡ x → Follows (moment plan s r.run r.lines r.blocks) (after run' c.lines (r.blocks ++ added)) y
         by_call (End how) same = inr (
           t,
           how,
           ap (λ x. found x y) c.steps.store_is
-              ∙ (ap (λ x. found (store_behind slots (r.run.store ++ e.moved) t x) y) same
-              ∙ (found_at_end slots (r.run.store ++ e.moved) t how y ∙ ap (option_map (ended_thing t how)) (found_more r.run.store e.moved y was.0 was.1 ∙ sym was.1))),
+              ∙ (ap (λ x. found (store_behind plan.slots (r.run.store ++ e.moved) t x) y) same
+              ∙ (found_at_end plan.slots (r.run.store ++ e.moved) t how y ∙ ap (option_map (ended_thing t how)) (found_more r.run.store e.moved y was.0 was.1 ∙ sym was.1))),
           (over_now r.run.events t e (ap is_end same), λ u ne. over_other r.run.events t e u ne),
         )
         by_call (On thing act) same = goes_on (ap is_end same)
@@ -253,31 +270,31 @@ module _ {S : Type 0} (slots : ℕ) (s : State S Holder) (r : Kept slots s) (id 
         by_call (Gather thread) same = goes_on (ap is_end same)
         by_call (Print bytes) same = goes_on (ap is_end same)
 
-    pub change_to : Kept slots (whole ws' s.homes views')
+    pub change_to : Kept plan (whole ws' hs' views')
     change_to =
         let knew = r.knows id k at live in
-        let grows = entry_grows slots r.run k.view e z r.is_run knew c.may c.steps in
-        let open_log = unended slots r.run k.view e z r.is_run knew c.may c.steps c.going in
+        let grows = entry_grows plan.slots r.run k.view e z r.is_run knew c.may c.steps in
+        let open_log = unended plan.slots r.run k.view e z r.is_run knew c.may c.steps c.going in
         let top = r.laid.used_in in
         let some_words = r.laid.opening_in in
         let used = used_same in
         let long = length-set s.words i n in
         let none_own : (o : Region) → Has k'.own o → ⊥ = λ o h. subst (λ os. Has os o) c.own h in
         let count : words_in k'.own ≡ 0 = ap words_in c.own in
-        owes_kept slots s r ws' s.homes views' record {
+        owes_kept plan s r ws' hs' views' record {
           run = run';
           added = added;
           lines = c.lines;
           mine = c.mine;
-          is_run = run_on slots r.run k.view e z r.is_run knew c.may c.steps;
-          knows = each_set (λ j u. u.live ≡ true → runs.Knows slots run' u.view) s.views id k'
-              (λ _. subst (runs.Knows slots run') (sym c.view) (entry_knows slots r.run k.view e z r.is_run knew c.may c.steps refs c.going c.named))
-              (λ j u ne a l. knows_on slots r.run run' t u.view grows open_log (r.knows j u a l)
+          is_run = run_on plan.slots r.run k.view e z r.is_run knew c.may c.steps;
+          knows = each_set (λ j u. u.live ≡ true → runs.Knows plan.slots run' u.view) s.views id k'
+              (λ _. subst (runs.Knows plan.slots run') (sym c.view) (entry_knows plan.slots r.run k.view e z r.is_run knew c.may c.steps refs c.going c.named))
+              (λ j u ne a l. knows_on plan.slots r.run run' t u.view grows open_log (r.knows j u a l)
               (λ is. ne (r.apart j id t u k a at (l, inl is) (live, inl refl)))
               (λ is. ne (r.apart j id t u k a at (l, inr is) (live, inl refl))));
           apart = apart_set s.views id k k' r.apart at (λ y cl. ⊎_elim
               (λ (is : k'.view.thread ≡ y). inl (live, inl (ap (λ (v : Rattle.rb_shared.specs.View.View). v.thread) (sym c.view) ∙ is)))
-              (λ (is : k'.view.unsplit ≡ Some y). inr (nobody_claims slots s r y (new_is_past slots r.run k.view e z r.is_run knew c.may c.steps y (ap (λ (v : Rattle.rb_shared.specs.View.View). v.unsplit) (sym c.view) ∙ is))))
+              (λ (is : k'.view.unsplit ≡ Some y). inr (nobody_claims plan s r y (new_is_past plan.slots r.run k.view e z r.is_run knew c.may c.steps y (ap (λ (v : Rattle.rb_shared.specs.View.View). v.unsplit) (sym c.view) ∙ is))))
               cl.1);
           seated = c.seated;
           laid = laid_step s.words ws' s.views r.blocks added r.laid id k k' at (λ _. live) size long (omega (arith, used)) (omega (arith, used, long, top))
@@ -289,12 +306,22 @@ module _ {S : Type 0} (slots : ℕ) (s : State S Holder) (r : Kept slots s) (id 
               (λ d h. let end = c.bounded d h in let high = (r.laid.own_in id k end.0 at end.1).1 in let le = end.2 in omega (arith, le, high, used));
           words = λ x d hd not_mine f. family_same c.mine c.own_home x d hd not_mine f;
           things = λ y d hd not_mine is. follows y d hd not_mine is;
-          sizes = λ y d x hd not_mine is was. size_after slots r.run.events t e y x (λ touched. true≢false (sym (c.receiver y d hd is touched) ∙ not_mine)) was;
-          stays = stays_else c.mine run' added c.doing;
+          sizes = λ y d hd not_mine is. let was = there plan s r d y hd is in
+              size_after plan.slots r.run.events r.run.store t e y was.0 (λ touched. true≢false (sym (c.receiver y d hd is touched) ∙ not_mine)) was.1 c.steps.joins;
+          threads = λ n lt. let le = grows.more in omega (arith, lt, le);
+          stays = stays_else c.mine run' c.lines added c.doing;
+          turn = λ off. let left = c.off_turn off in record {
+            homes = left.0;
+            lines = left.1;
+            sinks = λ x st. stands_silent Any plan.begun r.run.events r.run.refusals t e x st left.2;
+            over = λ u. over_same r.run.events t e left.3 u;
+            threads = λ n lt. subst (λ rs. n < length rs) (ap (opened r.run.refusals) left.4) lt;
+            keeps = keeps_set s.views id k k' at alive (c.doing turn_word off) (λ _. ap (λ (v : View). v.ended) c.view ∙ left.3);
+          };
           anew = c.anew;
           new = c.new;
           one = λ y d f hd hf is also. ⊎_elim
-              (λ (old : Has r.blocks f). absurd (let was = there slots s r f y old also in let gone = c.fresh y d hd is in let h : None ≡ Some was.0 = sym gone ∙ was.1 in cc))
+              (λ (old : Has r.blocks f). absurd (let was = there plan s r f y old also in let gone = c.fresh y d hd is in let h : None ≡ Some was.0 = sym gone ∙ was.1 in cc))
               (λ (come : Has added f). c.one y d f hd come is also)
               (has_either r.blocks added f hf);
           one_shape = c.one_shape;
@@ -303,12 +330,12 @@ module _ {S : Type 0} (slots : ℕ) (s : State S Holder) (r : Kept slots s) (id 
           lie = each_set (λ j u. u.live ≡ true → Each (LiesIn u.blocks) u.view.known) s.views id k' (λ _. c.lie) (λ j u _ a. r.lie j u a);
           own = others_own (λ x o h. absurd (none_own o h));
           used = let was = r.used in let owns = owned_set s.views id k k' at in let charged = c.charged in let more = shapes_append r.blocks added in let none_ahead = c.ahead in omega (arith, was, owns, charged, more, used, count, none_ahead);
-          made_on = λ shape h. made_after slots r.run.events t e shape h;
-          ahead_on = ahead_else (tally_of slots run'.events).shapes c.shapes_on;
-          made_new = λ shape place h. ahead_new (tally_of slots run'.events).shapes shape (c.shapes_new shape place h);
-          late = each_set (λ j u. u.live ≡ true → Each (MayStill slots run' u.view.thread) u.late) s.views id k' (λ _. subst (Each (MayStill slots run' k'.view.thread)) (sym c.late) tt)
-              (λ j u ne a l. each_more (MayStill slots r.run u.view.thread) (MayStill slots run' u.view.thread)
-              (λ f p. (p.0, p.1, point_entry slots r.run (λ y. Steps slots y u.view.thread f y) u.view.thread t e z (λ is. ne (r.apart j id t u k a at (l, inl is) (live, inl refl))) p.2)) u.late (r.late j u a l));
+          made_on = λ shape h. made_after plan.slots r.run.events t e shape h;
+          ahead_on = ahead_else (tally_of plan.slots run'.events).shapes c.shapes_on;
+          made_new = λ shape place h. ahead_new (tally_of plan.slots run'.events).shapes shape (c.shapes_new shape place h);
+          late = each_set (λ j u. u.live ≡ true → Each (MayStill plan.slots run' u.view.thread) u.late) s.views id k' (λ _. subst (Each (MayStill plan.slots run' k'.view.thread)) (sym c.late) tt)
+              (λ j u ne a l. each_more (MayStill plan.slots r.run u.view.thread) (MayStill plan.slots run' u.view.thread)
+              (λ f p. (p.0, p.1, point_entry plan.slots r.run (λ y. Steps plan.slots y u.view.thread f y) u.view.thread t e z (λ is. ne (r.apart j id t u k a at (l, inl is) (live, inl refl))) p.2)) u.late (r.late j u a l));
           refused = λ x. subst (λ rs. Each (Below (get_or ws' used_word 0) (length ws')) rs) (sym (refused_opened r.run.refusals (Rattle.rb_model.specs.Started.started_by e.call e.reply) x))
               (subst (λ u. Each (Below u (length ws')) (refused_at r.run.refusals x)) (sym used) (subst (λ m. Each (Below (get_or s.words used_word 0) m) (refused_at r.run.refusals x)) (sym long) (r.refused x)));
           spent = each_set (λ j u. u.live ≡ false → held u ≡ 0) s.views id k' (λ q. absurd (true≢false (sym alive ∙ q))) (λ j u _ a. r.spent j u a);

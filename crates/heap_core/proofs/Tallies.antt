@@ -1,16 +1,21 @@
 -- What is counted stays where a read is put in.
-use Rattle.std.proofs.Common.{◌≡◌, ◌||◌, ℕ, ◌+◌, Bool, true, false, cond, List, [], ◌∷◌, ◌++◌, refl, sym, ap, ◌∙◌, subst, arith, append-nil}
-use Rattle.rb_model.specs.Acts.{Reply}
-use Rattle.rb_model.specs.Log.{Call, Entry}
+use Rattle.std.proofs.Common.{◌≡◌, ◌||◌, ℕ, ◌+◌, Bool, true, false, cond, List, [], ◌∷◌, ◌++◌, Option, Some, None, refl, sym, ap, ◌∙◌, subst, arith, append-nil}
+use Rattle.rb_model.specs.declared.value.Id.{Id}
+use Rattle.rb_model.specs.Acts.{Act, Reply}
+use Rattle.rb_model.specs.Things.{Thing}
+use Rattle.rb_model.specs.Values.{Reference}
+use Rattle.rb_model.specs.Log.{Call, On, Print, End, Entry, plain_entry}
+use Rattle.rb_model.specs.Ends.{End as Ending, told}
 use Rattle.rb_shared.specs.History.{Event, Leads}
 use Rattle.rb_shared.specs.Step.{store_behind}
-use Rattle.rb_shared.specs.Store.{Store, opening}
+use Rattle.rb_shared.specs.Store.{Store, found, opening}
 use Rattle.shared_run.specs.Run.{Run, MayRead, event_of}
 use Rattle.std.specs.List.{list_any}
 use Rattle.rb_shared.specs.Lists.{Has}
 use Rattle.rb_shared.proofs.Runs.{has_front}
 use Rattle.shape_core.specs.Shape.{Shape, same_shape, with_shape}
-use Rattle.heap_core.specs.Charges.{with_shapes, shapes_of, shapes_moved, receiver_size, sizes_behind, Tally, is_fault, takes_nothing, tally_moved, tally_call, tally_entry, tally_on, opening_tally, tally_of}
+use Rattle.heap_core.specs.Sizes.{Sized, size_of_id}
+use Rattle.heap_core.specs.Charges.{blocks_of_all, on_charge, call_charge, resized, with_shapes, shapes_of, shapes_moved, receiver_size, sizes_behind, Tally, is_fault, takes_nothing, tally_moved, tally_call, tally_entry, tally_on, opening_tally, tally_of}
 
 pub tally_append : (slots : ℕ) (t : Tally) (xs ys : List Event) → tally_on slots t (xs ++ ys) ≡ tally_on slots (tally_on slots t xs) ys
 tally_append slots t [] ys = refl
@@ -78,3 +83,67 @@ made_after slots events t e x h =
         → Has (cond b (tally_moved (tally_of slots events) e.moved).shapes (with_shapes (tally_moved (tally_of slots events) e.moved).shapes (shapes_of (receiver_size e.call (sizes_behind (tally_moved (tally_of slots events) e.moved) e.call))))) x
     by_test true m = m
     by_test false m = with_all (tally_moved (tally_of slots events) e.moved).shapes (shapes_of (receiver_size e.call (sizes_behind (tally_moved (tally_of slots events) e.moved) e.call))) x m
+
+-- ---- a print takes nothing and makes no shape
+
+pub tally_print : (slots : ℕ) (events : List Event) (t step : ℕ) (bytes : List ℕ)
+    → ((tally_of slots (events ++ event_of t (plain_entry step (Print bytes)) ∷ [])).words ≡ (tally_of slots events).words)
+    × ((tally_of slots (events ++ event_of t (plain_entry step (Print bytes)) ∷ [])).shapes ≡ (tally_of slots events).shapes)
+tally_print slots events t step bytes =
+    let more = tally_append slots opening_tally events (event_of t (plain_entry step (Print bytes)) ∷ []) in (
+      ap (λ (x : Tally). x.words) more ∙ (let z : (tally_of slots events).words + 0 + 0 ≡ (tally_of slots events).words = omega arith in z),
+      ap (λ (x : Tally). x.shapes) more,
+    )
+
+-- ---- an act on a thing of which nothing is counted takes nothing
+
+charge_none : (made : List Shape) (o : Option Thing) (act : Act) → on_charge made o None act ≡ 0
+charge_none made None act = refl
+charge_none made (Some thing) act = refl
+
+resized_none : (sizes : List Sized) (id : Id) (o : Option Thing) (act : Act) → resized sizes id o None act ≡ sizes
+resized_none sizes id None act = refl
+resized_none sizes id (Some thing) act = refl
+
+-- what a call leaves that takes nothing, where no size stands under its thing's id
+pub tally_unsized : (slots : ℕ) (events : List Event) (t : ℕ) (e : Entry) (thing : Reference) (act : Act) → e.call ≡ On thing act → e.moved ≡ [] → size_of_id (tally_of slots events).sizes thing.id ≡ None
+    → ((tally_of slots (events ++ event_of t e ∷ [])).words ≡ (tally_of slots events).words)
+    × ((tally_of slots (events ++ event_of t e ∷ [])).shapes ≡ (tally_of slots events).shapes)
+    × ((tally_of slots (events ++ event_of t e ∷ [])).sizes ≡ (tally_of slots events).sizes)
+tally_unsized slots events t e thing act is bare none_counted =
+    let old : Tally = tally_of slots events in
+    let more : tally_of slots (events ++ event_of t e ∷ []) ≡ tally_call slots old.shapes old t (On thing act) e.reply =
+    tally_append slots opening_tally events (event_of t e ∷ [])
+    ∙ (ap (λ x. tally_call slots old.shapes x t e.call e.reply) (ap (tally_moved old) bare ∙ moved_none old) ∙ ap (λ c. tally_call slots old.shapes old t c e.reply) is) in (
+      ap (λ (x : Tally). x.words) more ∙ words (takes_nothing (On thing act) e.reply),
+      ap (λ (x : Tally). x.shapes) more ∙ shapes (takes_nothing (On thing act) e.reply),
+      ap (λ (x : Tally). x.sizes) more ∙ sizes (takes_nothing (On thing act) e.reply),
+    )
+  where
+    same_sizes : sizes_behind (tally_of slots events) (On thing act) ≡ (tally_of slots events).sizes
+    same_sizes = ap (λ o. resized (tally_of slots events).sizes thing.id (found (tally_of slots events).store thing.id) o act) none_counted ∙ resized_none (tally_of slots events).sizes thing.id (found (tally_of slots events).store thing.id) act
+
+    words : (b : Bool) → (tally_of slots events).words + cond b 0 (call_charge (tally_of slots events).shapes (tally_of slots events) (On thing act)) ≡ (tally_of slots events).words
+    words true = omega arith
+    words false =
+        let charge : call_charge (tally_of slots events).shapes (tally_of slots events) (On thing act) ≡ 0 = ap (λ o. on_charge (tally_of slots events).shapes (found (tally_of slots events).store thing.id) o act) none_counted ∙ charge_none (tally_of slots events).shapes (found (tally_of slots events).store thing.id) act in
+        omega (arith, charge)
+
+    shapes : (b : Bool) → cond b (tally_of slots events).shapes (with_shapes (tally_of slots events).shapes (shapes_of (receiver_size (On thing act) (sizes_behind (tally_of slots events) (On thing act))))) ≡ (tally_of slots events).shapes
+    shapes true = refl
+    shapes false = ap (λ l. with_shapes (tally_of slots events).shapes (shapes_of (size_of_id l thing.id))) same_sizes ∙ ap (λ o. with_shapes (tally_of slots events).shapes (shapes_of o)) none_counted
+
+    sizes : (b : Bool) → cond b (tally_of slots events).sizes (sizes_behind (tally_of slots events) (On thing act)) ≡ (tally_of slots events).sizes
+    sizes true = refl
+    sizes false = same_sizes
+
+-- ---- an end that tells no value takes nothing
+
+pub tally_end : (slots : ℕ) (events : List Event) (t step : ℕ) (how : Ending) → told how ≡ []
+    → ((tally_of slots (events ++ event_of t (plain_entry step (End how)) ∷ [])).words ≡ (tally_of slots events).words)
+    × ((tally_of slots (events ++ event_of t (plain_entry step (End how)) ∷ [])).shapes ≡ (tally_of slots events).shapes)
+tally_end slots events t step how nothing =
+    let more = tally_append slots opening_tally events (event_of t (plain_entry step (End how)) ∷ []) in (
+      ap (λ (x : Tally). x.words) more ∙ (ap (λ vs. (tally_of slots events).words + 0 + blocks_of_all vs) nothing ∙ (let z : (tally_of slots events).words + 0 + 0 ≡ (tally_of slots events).words = omega arith in z)),
+      ap (λ (x : Tally). x.shapes) more,
+    )

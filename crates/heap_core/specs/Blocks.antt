@@ -3,10 +3,10 @@ use Rattle.std.specs.Prelude.{◌≡◌, ◌≤◌, ◌<◌, ℕ, ◌+◌, ℤ, 
 use Rattle.rb_model.specs.declared.value.Id.{Id}
 use Rattle.rb_shared.specs.Lists.{Has}
 use Rattle.shape_core.specs.Shape.{Shape}
-use Rattle.heap_core.specs.Places.{object_words, chunk_words, mutex_words, text_words, box_words, shape_words}
+use Rattle.heap_core.specs.Places.{turn_word, object_words, chunk_words, mutex_words, text_words, box_words, shape_words}
 
 -- Each kind of block, with what never changes in it, and last its place. A chunk tells the place of its object, and how many-th it is, from 1
--- on. A lock is a word alone.
+-- on. A lock is a word alone. There is one turn word.
 pub data Block : Type 0 where
   ObjectAt : (id : Id) (at : ℕ) → Block
   ChunkAt : (object number at : ℕ) → Block
@@ -15,6 +15,7 @@ pub data Block : Type 0 where
   BoxAt : (n : ℤ) (at : ℕ) → Block
   ShapeAt : (shape : Shape) (at : ℕ) → Block
   LockAt : (at : ℕ) → Block
+  TheTurn : Block
 
 abbrev pub place_of : Block → ℕ
 place_of (ObjectAt id at) = at
@@ -24,6 +25,7 @@ place_of (TextAt bytes at) = at
 place_of (BoxAt n at) = at
 place_of (ShapeAt shape at) = at
 place_of (LockAt at) = at
+place_of TheTurn = turn_word
 
 abbrev pub size_of : Block → ℕ
 size_of (ObjectAt id at) = object_words
@@ -33,6 +35,7 @@ size_of (TextAt bytes at) = text_words bytes
 size_of (BoxAt n at) = box_words
 size_of (ShapeAt shape at) = shape_words
 size_of (LockAt at) = 1
+size_of TheTurn = 1
 
 -- the place of the block whose rule speaks of this one's words: its own, or that of the thing that it is a part of
 abbrev pub home_of : Block → ℕ

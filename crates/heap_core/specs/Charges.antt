@@ -140,13 +140,14 @@ pub record Tally : Type 0 where
   pub sizes : List Sized
   pub store : Store
 
+-- the size of a thing, where anything is counted of it
+abbrev pub sized_first : Item → Option Size → List Sized → List Sized
+sized_first x None more = more
+sized_first x (Some size) more = record { id = x.id; size = size } ∷ more
+
 abbrev pub sized_of : List Item → List Sized
 sized_of [] = []
-sized_of (x ∷ xs) = with_first x (first_size x.thing) (sized_of xs)
-  where
-    with_first : Item → Option Size → List Sized → List Sized
-    with_first x None more = more
-    with_first x (Some size) more = record { id = x.id; size = size } ∷ more
+sized_of (x ∷ xs) = sized_first x (first_size x.thing) (sized_of xs)
 
 abbrev pub shapes_moved : List Item → List Shape
 shapes_moved [] = []

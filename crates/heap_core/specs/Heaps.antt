@@ -30,10 +30,10 @@ asking_of act = option_map (λ a. asking a.now) act
 -- the law allows a step that tells this of the block in which its word lies
 module _ (P : Block → (i first second : ℕ) → Holder → ℕ → Holder → Type 0) {K : Type 0} (heap : Heap K) (p : HeapPass) (i : ℕ) where
   abbrev pub AllowsLoad : Type 0
-  AllowsLoad = MayLoad P K heap.table.shared.key.slots heap.table.shared.table_id.slots p.badge.id (holder p) i
+  AllowsLoad = MayLoad P heap.table.shared.key heap.table.shared.table_id.slots p.badge.id (holder p) i
 
   abbrev pub AllowsStore : ℕ → Type 0
-  AllowsStore new = MayStore P K heap.table.shared.key.slots heap.table.shared.table_id.slots p.badge.id (holder p) i new
+  AllowsStore new = MayStore P heap.table.shared.key heap.table.shared.table_id.slots p.badge.id (holder p) i new
 
   abbrev pub AllowsExchange : (old new : ℕ) → Type 0
-  AllowsExchange old new = MayExchange P K heap.table.shared.key.slots heap.table.shared.table_id.slots p.badge.id (holder p) i old new
+  AllowsExchange old new = MayExchange P heap.table.shared.key heap.table.shared.table_id.slots p.badge.id (holder p) i old new

@@ -2,6 +2,7 @@ pub mod Places
 pub mod Sizes
 pub mod Charges
 pub mod Blocks
+pub mod Handing
 pub mod Spelling
 pub mod View
 pub mod Moment
@@ -10,6 +11,7 @@ pub mod Objects
 pub mod Shapes
 pub mod Texts
 pub mod Mutexes
+pub mod Turns
 pub mod Rule
 pub mod Opening
 pub mod Room
@@ -17,4 +19,7 @@ pub mod Fixed
 pub mod Passes
 pub mod Telling
 pub mod Locking
+pub mod Turning
+pub mod Owning
+pub mod Ending
 pub mod Heaps

@@ -1,7 +1,10 @@
 -- The words of the opening.
-use Rattle.std.specs.Prelude.{◌≡◌, ◌==◌, ◌||◌, ℕ, Bool, true, false, List, ◌∷◌, ◌-◌, replicate, set, Option, Some, None}
+use Rattle.std.specs.Prelude.{◌≡◌, ◌==◌, ◌||◌, ℕ, Bool, true, false, List, [], ◌∷◌, ◌-◌, replicate, set, Option, Some, None}
 use Rattle.shape_core.specs.declared.edge.Edge.TheVariants.{Share}
 use Rattle.heap_core.specs.Places.{opening_words, used_word, first_root, first_shared}
+use Rattle.shared_run.specs.Run.{Sunk}
+use Rattle.heap_core.specs.declared.line.Line.{Line}
+use Rattle.heap_core.specs.Handing.{Handed, Slot}
 use Rattle.heap_core.specs.Objects.{object_tag, shape_of}
 use Rattle.heap_core.specs.Shapes.{flagged, edge_word, first_child}
 
@@ -32,3 +35,15 @@ laid_in ws =
 -- the table of threads at the start: the main thread has the first line
 abbrev pub first_lines : ℕ → List (Option ℕ)
 first_lines slots = Some 0 ∷ replicate (slots - 1) None
+
+-- and with what is told of it
+abbrev pub first_table : ℕ → List (Option Line)
+first_table slots = Some (record { number = 0; over = false }) ∷ replicate (slots - 1) None
+
+-- what is handed on first: the sink as it is, and these lines
+abbrev pub IsFirst : Sunk → ℕ → Handed → Type 0
+IsFirst sink slots h = (h.sink ≡ sink) × (h.lines ≡ first_table slots)
+
+-- the one slot has it
+abbrev pub HoldsFirst : Sunk → ℕ → List Slot → Type 0
+HoldsFirst sink slots places = (what : Handed) × (places ≡ Some what ∷ []) × IsFirst sink slots what

@@ -13,7 +13,8 @@ use Rattle.shape_core.specs.Shape.{Shape}
 use Rattle.shared_run.specs.Run.{Run, IsRun, MayStill, refused_at}
 use Rattle.shared_run.specs.Run as runs
 use Rattle.heap_core.specs.Places.{opening_words, used_word, shape_words}
-use Rattle.heap_core.specs.Blocks.{Block, ObjectAt, ChunkAt, MutexAt, TextAt, BoxAt, ShapeAt, LockAt, place_of, size_of, id_of, Inside, HasHome, words_of_shapes}
+use Rattle.heap_core.specs.Handing.{Plan, Slot}
+use Rattle.heap_core.specs.Blocks.{Block, ObjectAt, ChunkAt, MutexAt, TextAt, BoxAt, ShapeAt, LockAt, TheTurn, place_of, size_of, id_of, Inside, HasHome, words_of_shapes}
 use Rattle.heap_core.specs.Charges.{budget, tally_of}
 use Rattle.heap_core.specs.View.{Region, InRegion, Holder, InOwn, Knows, held}
 use Rattle.heap_core.specs.Moment.{Moment, At}
@@ -22,6 +23,7 @@ use Rattle.heap_core.specs.Objects.{ObjectStands, ChunkStands}
 use Rattle.heap_core.specs.Shapes.{ShapeStands}
 use Rattle.heap_core.specs.Texts.{TextStands, BoxStands}
 use Rattle.heap_core.specs.Mutexes.{MutexStands}
+use Rattle.heap_core.specs.Turns.{TurnStands}
 
 -- each kind of block has its rule in a file of its own
 abbrev pub Stands : Moment → Block → Type 0
@@ -32,6 +34,7 @@ Stands m (TextAt bytes at) = TextStands m bytes at
 Stands m (BoxAt n at) = BoxStands m n at
 Stands m (ShapeAt shape at) = ShapeStands m shape at
 Stands m (LockAt at) = LockStands m at at
+Stands m TheTurn = TurnStands m
 
 -- ---- threads
 
@@ -91,24 +94,26 @@ IsMade made holders shape = Has made shape ⊎ ((j : ℕ) × (k : Holder) × At 
 abbrev pub LiesIn : List Block → Ref → Type 0
 LiesIn bs r = (b : Block) × Has bs b × (id_of b ≡ Some r.id) × (place_of b ≡ r.at)
 
-abbrev pub moment : {S : Type 0} → ℕ → State S Holder → Run → List Block → Moment
-moment slots s run blocks = record { words = s.words; slots = slots; run = run; holders = s.views; blocks = blocks }
+abbrev pub moment : Plan → State Slot Holder → Run → List (Option ℕ) → List Block → Moment
+moment plan s run lines blocks = record { words = s.words; homes = s.homes; plan = plan; run = run; holders = s.views; lines = lines; blocks = blocks }
 
--- The law.
-pub record Kept {S : Type 0} (slots : ℕ) (s : State S Holder) : Type 0 where
+-- The law of a heap of this plan.
+pub record Kept (plan : Plan) (s : State Slot Holder) : Type 0 where
   pub run : Run
   pub blocks : List Block
   pub lines : List (Option ℕ)
   -- the plain steps of the run lead from the opening to its store, and each pass knows of it what its view says
-  pub is_run : IsRun slots run
-  pub knows : (j : ℕ) (k : Holder) → At s.views j k → k.live ≡ true → runs.Knows slots run k.view
+  pub is_run : IsRun plan.slots run
+  pub knows : (j : ℕ) (k : Holder) → At s.views j k → k.live ≡ true → runs.Knows plan.slots run k.view
   pub apart : Apart s.views
-  pub seated : Seated slots run.store lines s.views
+  pub seated : Seated plan.slots run.store lines s.views
   -- each block stands for its thing, and no other stands for that
   pub laid : Laid s.words s.views blocks
-  pub each : (b : Block) → Has blocks b → Stands (moment slots s run blocks) b
+  pub each : (b : Block) → Has blocks b → Stands (moment plan s run lines blocks) b
   pub one : (id : Id) (b c : Block) → Has blocks b → Has blocks c → id_of b ≡ Some id → id_of c ≡ Some id → b ≡ c
   pub one_shape : (shape : Shape) (at to : ℕ) → Has blocks (ShapeAt shape at) → Has blocks (ShapeAt shape to) → at ≡ to
+  -- there is the turn word
+  pub turn : Has blocks TheTurn
   -- a part has its thing
   pub homes : (b : Block) → Has blocks b → HasHome blocks b
   -- what a pass can name is a block, and its references lie where they say
@@ -116,9 +121,9 @@ pub record Kept {S : Type 0} (slots : ℕ) (s : State S Holder) : Type 0 where
   pub lie : (j : ℕ) (k : Holder) → At s.views j k → k.live ≡ true → Each (LiesIn k.blocks) k.view.known
   -- the own words are what the views say, and every word is the opening's, an entry's or a pass's
   pub own : (i j : ℕ) (k : Holder) (o : Region) → At s.views j k → Has k.own o → i < length o.words → get_or s.words (o.at + i) 0 ≡ get_or o.words i 0
-  pub used : get_or s.words used_word 0 + shape_words * length (tally_of slots run.events).shapes ≡ opening_words + budget slots run.events + words_of_shapes blocks + owned s.views
-  pub made : (shape : Shape) (at : ℕ) → Has blocks (ShapeAt shape at) → IsMade (tally_of slots run.events).shapes s.views shape
+  pub used : get_or s.words used_word 0 + shape_words * length (tally_of plan.slots run.events).shapes ≡ opening_words + budget plan.slots run.events + words_of_shapes blocks + owned s.views
+  pub made : (shape : Shape) (at : ℕ) → Has blocks (ShapeAt shape at) → IsMade (tally_of plan.slots run.events).shapes s.views shape
   -- what was loaded for a read may still be entered
-  pub late : (j : ℕ) (k : Holder) → At s.views j k → k.live ≡ true → Each (MayStill slots run k.view.thread) k.late
+  pub late : (j : ℕ) (k : Holder) → At s.views j k → k.live ≡ true → Each (MayStill plan.slots run k.view.thread) k.late
   pub refused : (t : ℕ) → Each (Below (get_or s.words used_word 0) (length s.words)) (refused_at run.refusals t)
   pub spent : (j : ℕ) (k : Holder) → At s.views j k → k.live ≡ false → held k ≡ 0

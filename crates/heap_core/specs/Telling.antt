@@ -3,6 +3,7 @@ use Rattle.std.specs.Prelude.{◌≡◌, ◌==◌, ℕ, []}
 use mathlib.Core.Option.{none}
 use prog.Atomic.{either}
 use Rattle.atomic_table.specs.Table.{Step, Me, Allows, step}
+use Rattle.heap_core.specs.Handing.{Plan, Slot}
 use Rattle.heap_core.specs.Blocks.{Block, Inside}
 use Rattle.heap_core.specs.Passes.{Fits}
 use Rattle.heap_core.specs.Rule.{Kept}
@@ -23,12 +24,12 @@ module _ (P : Block → (i first second : ℕ) → Holder → ℕ → Holder →
   StepTells st m n m' = (m'.1 ≡ m.1) × (Fits m.0 m.0.size → Fits m'.0 m.0.size) × ToldOf st.word st.first st.second m.0 n m'.0
 
   -- the law allows the step, whatever the heap is then
-  module _ (S : Type 0) (slots count id : ℕ) (k : Holder) (i : ℕ) where
+  module _ (plan : Plan) (count id : ℕ) (k : Holder) (i : ℕ) where
     abbrev pub MayLoad : Type 0
-    MayLoad = Allows {S = S} (Kept slots) count id (k, []) i (λ n. n) (StepTells (step count i 0 0 none) (k, []))
+    MayLoad = Allows {S = Slot} (Kept plan) count id (k, []) i (λ n. n) (StepTells (step count i 0 0 none) (k, []))
 
     abbrev pub MayStore : ℕ → Type 0
-    MayStore new = Allows {S = S} (Kept slots) count id (k, []) i (λ _. new) (λ _. StepTells (step count i new 0 none) (k, []) new)
+    MayStore new = Allows {S = Slot} (Kept plan) count id (k, []) i (λ _. new) (λ _. StepTells (step count i new 0 none) (k, []) new)
 
     abbrev pub MayExchange : (old new : ℕ) → Type 0
-    MayExchange old new = Allows {S = S} (Kept slots) count id (k, []) i (λ n. either (n == old) new n) (StepTells (step count i old new none) (k, []))
+    MayExchange old new = Allows {S = Slot} (Kept plan) count id (k, []) i (λ n. either (n == old) new n) (StepTells (step count i old new none) (k, []))

@@ -1,6 +1,5 @@
 -- What a pass knows of the heap, beside what it shows of a shared store.
 use Rattle.std.specs.Prelude.{◌≡◌, ◌≤◌, ◌<◌, ◌==◌, ◌&&◌, ◌-◌, ℕ, ◌+◌, Bool, true, false, nat_le, nat_lt, List, [], ◌∷◌, ◌++◌, length, map, set, Option, Some, None, if◌then◌else◌}
-use Rattle.heap_core.specs.declared.holder.Plan.{Plan}
 use Rattle.rb_model.specs.Log.{Call, Entry}
 use Rattle.rb_model.specs.Private.{Item}
 use Rattle.rb_model.specs.declared.value.Ref.{Ref}
@@ -8,7 +7,8 @@ use Rattle.rb_shared.specs.Lists.{Has}
 use Rattle.rb_shared.specs.Store.{globals}
 use Rattle.rb_shared.specs.View.{View, first_view, with_entry, with_refused, split_view, newborn, joined_view}
 use Rattle.heap_core.specs.Places.{tree_lock, first_root, first_shared}
-use Rattle.heap_core.specs.Blocks.{Block, ObjectAt, ShapeAt, LockAt}
+use Rattle.heap_core.specs.Handing.{Plan, Handed}
+use Rattle.heap_core.specs.Blocks.{Block, ObjectAt, ShapeAt, LockAt, TheTurn}
 use Rattle.heap_core.specs.Charges.{globals_shape}
 use Rattle.shape_core.specs.Shape.{Shape, root_of}
 
@@ -17,10 +17,12 @@ pub record Region : Type 0 where
   pub at : ℕ
   pub words : List ℕ
 
--- What is in progress at a place: nothing, or the plain lock of an object or of the shape tree is had.
+-- What is in progress at a place: nothing, the plain lock of an object or of the shape tree is had, or the turn is had with what was handed on,
+-- and the slot is out with the seat or at home.
 pub data Busy : Type 0 where
   Idle : Busy
   Locked : Busy
+  Turned : (what : Handed) (out : Bool) → Busy
 
 pub record Doing : Type 0 where
   pub at : ℕ
@@ -53,7 +55,7 @@ pub record Holder : Type 0 where
 
 -- the blocks of the opening
 abbrev pub opening_blocks : List Block
-opening_blocks = ObjectAt globals 0 ∷ LockAt tree_lock ∷ ShapeAt (root_of 4294967295) first_root ∷ ShapeAt globals_shape first_shared ∷ []
+opening_blocks = ObjectAt globals 0 ∷ TheTurn ∷ LockAt tree_lock ∷ ShapeAt (root_of 4294967295) first_root ∷ ShapeAt globals_shape first_shared ∷ []
 
 abbrev pub first_holder : Plan → Holder
 first_holder p = record {

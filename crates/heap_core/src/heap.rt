@@ -1,20 +1,23 @@
 // How a heap begins, and how passes are split and joined.
 
-ghost use Rattle.std.specs.Prelude.{◌≡◌, ◌≤◌, ◌<◌, ℕ, replicate, IfOk, IfErr, IsSome};
-ghost use Rattle.heap_core.specs.Opening.{laid_in};
+ghost use Rattle.std.specs.Prelude.{◌≡◌, ◌≤◌, ◌<◌, ℕ, false, replicate, IfOk, IfErr, IsSome};
+ghost use Rattle.heap_core.specs.Handing.{sunk_of};
+ghost use Rattle.heap_core.specs.Opening.{HoldsFirst, laid_in};
 ghost use Rattle.heap_core.specs.Places.{opening_words};
 ghost use Rattle.heap_core.specs.View.{AtRest, child, first_holder, joined, maker};
 ghost use Rattle.heap_core.specs.Heaps.{IsOf, SameHeap, holder};
 
-use crate::holder::{Passes, Plan};
+use crate::holder::{Made, Passes};
 use crate::pass::{Heap, HeapPass, Place};
 use crate::places::{
     FIRST_ROOT, FIRST_SHARED, GLOBALS_TAG, OPENING_WORDS, ROOT_TAG, SHARE, USED_WORD,
 };
+use crate::turn::Turn;
 use atomic_table::{Badge, Refused, Table};
 use rb_edge::Sink;
 use std::alloc::{AllocError, AllocFailed, Global};
 use std::mem;
+use std::snapshot::Snapshot;
 
 // A row of words with the opening: the globals, which have no fields, with their root and their shared shape.
 fn opening_row(alloc: Global, words: u64) -> Result<Vec<u64>, AllocError>
@@ -34,6 +37,22 @@ fn opening_row(alloc: Global, words: u64) -> Result<Vec<u64>, AllocError>
     Ok(row)
 }
 
+// The slot with what the turn gives first.
+fn first_slot<K: Sink>(alloc: Global, slots: u64, out: K) -> Result<Vec<Option<Turn<K>>>, K>
+    requires some { 1 ≤ slots }
+    ensures one { IfOk result (λ places. HoldsFirst (sunk_of K.told K.faults out false) slots places.items) }
+    ensures back { IfErr result (λ sink. (K.told sink ≡ K.told out) × (K.faults sink ≡ K.faults out)) }
+{
+    let turn = Turn::new(alloc, slots, out)?;
+    let mut places = Vec::new(alloc);
+    if let Err(AllocFailed { value }) = places.push(Some(turn)) {
+        places.destroy_empty();
+        let Some(turn) = value else { unreachable!() };
+        return Err(turn.into_out());
+    }
+    Ok(places)
+}
+
 impl<K: Sink> Heap<K> {
     /// A heap of so many words, for so many threads at once, with the pass of the main one. There are the globals alone. The sink comes back
     /// where there is no memory.
@@ -46,21 +65,19 @@ impl<K: Sink> Heap<K> {
         ensures words { IfOk result (λ made. made.0.table.shared.table_id.words ≡ words) }
         ensures slots { IfOk result (λ made. made.0.table.shared.key.slots ≡ slots) }
         ensures first { IfOk result (λ made. holder made.1 ≡ first_holder made.0.table.shared.key) }
-        ensures back { IfErr result (λ sink. sink ≡ out) }
+        ensures begun { IfOk result (λ made. made.0.table.shared.key.begun ≡ sunk_of K.told K.faults out false) }
+        ensures back { IfErr result (λ sink. (K.told sink ≡ K.told out) × (K.faults sink ≡ K.faults out)) }
     {
-        let plan = Plan {
+        let made = Made {
+            out: Snapshot::of(&out),
             words,
             slots: slots as u64,
         };
         let Ok(row) = opening_row(alloc, words) else {
             return Err(out);
         };
-        let mut places = Vec::new(alloc);
-        if let Err(AllocFailed { value }) = places.push(out) {
-            places.destroy_empty();
-            return Err(value);
-        }
-        match Table::new(alloc, row.as_slice(), places, &plan) {
+        let places = first_slot(alloc, slots as u64, out)?;
+        match Table::new(alloc, row.as_slice(), places, &made) {
             Ok((table, seat)) => Ok((
                 Heap { table },
                 HeapPass {
@@ -68,11 +85,11 @@ impl<K: Sink> Heap<K> {
                 },
             )),
             Err(Refused { mut slots }) => {
-                let Some(sink) = slots.pop() else {
+                let Some(Some(turn)) = slots.pop() else {
                     unreachable!()
                 };
                 slots.destroy_empty();
-                Err(sink)
+                Err(turn.into_out())
             }
         }
     }

@@ -1,23 +1,35 @@
-//! The bottom of the word heap: its words, the one law behind them, the passes, and the words that passes take.
+//! The bottom of the word heap: its words, the one law behind them, the passes, the words that passes take, and what they do in turn.
 #![tactic(auto)]
 
 mod act;
+mod deed;
+mod ends;
 mod heap;
 mod holder;
+mod line;
 mod locks;
+mod mutexes;
 mod pass;
+mod pause;
 mod places;
 mod plays;
+mod prints;
 mod room;
 mod take;
 mod telling;
-#[cfg(test)]
-mod tests;
+mod turn;
+mod turns;
 
 pub use act::Act;
-pub use holder::{Known, Law, Passes, Plan};
+pub use deed::{Deed, owner_word};
+pub use holder::{Known, Law, Made, Passes};
+pub use line::Line;
 pub use locks::{GiveLock, TryLock};
+pub use mutexes::{LookOwner, SetOwner};
 pub use pass::{Heap, HeapPass};
 pub use plays::{FixedLoad, Look, OwnLoad, OwnStore, StillLoad, TakeWords, Wanting};
+pub use prints::{MakeInTurn, Making, RefuseInTurn, Refusing};
 pub use take::Take;
 pub use telling::{Tells, Told};
+pub use turn::Turn;
+pub use turns::{GiveTurn, LaySlot, TakeSlot, TryTurn};

@@ -2,6 +2,8 @@
 
 pub(crate) const USED_WORD: usize = 14;
 
+pub(crate) const TURN_WORD: usize = 15;
+
 pub(crate) const OPENING_WORDS: u64 = 128;
 
 pub(crate) const FIRST_ROOT: u64 = 17;

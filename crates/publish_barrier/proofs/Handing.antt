@@ -1,15 +1,18 @@
 -- Values as they are handed over, one after another.
-use Rattle.std.proofs.Common.{arith, ◌≡◌, ℕ, zero, suc, ◌+◌, ◌<◌, ◌≤◌, List, [], ◌∷◌, length, map, set, get_or, slice_get, Some, inl, inr, refl, sym, ap, subst, ◌∙◌}
+use Rattle.std.proofs.Common.{arith, ◌≡◌, ℕ, zero, suc, ◌+◌, ◌<◌, ◌≤◌, true, false, List, [], ◌∷◌, ◌++◌, length, map, set, take, drop, get_or, slice_get, Option, Some, None, inl, inr, refl, sym, ap, subst, ◌∙◌, append_assoc}
+use Rattle.std.proofs.lemmas.List.{append-nil, drop_all, drop_more, drop-set-lt, set-set, take_all, take_more_set}
+use Rattle.std.specs.Option.{is_some, option_map}
 use Rattle.std.specs.Prelude.{◌⊎◌}
 use Rattle.std.specs.List.{flat_map}
 use Rattle.rb_model.specs.declared.value.Ref.{Ref}
 use Rattle.rb_model.specs.declared.value.Value.{Value as Held}
 use Rattle.rb_model.specs.Values.{plain}
 use Rattle.rb_model.specs.Moving.{refs_in}
-use Rattle.rb_model.specs.Private.{Private}
+use Rattle.rb_model.specs.Private.{Private, held}
 use Rattle.rb_shared.specs.Lists.{Each}
 use Rattle.rb_shared.proofs.Runs.{each_append}
-use Rattle.publish_barrier.specs.Gathers.{Addresses, AddressesAll, IsAddressed}
+use Rattle.publish_barrier.specs.Gathers.{Addresses, AddressesAll, IsAddressed, address, address_all, address_ref}
+use Rattle.publish_barrier.specs.Sorts.{noted_same}
 
 -- ---- lists
 
@@ -75,3 +78,51 @@ below (y ∷ ys) (suc i) x (suc k) e l = let q = below ys i x k e (omega (arith,
 pub out_done : (h : Private) (rs : List Ref) (k : ℕ) (old now : List Held) → length now ≤ k → AreAddressed h rs k old now → AddressesAll h rs old now
 out_done h rs k old now l a =
     (a.0, each_flat (IsAddressed h rs) refs_in now (each_from (λ x. Each (IsAddressed h rs) (refs_in x)) now (λ i x e. a.2 i x (below now i x k e l) e)))
+
+-- ---- exactly
+
+-- what becomes of values, of which the first k are as they are handed over
+abbrev pub AddressedTo : Private → List Ref → (k : ℕ) → (old now : List Held) → Type 0
+AddressedTo h rs k old now = address_all h rs old ≡ option_map (λ (more : List Held). take k now ++ more) (address_all h rs (drop k now))
+
+pub to_begins : (h : Private) (rs : List Ref) (old : List Held) → AddressedTo h rs 0 old old
+to_begins h rs old = sym (map-none (address_all h rs old)) where
+  map-none : (o : Option (List Held)) → option_map (λ (more : List Held). more) o ≡ o
+  map-none None = refl
+  map-none (Some ws) = refl
+
+module _ (h : Private) (rs : List Ref) (k : ℕ) (old now : List Held) (v : Held) (inside : k < length now) (is : v ≡ get_or now k v) (to : AddressedTo h rs k old now) where
+  rest_is : drop k now ≡ v ∷ drop (k + 1) now
+  rest_is = drop_more now k v inside ∙ ap (λ x. x ∷ drop (k + 1) now) (sym is)
+
+  -- the next is not handed over, and so nothing is
+  pub to_nothing : address h rs v ≡ None → address_all h rs old ≡ None
+  to_nothing e = to ∙ ap (λ ys. option_map (λ (more : List Held). take k now ++ more) (address_all h rs ys)) rest_is ∙ rw e refl
+
+  pub to_next : (w hole : Held) (new : List Held) → address h rs v ≡ Some w → new ≡ put_back now k hole w → AddressedTo h rs (k + 1) old new
+  to_next w hole new e q =
+      to ∙ ap (λ ys. option_map (λ (more : List Held). take k now ++ more) (address_all h rs ys)) rest_is
+      ∙ rw e (joined (address_all h rs (drop (k + 1) now)))
+      ∙ ap (λ ys. option_map (λ (more : List Held). ys ++ more) (address_all h rs (drop (k + 1) now))) (sym front)
+      ∙ ap (λ ys. option_map (λ (more : List Held). take (k + 1) new ++ more) (address_all h rs ys)) (sym behind)
+    where
+      joined : (o : Option (List Held)) → option_map (λ (more : List Held). take k now ++ more) (option_map (λ (ws : List Held). w ∷ ws) o) ≡ option_map (λ (more : List Held). (take k now ++ w ∷ []) ++ more) o
+      joined None = refl
+      joined (Some ws) = ap Some (sym (append_assoc (take k now) (w ∷ []) ws))
+
+      front : take (k + 1) new ≡ take k now ++ w ∷ []
+      front = ap (take (k + 1)) (q ∙ set-set now k hole w) ∙ take_more_set now k w inside
+
+      behind : drop (k + 1) new ≡ drop (k + 1) now
+      behind = ap (drop (k + 1)) (q ∙ set-set now k hole w) ∙ drop-set-lt (k + 1) now k w (omega arith)
+
+pub to_end : (h : Private) (rs : List Ref) (k : ℕ) (old now : List Held) → length now ≤ k → AddressedTo h rs k old now → address_all h rs old ≡ Some now
+to_end h rs k old now l to =
+    to ∙ ap (λ ys. option_map (λ (more : List Held). take k now ++ more) (address_all h rs ys)) (drop_all k now l)
+    ∙ ap Some (append-nil (take k now) ∙ take_all k now l)
+
+pub ref_private : (h : Private) (rs : List Ref) (r : Ref) → is_some (held h r.id) ≡ true → Some r ≡ address_ref h rs r
+ref_private h rs r e = rw e refl
+
+pub ref_noted : (h : Private) (rs : List Ref) (r : Ref) (o : Option Ref) → is_some (held h r.id) ≡ false → o ≡ noted_same rs r → o ≡ address_ref h rs r
+ref_noted h rs r o e q = rw e q

@@ -4,6 +4,7 @@ pub mod Leaving
 pub mod Naming
 pub mod Lawful
 pub mod Rows
+pub mod Telling
 pub mod May
 pub mod Meeting
 pub mod Committing

@@ -1,10 +1,9 @@
 -- References looked up by their keys are those of the list, and what is noted comes of what is told.
-use Rattle.std.proofs.Common.{◌≡◌, inl, inr, ℕ, zero, suc, Bool, true, false, List, [], ◌∷◌, ◌++◌, map, Option, Some, None, refl, sym, ap, subst, ◌∙◌, Bor, ◌<◌, length, get_or, arith}
+use Rattle.std.proofs.Common.{◌≡◌, inl, inr, ℕ, Bool, true, false, List, [], ◌∷◌, ◌++◌, map, Option, Some, None, refl, sym, ap, subst, ◌∙◌, Bor}
 use Rattle.std.proofs.lemmas.Bool.{eq-eqb, ne_eqb}
 use Rattle.std.proofs.lemmas.Bool.Decides.{eqb_tells}
 use Rattle.std.specs.Prelude.{◌==◌, ◌&&◌, ◌⊎◌, Result, Ok, Err, IsOk, OnOk}
-use Rattle.std.specs.Option.{option_map, option_copied}
-use Rattle.std.specs.List.{flat_map}
+use Rattle.std.specs.Option.{option_and_then, option_map, option_copied, option_to_list}
 use Rattle.std.specs.Map.{lookup}
 use Rattle.std.proofs.lemmas.List.{map-append}
 use Rattle.indexmap.specs.IndexMap.{insert_entry}
@@ -12,13 +11,14 @@ use Rattle.indexmap.proofs.MapLemmas.{absent_from_lookup, insert_entry-absent}
 use Rattle.rb_model.specs.declared.value.Id.{Id}
 use Rattle.rb_model.specs.declared.value.Ref.{Ref}
 use Rattle.rb_model.specs.Values.{same_id}
-use Rattle.rb_shared.specs.Lists.{Has}
+use Rattle.rb_shared.specs.Lists.{Each, Has}
 use Rattle.rb_shared.specs.View.{to_globals}
-use Rattle.rb_shared.proofs.Runs.{has_behind, has_front, same_is}
+use Rattle.rb_shared.proofs.Runs.{each_append, has_behind, has_front, same_is}
 use Rattle.publish_barrier.specs.declared.known.Key.{Key}
 use Rattle.publish_barrier.specs.declared.known.Place.{Place}
 use Rattle.publish_barrier.specs.contracts.known.KeyPartialEq.TheImpl.{eq-value}
-use Rattle.publish_barrier.specs.Known.{ref_of_row, noted, with_noted, NotesOf}
+use Rattle.publish_barrier.specs.Known.{ref_of_row, noted, with_noted, with_all_noted, NotesOf}
+use Rattle.publish_barrier.specs.Sorts.{all_noted_same, if_same_sort, noted_same, same_sort}
 
 has_cases : {X : Type 0} (xs ys : List X) (x : X) → Has (xs ++ ys) x → Has xs x ⊎ Has ys x
 has_cases [] ys x h = inr h
@@ -104,6 +104,23 @@ notes_on a b c rs ss f g x h = elim (g x h) [
 pub notes_same : (a b rs : List Ref) → b ≡ a → NotesOf a rs b
 notes_same a b rs e = subst (NotesOf a rs) (sym e) (notes_none a rs)
 
+all_append : (rs xs ys : List Ref) → with_all_noted rs (xs ++ ys) ≡ with_all_noted (with_all_noted rs xs) ys
+all_append rs [] ys = refl
+all_append rs (x ∷ xs) ys = all_append (with_noted rs x (noted rs x.id)) xs ys
+
+all_come : (rs xs : List Ref) → NotesOf rs xs (with_all_noted rs xs)
+all_come rs [] = notes_none rs []
+all_come rs (x ∷ xs) =
+    notes_on rs (with_noted rs x (noted rs x.id)) (with_all_noted (with_noted rs x (noted rs x.id)) xs) (x ∷ []) xs (notes_by rs x (noted rs x.id))
+    (all_come (with_noted rs x (noted rs x.id)) xs)
+
+-- where all are noted, these came
+pub all_noted : (old new xs : List Ref) → new ≡ with_all_noted old xs → NotesOf old xs new
+all_noted old new xs e = subst (NotesOf old xs) (sym e) (all_come old xs)
+
+pub all_on : (a b c xs ys : List Ref) → b ≡ with_all_noted a xs → c ≡ with_all_noted b ys → c ≡ with_all_noted a (xs ++ ys)
+all_on a b c xs ys e f = f ∙ (ap (λ rs. with_all_noted rs ys) e ∙ sym (all_append a xs ys))
+
 -- ---- what is looked up
 
 some_is : {X : Type 0} (a b : X) → Some a ≡ Some b → a ≡ b
@@ -137,16 +154,6 @@ module _ (k : Key) (es : List (Key × Place)) (all : List Ref) (id : Id) (v : to
       is_none None f = refl
       is_none (Some x) f = absurd (f x refl)
 
--- ---- one after another
-
-pub has_in_some : {A : Type 0} (f : A → List Ref) (xs : List A) (k : ℕ) (x : A) → k < length xs → x ≡ get_or xs k x → (r : Ref) → Has (f x) r → Has (flat_map f xs) r
-has_in_some f [] k x l e r h = absurd (omega (arith, l))
-has_in_some f (y ∷ xs) zero x l e r h = has_front (f y) (flat_map f xs) r (subst (λ o. Has (f o) r) e h)
-has_in_some f (y ∷ xs) (suc k) x l e r h = has_behind (f y) (flat_map f xs) r (has_in_some f xs k x (omega (arith, l)) e r h)
-
-pub notes_among : (a all b rs c : List Ref) → NotesOf a all b → NotesOf b rs c → ((r : Ref) → Has rs r → Has all r) → NotesOf a all c
-notes_among a all b rs c f g among r h = elim (g r h) [ inl i ↦ f r i | inr i ↦ inr (among r i) ]
-
 -- what is found is there, under its id
 pub noted_there : (rs : List Ref) (id : Id) (r : Ref) → noted rs id ≡ Some r → (r.id ≡ id) × Has rs r
 noted_there [] id r e = absurd (cc)
@@ -157,8 +164,29 @@ noted_there (x ∷ rs) id r e = by (same_id x.id id) refl (λ f. noted_there rs 
       (ap (λ (o : Ref). o.id) (sym same) ∙ same_is x.id id q, inl (sym same))
   by false q more = let rest = more (sym (rw q refl) ∙ e) in (rest.0, inr rest.1)
 
-pub has_at : (rs : List Ref) (k : ℕ) (d : Ref) → k < length rs → (r : Ref) → Has (get_or rs k d ∷ []) r → Has rs r
-has_at [] k d l r h = absurd (omega (arith, l))
-has_at (y ∷ rs) zero d l r (inl i) = inl i
-has_at (y ∷ rs) zero d l r (inr h) = absurd h
-has_at (y ∷ rs) (suc k) d l r h = inr (has_at rs k d (omega (arith, l)) r h)
+-- the noted one to the same thing is there
+pub same_noted_there : (rs : List Ref) (thing x : Ref) → noted_same rs thing ≡ Some x → Has rs x
+same_noted_there rs thing x e = by (noted rs thing.id) refl e where
+  by : (o : Option Ref) → noted rs thing.id ≡ o → option_and_then (if_same_sort thing) o ≡ Some x → Has rs x
+  by None n q = absurd (cc)
+  by (Some f) n q = fits (same_sort f.sort thing.sort) refl where
+    fits : (b : Bool) → same_sort f.sort thing.sort ≡ b → Has rs x
+    fits true s = subst (Has rs) (some_is f x (sym (rw s refl) ∙ q)) (noted_there rs thing.id f n).1
+    fits false s = absurd (let none : None ≡ Some x = sym (rw s refl) ∙ q in cc)
+
+-- what is looked up is so, whatever sort it has
+pub same_found : (rs : List Ref) (thing f : Ref) → noted rs thing.id ≡ Some f → same_sort f.sort thing.sort ≡ true → Some f ≡ noted_same rs thing
+same_found rs thing f n s = sym (ap (option_and_then (if_same_sort thing)) n ∙ rw s refl)
+
+pub same_lost : (rs : List Ref) (thing f : Ref) → noted rs thing.id ≡ Some f → same_sort f.sort thing.sort ≡ false → None ≡ noted_same rs thing
+same_lost rs thing f n s = sym (ap (option_and_then (if_same_sort thing)) n ∙ rw s refl)
+
+pub same_none : (rs : List Ref) (thing : Ref) → noted rs thing.id ≡ None → None ≡ noted_same rs thing
+same_none rs thing n = sym (ap (option_and_then (if_same_sort thing)) n)
+
+pub all_same_there : (rs things : List Ref) → Each (Has rs) (all_noted_same rs things)
+all_same_there rs [] = tt
+all_same_there rs (t ∷ ts) = each_append (Has rs) (option_to_list (noted_same rs t)) (all_noted_same rs ts) (one (noted_same rs t) refl) (all_same_there rs ts) where
+  one : (o : Option Ref) → noted_same rs t ≡ o → Each (Has rs) (option_to_list o)
+  one None e = tt
+  one (Some x) e = (same_noted_there rs t x e, tt)

@@ -1,6 +1,6 @@
 -- References that are looked at one after the other.
 use Rattle.std.proofs.Common.{◌≡◌, ◌<◌, ◌≤◌, ◌+◌, ℕ, zero, suc, List, [], ◌∷◌, ◌++◌, map, set, take, length, get_or, refl, sym, ap, ◌∙◌, subst, arith, append_assoc}
-use Rattle.std.proofs.lemmas.List.{append-nil, map-set, set-get_or, take_more_set}
+use Rattle.std.proofs.lemmas.List.{append-nil, map-set, set-get_or, take_all, take_more, take_more_set}
 use Rattle.std.specs.List.{flat_map}
 use Rattle.rb_model.specs.declared.value.Ref.{Ref}
 use Rattle.rb_model.specs.declared.value.Value.{Value as Held}
@@ -30,15 +30,8 @@ both_wait ws' ws rs ss e = e ∙ append_assoc ws rs ss
 
 -- ---- one more is taken
 
-taken_suc : {X : Type 0} (xs : List X) (n : ℕ) (x : X) → n < length xs → x ≡ get_or xs n x → take (suc n) xs ≡ take n xs ++ x ∷ []
-taken_suc [] n x h e = absurd (omega (arith, h))
-taken_suc (y ∷ xs) zero x h e = ap (λ z. z ∷ []) (sym e)
-taken_suc (y ∷ xs) (suc n) x h e = ap (λ ys. y ∷ ys) (taken_suc xs n x (omega (arith, h)) e)
-
-taken_next : {X : Type 0} (xs : List X) (n : ℕ) (x : X) → n < length xs → x ≡ get_or xs n x → take (n + 1) xs ≡ take n xs ++ x ∷ []
-taken_next xs n x h e =
-    let next : n + 1 ≡ suc n = omega arith in
-    ap (λ k. take k xs) next ∙ taken_suc xs n x h e
+pub taken_next : {X : Type 0} (xs : List X) (n : ℕ) (x : X) → n < length xs → x ≡ get_or xs n x → take (n + 1) xs ≡ take n xs ++ x ∷ []
+taken_next xs n x h e = take_more xs n x h ∙ ap (λ y. take n xs ++ y ∷ []) (sym e)
 
 -- what waits of values that are gone through
 pub waits_next : (vs : List Held) (n : ℕ) (v : Held) (ws₀ ws ws' : List Ref) → n < length vs → v ≡ get_or vs n v → ws ≡ ws₀ ++ refs_in_all (take n vs)
@@ -75,11 +68,5 @@ module _ (X Y : Type 0) (f : X → Y) (refs : List X → List Ref) (ref : X → 
 
   pub all_done : length xs ≤ n → PlacedRows X Y f refs P xs₀ xs ws₀ ws n → (ws ≡ ws₀ ++ refs xs) × Each P (refs xs)
   all_done h r =
-      let whole = take_whole xs n h in
+      let whole = take_all n xs h in
       (r.waits ∙ ap (λ us. ws₀ ++ refs us) whole, subst (λ us. Each P (refs us)) whole r.addressed)
-    where
-      take_whole : (ys : List X) (k : ℕ) → length ys ≤ k → take k ys ≡ ys
-      take_whole [] zero h = refl
-      take_whole [] (suc k) h = refl
-      take_whole (y ∷ ys) zero h = absurd (omega (arith, h))
-      take_whole (y ∷ ys) (suc k) h = ap (λ us. y ∷ us) (take_whole ys k (omega (arith, h)))

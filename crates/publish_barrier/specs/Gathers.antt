@@ -1,9 +1,12 @@
 -- What may be handed over, and what is gathered for it.
-use Rattle.std.specs.Prelude.{◌≡◌, ◌⊎◌, List, ◌++◌, map, IsSome}
+use Rattle.std.specs.Prelude.{◌≡◌, ◌⊎◌, List, [], ◌∷◌, ◌++◌, map, IsSome, is_some, Option, Some, if◌then◌else◌}
+use Rattle.std.specs.Option.{option_map, option_and_then}
 use Rattle.rb_model.specs.declared.act.Act.{Act as Asked}
+use Rattle.rb_model.specs.declared.act.Act.TheVariants as asked
 use Rattle.rb_model.specs.declared.moved.MovedItem.{MovedItem}
 use Rattle.rb_model.specs.declared.value.Ref.{Ref}
 use Rattle.rb_model.specs.declared.value.Value.{Value as Held}
+use Rattle.rb_model.specs.declared.value.Value.TheVariants as value
 use Rattle.rb_model.specs.Doing.{doing}
 use Rattle.rb_model.specs.Immediates.{reference}
 use Rattle.rb_model.specs.Moving.{items_of, refs_in, refs_in_act, refs_in_all, refs_in_moved}
@@ -12,8 +15,36 @@ use Rattle.rb_model.specs.Values.{Value as Val, plain}
 use Rattle.rb_shared.specs.Asking.{AllDiffer, IsOwnId, MayMove, NamesOne}
 use Rattle.rb_shared.specs.Lists.{Each, Has}
 use Rattle.publish_barrier.specs.Leaving.{ids_of, without}
+use Rattle.publish_barrier.specs.Sorts.{noted_same}
 
 -- ---- references as they are handed over
+
+-- A reference as it is handed over: as it is where its thing is private, and so will move, and else the noted one to the same thing, with the place
+-- of that. One that is neither is not handed over.
+abbrev pub address_ref : Private → List Ref → Ref → Option Ref
+address_ref h refs r = if is_some (held h r.id) then Some r else noted_same refs r
+
+-- a value, with its reference as it is handed over
+abbrev pub address : Private → List Ref → Held → Option Held
+address h refs (value.Ref r) = option_map (λ (a : Ref). value.Ref a) (address_ref h refs r)
+address h refs v = Some v
+
+-- the same of each of some values
+abbrev pub address_all : Private → List Ref → List Held → Option (List Held)
+address_all h refs [] = Some []
+address_all h refs (v ∷ vs) = option_and_then (λ (w : Held). option_map (λ (ws : List Held). w ∷ ws) (address_all h refs vs)) (address h refs v)
+
+-- the same of what an act hands over
+abbrev pub address_act : Private → List Ref → Asked → Option Asked
+address_act h refs (asked.SetField name v) = option_map (λ (w : Held). asked.SetField name w) (address h refs v)
+address_act h refs (asked.Put i v) = option_map (λ (w : Held). asked.Put i w) (address h refs v)
+address_act h refs (asked.Push v) = option_map (λ (w : Held). asked.Push w) (address h refs v)
+address_act h refs (asked.Unshift v) = option_map (λ (w : Held). asked.Unshift w) (address h refs v)
+address_act h refs (asked.KGet k) = option_map (λ (w : Held). asked.KGet w) (address h refs k)
+address_act h refs (asked.KHas k) = option_map (λ (w : Held). asked.KHas w) (address h refs k)
+address_act h refs (asked.KPut k v) = option_and_then (λ (j : Held). option_map (λ (w : Held). asked.KPut j w) (address h refs v)) (address h refs k)
+address_act h refs (asked.KDelete k) = option_map (λ (w : Held). asked.KDelete w) (address h refs k)
+address_act h refs act = Some act
 
 -- a reference is noted, or its thing is private, and so will move
 abbrev pub IsAddressed : Private → List Ref → Ref → Type 0

@@ -1,4 +1,5 @@
 pub mod Known
+pub mod Sorts
 pub mod Leaving
 pub mod Gathers
 pub mod Moves

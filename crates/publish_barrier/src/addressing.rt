@@ -1,8 +1,8 @@
 // References as they are handed over.
 
-ghost use Rattle.std.specs.Prelude.{IfSome};
+ghost use Rattle.std.specs.Prelude.{◌≡◌, IfNone, IfSome, None, Some};
 ghost use Rattle.rb_model.specs.Values.{plain};
-ghost use Rattle.publish_barrier.specs.Gathers.{Addresses, AddressesAct, AddressesAll, AddressesRef};
+ghost use Rattle.publish_barrier.specs.Gathers.{Addresses, AddressesAct, AddressesAll, AddressesRef, address, address_act, address_all, address_ref};
 
 use crate::known::Known;
 use local_heap::LocalHeap;
@@ -10,14 +10,15 @@ use rb_model::{Act, Ref, Value};
 use shape_core::ShapeStore;
 use std::mem;
 
-/// A reference as it is handed over: as it is where its thing is private here and will move, and else the noted one, with its place. In a
-/// script that runs, each reference is one or the other; as long as no law says so, None is an answer.
+/// A reference as it is handed over: as it is where its thing is private here and will move, and else the noted one, with its place. None where
+/// it is neither.
 pub(crate) fn addressed_ref<S: ShapeStore>(
     heap: &LocalHeap<S>,
     known: &Known,
     thing: Ref,
 ) -> Option<Ref>
-    ensures { IfSome result (λ r. AddressesRef heap.now known.now.refs thing r) }
+    ensures exact { result ≡ address_ref heap.now known.now.refs thing }
+    ensures same { IfSome result (λ r. AddressesRef heap.now known.now.refs thing r) }
 {
     if heap.holds(thing.id) {
         return Some(thing);
@@ -27,7 +28,8 @@ pub(crate) fn addressed_ref<S: ShapeStore>(
 
 /// A value as it is handed over.
 pub fn addressed<S: ShapeStore>(heap: &LocalHeap<S>, known: &Known, value: Value) -> Option<Value>
-    ensures { IfSome result (λ w. Addresses heap.now known.now.refs (plain value) w) }
+    ensures exact { result ≡ address heap.now known.now.refs value }
+    ensures same { IfSome result (λ w. Addresses heap.now known.now.refs (plain value) w) }
 {
     match value {
         Value::Ref(thing) => Some(Value::Ref(addressed_ref(heap, known, thing)?)),
@@ -46,7 +48,9 @@ pub fn addressed_all<S: ShapeStore>(
     known: &Known,
     mut values: Vec<Value>,
 ) -> Option<Vec<Value>>
-    ensures { IfSome result (λ ws. AddressesAll heap.now known.now.refs values.items ws.items) }
+    ensures some { IfSome result (λ ws. address_all heap.now known.now.refs values.items ≡ Some ws.items) }
+    ensures none { IfNone result (address_all heap.now known.now.refs values.items ≡ None) }
+    ensures same { IfSome result (λ ws. AddressesAll heap.now known.now.refs values.items ws.items) }
 {
     let len = values.len();
     'values: for k in 0..len {
@@ -58,7 +62,8 @@ pub fn addressed_all<S: ShapeStore>(
 
 /// The same of what an act hands over.
 pub fn addressed_act<S: ShapeStore>(heap: &LocalHeap<S>, known: &Known, act: Act) -> Option<Act>
-    ensures { IfSome result (λ a. AddressesAct heap.now known.now.refs act a) }
+    ensures exact { result ≡ address_act heap.now known.now.refs act }
+    ensures same { IfSome result (λ a. AddressesAct heap.now known.now.refs act a) }
 {
     match act {
         Act::SetField(name, value) => Some(Act::SetField(name, addressed(heap, known, value)?)),

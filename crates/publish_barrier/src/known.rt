@@ -1,12 +1,13 @@
 // The references to shared things that a thread knows.
 
-ghost use Rattle.std.specs.Prelude.{◌≡◌, ◌≤◌, ◌<◌, ◌+◌, ◌∷◌, [], IfSome, OnOk};
+ghost use Rattle.std.specs.Prelude.{◌≡◌, ◌≤◌, ◌<◌, ◌+◌, ◌++◌, ◌∷◌, [], IfOk, IfSome, OnOk};
 ghost use Rattle.rb_model.specs.Immediates.{reference};
 ghost use Rattle.rb_model.specs.Moving.{refs_in, refs_in_all, refs_in_end, refs_in_pairs, refs_in_reply};
 ghost use Rattle.rb_model.specs.Values.{same_id};
 ghost use Rattle.rb_shared.specs.Lists.{Has};
 ghost use Rattle.rb_shared.specs.View.{to_globals};
-ghost use Rattle.publish_barrier.specs.Known.{NotesOf, noted, with_noted};
+ghost use Rattle.publish_barrier.specs.Known.{NotesOf, noted, with_all_noted, with_noted};
+ghost use Rattle.publish_barrier.specs.Sorts.{noted_same};
 
 use crate::sorts::is_same_sort;
 use indexmap::IndexMap;
@@ -86,7 +87,7 @@ impl Known {
     }
 
     /// The one with an id.
-    pub fn find(&self, id: Id) -> Option<Ref>
+    pub(crate) fn find(&self, id: Id) -> Option<Ref>
         ensures { result ≡ noted self.now.refs id }
     {
         let rows = &self.rows;
@@ -103,10 +104,10 @@ impl Known {
         }
     }
 
-    /// The noted reference to the same thing. In a script that runs, the noted one has the same sort; as long as no law says so, None is an
-    /// answer where it has another.
+    /// The noted reference to the same thing: the one with its id, where that has its sort.
     pub fn find_same(&self, thing: Ref) -> Option<Ref>
-        ensures { IfSome result (λ r. (reference r ≡ reference thing) × Has self.now.refs r) }
+        ensures exact { result ≡ noted_same self.now.refs thing }
+        ensures same { IfSome result (λ r. (reference r ≡ reference thing) × Has self.now.refs r) }
     {
         let found = self.find(thing.id)?;
         if is_same_sort(found.sort, thing.sort) {
@@ -147,67 +148,94 @@ impl Known {
 
 // ---- what is told
 
-/// Notes a reference, where there is memory for it. What is not noted cannot be asked anything later, which is want of memory then.
-fn note_one(known: &mut Known, thing: Ref)
-    ensures { NotesOf known.old.refs (thing ∷ []) known.new.refs }
+/// Notes a reference, where there is memory for it.
+fn note_one(known: &mut Known, thing: Ref) -> Result<(), AllocError>
+    ensures all { OnOk result (known.new.refs ≡ with_all_noted known.old.refs (thing ∷ [])) }
+    ensures some { NotesOf known.old.refs (thing ∷ []) known.new.refs }
 {
-    if let Ok(_) = known.reserve(1) {
-        known.note(thing);
-    }
+    known.reserve(1)?;
+    known.note(thing);
+    Ok(())
 }
 
 /// The same of what a value mentions.
-fn note_value(known: &mut Known, value: &Value)
-    ensures { NotesOf known.old.refs (refs_in value.now) known.new.refs }
+fn note_value(known: &mut Known, value: &Value) -> Result<(), AllocError>
+    ensures all { OnOk result (known.new.refs ≡ with_all_noted known.old.refs (refs_in value.now)) }
+    ensures some { NotesOf known.old.refs (refs_in value.now) known.new.refs }
 {
-    if let Value::Ref(thing) = value {
-        note_one(known, *thing);
+    match value {
+        Value::Ref(thing) => note_one(known, *thing),
+        _ => Ok(()),
     }
 }
 
-/// The same of what each value mentions.
-fn note_values(known: &mut Known, values: &[Value])
-    ensures { NotesOf known.old.refs (refs_in_all values.now) known.new.refs }
+/// The same of what each value mentions, up to the first for which there is no memory.
+fn note_values(known: &mut Known, values: &[Value]) -> Result<(), AllocError>
+    ensures all { OnOk result (known.new.refs ≡ with_all_noted known.old.refs (refs_in_all values.now)) }
+    ensures some { NotesOf known.old.refs (refs_in_all values.now) known.new.refs }
 {
-    'values: for value in values {
-        note_value(known, value);
+    let mut at = 0;
+    'values: while at < values.len() {
+        note_value(known, &values[at])?;
+        at += 1;
     }
+    Ok(())
+}
+
+/// The same of a key and a value.
+fn note_pair(known: &mut Known, pair: &(Value, Value)) -> Result<(), AllocError>
+    ensures all { OnOk result (known.new.refs ≡ with_all_noted known.old.refs (refs_in pair.now.0 ++ refs_in pair.now.1)) }
+    ensures some { NotesOf known.old.refs (refs_in pair.now.0 ++ refs_in pair.now.1) known.new.refs }
+{
+    note_value(known, &pair.0)?;
+    note_value(known, &pair.1)
 }
 
 /// The same of what each pair mentions.
-fn note_pairs(known: &mut Known, pairs: &[(Value, Value)])
-    ensures { NotesOf known.old.refs (refs_in_pairs pairs.now) known.new.refs }
+fn note_pairs(known: &mut Known, pairs: &[(Value, Value)]) -> Result<(), AllocError>
+    ensures all { OnOk result (known.new.refs ≡ with_all_noted known.old.refs (refs_in_pairs pairs.now)) }
+    ensures some { NotesOf known.old.refs (refs_in_pairs pairs.now) known.new.refs }
 {
-    'pairs: for pair in pairs {
-        note_value(known, &pair.0);
-        note_value(known, &pair.1);
+    let mut at = 0;
+    'pairs: while at < pairs.len() {
+        note_pair(known, &pairs[at])?;
+        at += 1;
     }
+    Ok(())
 }
 
 /// The same of what an end tells.
-fn note_end(known: &mut Known, end: &End)
-    ensures { NotesOf known.old.refs (refs_in_end end.now) known.new.refs }
+fn note_end(known: &mut Known, end: &End) -> Result<(), AllocError>
+    ensures all { OnOk result (known.new.refs ≡ with_all_noted known.old.refs (refs_in_end end.now)) }
+    ensures some { NotesOf known.old.refs (refs_in_end end.now) known.new.refs }
 {
-    if let End::Value(value) = end {
-        note_value(known, value);
+    match end {
+        End::Value(value) => note_value(known, value),
+        _ => Ok(()),
     }
 }
 
 impl Known {
-    /// Notes references, where there is memory for them.
-    pub fn note_all(&mut self, refs: &[Ref])
-        ensures { NotesOf self.old.refs refs.now self.new.refs }
+    /// The global variables, and these.
+    pub fn with(alloc: Global, refs: &[Ref]) -> Result<Known, AllocError>
+        ensures { IfOk result (λ known. known.refs ≡ with_all_noted (to_globals ∷ []) refs.now) }
     {
+        let mut known = Known::new(alloc);
         let mut at = 0;
         'refs: while at < refs.len() {
-            note_one(self, refs[at]);
+            note_one(&mut known, refs[at])?;
             at += 1;
         }
+        Ok(known)
     }
 
-    /// Notes what a reply tells, where there is memory for it.
-    pub fn note_reply(&mut self, reply: &Reply)
-        ensures { NotesOf self.old.refs (refs_in_reply reply.now) self.new.refs }
+    /// Notes what a reply tells.
+    ///
+    /// # Errors
+    /// Want of memory. What stands before the one for which there was none is noted.
+    pub fn note_reply(&mut self, reply: &Reply) -> Result<(), AllocError>
+        ensures all { OnOk result (self.new.refs ≡ with_all_noted self.old.refs (refs_in_reply reply.now)) }
+        ensures some { NotesOf self.old.refs (refs_in_reply reply.now) self.new.refs }
     {
         match reply {
             Reply::Value(value) => note_value(self, value),
@@ -215,8 +243,8 @@ impl Known {
             Reply::Pairs(pairs) => note_pairs(self, pairs.as_slice()),
             Reply::Started(_, thing) => note_one(self, *thing),
             Reply::Ended(end) => note_end(self, end),
-            Reply::Done => {}
-            Reply::Failed(_) => {}
+            Reply::Done => Ok(()),
+            Reply::Failed(_) => Ok(()),
         }
     }
 }

@@ -17,4 +17,3 @@ pub use gathering::{gather, gather_act, gather_value};
 pub use known::Known;
 pub use laws::{laws_of_absence, laws_of_leaving};
 pub use moving::commit;
-pub use sorts::serves;

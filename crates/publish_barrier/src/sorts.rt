@@ -1,15 +1,15 @@
 // What references say that their things are.
 
 ghost use Rattle.std.specs.Prelude.{◌≡◌, true};
-ghost use Rattle.rb_model.specs.Doing.{doing};
 ghost use Rattle.rb_model.specs.Moving.{sort_of_thing};
-ghost use Rattle.rb_shared.specs.Replies.{Serves};
+ghost use Rattle.publish_barrier.specs.Sorts.{same_sort};
 
-use rb_model::{Act, Sort, Thing};
+use rb_model::{Sort, Thing};
 
 /// Whether two sorts are the same.
 pub(crate) fn is_same_sort(a: Sort, b: Sort) -> bool
-    ensures { result ≡ true → a ≡ b }
+    ensures exact { result ≡ same_sort a b }
+    ensures same { result ≡ true → a ≡ b }
 {
     match a {
         Sort::Object(m) => match b {
@@ -33,31 +33,5 @@ pub(crate) fn sort_of(thing: &Thing) -> Sort
         Thing::Pairs(_) => Sort::Pairs,
         Thing::Mutex(_) => Sort::Mutex,
         Thing::Thread(_) => Sort::Thread,
-    }
-}
-
-/// Whether an act is for things of a sort.
-pub fn serves(sort: Sort, act: &Act) -> bool
-    ensures { result ≡ true → Serves sort (doing act.now) }
-{
-    match act {
-        Act::GetField(_) | Act::SetField(_, _) => matches!(sort, Sort::Object(_)),
-        Act::At(_) => matches!(sort, Sort::List),
-        Act::Put(_, _) => matches!(sort, Sort::List),
-        Act::Push(_) => matches!(sort, Sort::List),
-        Act::Unshift(_) => matches!(sort, Sort::List),
-        Act::Pop => matches!(sort, Sort::List),
-        Act::Shift => matches!(sort, Sort::List),
-        Act::DeleteAt(_) => matches!(sort, Sort::List),
-        Act::KGet(_) => matches!(sort, Sort::Pairs),
-        Act::KHas(_) => matches!(sort, Sort::Pairs),
-        Act::KPut(_, _) => matches!(sort, Sort::Pairs),
-        Act::KDelete(_) => matches!(sort, Sort::Pairs),
-        Act::Clear => matches!(sort, Sort::List | Sort::Pairs),
-        Act::Len => matches!(sort, Sort::List | Sort::Pairs),
-        Act::Copy => matches!(sort, Sort::List | Sort::Pairs),
-        Act::Join => matches!(sort, Sort::Thread),
-        Act::Lock => matches!(sort, Sort::Mutex),
-        Act::Unlock => matches!(sort, Sort::Mutex),
     }
 }

@@ -21,3 +21,4 @@ pub mod ParamsMore
 pub mod Makes
 pub mod Making
 pub mod Captures
+pub mod AllMade

@@ -1,6 +1,6 @@
 -- What command lines ask for, by example.
 use Rattle.std.specs.Prelude.{ℕ, ◌≡◌, List, [], ◌∷◌, Option, Some, None, codes, refl}
-use Rattle.rb_command.specs.Words.{Text, Wanted, run, shapes, command_of}
+use Rattle.rb_command.specs.Words.{Text, Wanted, run, shapes, work, command_of}
 
 abbrev asks : Text → ℕ → ℕ → Option Wanted
 asks file steps heap_words = Some (run (record { file = file; steps = steps; heap_words = heap_words }))
@@ -67,3 +67,53 @@ value_that_is_no_number = refl
 
 end_as_value : of (codes "--steps" ∷ codes "--" ∷ codes "a.rb" ∷ []) ≡ None
 end_as_value = refl
+
+-- ---- the command that takes two numbers
+
+abbrev worked : List Text → Option Wanted
+worked words = command_of (codes "work" ∷ words)
+
+abbrev works : ℕ → ℕ → Option Wanted
+works number size = Some (work (record { number = number; size = size }))
+
+values_behind : worked (codes "--number" ∷ codes "1" ∷ codes "--size" ∷ codes "4" ∷ []) ≡ works 1 4
+values_behind = refl
+
+values_inside : worked (codes "--number=1" ∷ codes "--size=4" ∷ []) ≡ works 1 4
+values_inside = refl
+
+size_before_number : worked (codes "--size=4" ∷ codes "--number" ∷ codes "1" ∷ []) ≡ works 1 4
+size_before_number = refl
+
+greatest : worked (codes "--number" ∷ codes "2147483647" ∷ codes "--size" ∷ codes "100000" ∷ []) ≡ works 2147483647 100000
+greatest = refl
+
+least : worked (codes "--number=0" ∷ codes "--size=1" ∷ codes "--" ∷ []) ≡ works 0 1
+least = refl
+
+no_size : worked (codes "--number" ∷ codes "1" ∷ []) ≡ None
+no_size = refl
+
+no_place : worked (codes "--number=1" ∷ codes "--size=0" ∷ []) ≡ None
+no_place = refl
+
+too_great_a_number : worked (codes "--number=2147483648" ∷ codes "--size=4" ∷ []) ≡ None
+too_great_a_number = refl
+
+too_great_a_size : worked (codes "--number=1" ∷ codes "--size=100001" ∷ []) ≡ None
+too_great_a_size = refl
+
+number_given_twice : worked (codes "--number=1" ∷ codes "--number=1" ∷ codes "--size=4" ∷ []) ≡ None
+number_given_twice = refl
+
+work_with_a_file : worked (codes "--number=1" ∷ codes "--size=4" ∷ codes "a.rb" ∷ []) ≡ None
+work_with_a_file = refl
+
+word_behind_the_end : worked (codes "--number=1" ∷ codes "--size=4" ∷ codes "--" ∷ codes "a.rb" ∷ []) ≡ None
+word_behind_the_end = refl
+
+end_before_the_options : worked (codes "--" ∷ codes "--number=1" ∷ codes "--size=4" ∷ []) ≡ None
+end_before_the_options = refl
+
+work_with_steps : worked (codes "--number=1" ∷ codes "--size=4" ∷ codes "--steps=5" ∷ []) ≡ None
+work_with_steps = refl

@@ -7,3 +7,4 @@ pub mod Agree
 pub mod Counted
 pub mod Whole
 pub mod Numerals
+pub mod Parted

@@ -1,5 +1,5 @@
 -- What the words of a command line ask for.
-use Rattle.std.specs.Prelude.{ℕ, ◌==◌, ◌&&◌, ◌||◌, is_some, Bool, false, List, [], ◌∷◌, length, Option, Some, None, option_map, option_and_then, unwrap_or, if◌then◌else◌, nat_le, codes}
+use Rattle.std.specs.Prelude.{ℕ, ◌==◌, ◌&&◌, ◌||◌, is_some, Bool, true, false, List, [], ◌∷◌, length, Option, Some, None, option_map, option_and_then, unwrap_or, if◌then◌else◌, nat_le, codes}
 use Rattle.std.specs.List.{list_all, list_any, before_first, after_first}
 use Rattle.std.specs.Char.{is_ascii_digit}
 use Rattle.std.specs.Str.{bytes_eq}
@@ -118,6 +118,69 @@ reads (Some name) [] given = None
 reads None (word ∷ rest) given = reads_on (kind_of word) word rest (λ pending now. reads pending rest now) given
 reads (Some name) (word ∷ rest) given = option_and_then (reads None rest) (with_value name word given)
 
+-- ---- the words behind `work`
+
+-- the two numbers that it is told
+pub data Part : Type 0 where
+  number : Part
+  size : Part
+
+abbrev pub least_part : Part → ℕ
+least_part number = 0
+least_part size = 1
+
+abbrev pub most_part : Part → ℕ
+most_part number = 2147483647
+most_part size = 100000
+
+-- the part that is named before `=`
+abbrev pub part_named : Text → Option Part
+part_named name = if bytes_eq name (codes "--number") then Some number else (if bytes_eq name (codes "--size") then Some size else None)
+
+-- an option in front of the words, with its value, and the words behind both
+pub record Front : Type 0 where
+  pub part : Part
+  pub value : ℕ
+  pub rest : List Text
+
+-- a value that is a number in the range of its part
+abbrev pub front_with : Part → Text → List Text → Option Front
+front_with part word rest = option_map (λ n. record { part = part; value = n; rest = rest }) (number_in (least_part part) (most_part part) word)
+
+-- the value stands in the word of the option, or else is the next word
+abbrev pub front_by : Part → Option Text → List Text → Option Front
+front_by part (Some value) rest = front_with part value rest
+front_by part None [] = None
+front_by part None (word ∷ rest) = front_with part word rest
+
+abbrev pub front_of : List Text → Option Front
+front_of [] = None
+front_of (word ∷ rest) = option_and_then (λ part. front_by part (value_part word) rest) (part_named (name_part word))
+
+-- no word is left, but for one `--`
+abbrev pub nothing_left : List Text → Bool
+nothing_left [] = true
+nothing_left (word ∷ []) = bytes_eq word (codes "--")
+nothing_left (word ∷ next ∷ rest) = false
+
+pub record Work : Type 0 where
+  pub number : ℕ
+  pub size : ℕ
+
+-- both parts, whichever stands first
+abbrev pub work_of : Part → ℕ → Part → ℕ → Option Work
+work_of number n size m = Some (record { number = n; size = m })
+work_of size m number n = Some (record { number = n; size = m })
+work_of number n number m = None
+work_of size n size m = None
+
+abbrev pub work_by : Front → Front → Option Work
+work_by first second = if nothing_left second.rest then work_of first.part first.value second.part second.value else None
+
+-- what the words tell: two options, one behind the other
+abbrev pub work_in : List Text → Option Work
+work_in words = option_and_then (λ first. option_and_then (work_by first) (front_of first.rest)) (front_of words)
+
 -- ---- the command line
 
 pub record Run : Type 0 where
@@ -125,10 +188,11 @@ pub record Run : Type 0 where
   pub steps : ℕ
   pub heap_words : ℕ
 
--- what the program is asked to do: to run a script, or to tell the shapes of its objects behind that
+-- what the program is asked to do: to run a script, or to tell the shapes of its objects behind that; or to run the script that it has
 pub data Wanted : Type 0 where
   run : Run → Wanted
   shapes : Run → Wanted
+  work : Work → Wanted
 
 -- a run wants a FILE
 abbrev pub run_of : Given → Option Run
@@ -154,4 +218,5 @@ abbrev pub command_of : List Text → Option Wanted
 command_of [] = None
 command_of (word ∷ rest) =
     if bytes_eq word (codes "run") then option_map run (run_in rest)
-    else (if bytes_eq word (codes "shapes") then option_map shapes (plain_run_in rest) else None)
+    else (if bytes_eq word (codes "shapes") then option_map shapes (plain_run_in rest)
+    else (if bytes_eq word (codes "work") then option_map work (work_in rest) else None))

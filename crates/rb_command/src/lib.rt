@@ -6,6 +6,8 @@ mod line;
 mod numbers;
 #[cfg(test)]
 mod tests;
+mod told;
 mod words;
 
+pub use told::WorkWords;
 pub use words::{Command, RunWords, command_of};

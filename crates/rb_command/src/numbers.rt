@@ -47,7 +47,7 @@ fn is_numeral(word: &[u8]) -> bool
 }
 
 /// The number that the word writes, where it is in the range.
-fn number_in(least: u64, most: u64, word: &str) -> Option<u64>
+pub fn number_in(least: u64, most: u64, word: &str) -> Option<u64>
     ensures { result ≡ spec.number_in least most word.now }
 {
     if !is_numeral(word.as_bytes()) {

@@ -13,26 +13,31 @@ fn words_of(alloc: Global, line: &str) -> Result<Vec<String>, AllocError> {
     Ok(words)
 }
 
-/// The name of a command, and what it is told.
-fn parts<'w>(command: Command<'w>) -> (&'static str, RunWords<'w>) {
+/// What a command with a FILE is told, as text.
+fn run_text(alloc: Global, name: &str, told: RunWords<'_>) -> Result<String, AllocError> {
+    format!(in alloc; "{name}: {} {} {}", told.file, told.steps, told.heap_words)
+}
+
+/// What a command is told, as text.
+fn text_of(alloc: Global, command: Command<'_>) -> Result<String, AllocError> {
     match command {
-        Command::Run(words) => ("run", words),
-        Command::Shapes(words) => ("shapes", words),
+        Command::Run(told) => run_text(alloc, "run", told),
+        Command::Shapes(told) => run_text(alloc, "shapes", told),
+        Command::Work(told) => format!(in alloc; "work: {} {}", told.number, told.size),
     }
 }
 
 /// What the words ask for, as text; `none` where it is nothing.
 fn asked(alloc: Global, line: &str) -> Result<String, AllocError> {
     let words = words_of(alloc, line)?;
-    let Some(command) = command_of(alloc, words.as_slice())? else {
-        return String::from_str(alloc, "none");
-    };
-    let (name, told) = parts(command);
-    format!(in alloc; "{name}: {} {} {}", told.file, told.steps, told.heap_words)
+    match command_of(alloc, words.as_slice())? {
+        Some(command) => text_of(alloc, command),
+        None => String::from_str(alloc, "none"),
+    }
 }
 
-/// A line, and what it asks for: the FILE, the steps and the heap words.
-const ACCEPTED: [(&str, &str); 27] = [
+/// A line, and what it asks for: the FILE, the steps and the heap words; or the number and the size.
+const ACCEPTED: [(&str, &str); 37] = [
     ("run a.rb", "run: a.rb 100000000 1048576"),
     ("run a.rb --steps=5", "run: a.rb 5 1048576"),
     ("run a.rb --steps 5", "run: a.rb 5 1048576"),
@@ -69,10 +74,23 @@ const ACCEPTED: [(&str, &str); 27] = [
     ("shapes shapes", "shapes: shapes 100000000 1048576"),
     ("shapes run", "shapes: run 100000000 1048576"),
     ("run shapes", "run: shapes 100000000 1048576"),
+    ("run work", "run: work 100000000 1048576"),
+    ("work --number 1 --size 4", "work: 1 4"),
+    ("work --number=1 --size=4", "work: 1 4"),
+    ("work --size 4 --number 1", "work: 1 4"),
+    ("work --size=4 --number 1", "work: 1 4"),
+    ("work --size 4 --number=1", "work: 1 4"),
+    ("work --number 0 --size 1", "work: 0 1"),
+    (
+        "work --number 2147483647 --size 100000",
+        "work: 2147483647 100000",
+    ),
+    ("work --number 0000000000000000007 --size=04", "work: 7 4"),
+    ("work --number 1 --size 4 --", "work: 1 4"),
 ];
 
 /// Lines that are no words of the program.
-const REFUSED: [&str; 64] = [
+const REFUSED: [&str; 102] = [
     "",
     "--help",
     "-h",
@@ -137,6 +155,44 @@ const REFUSED: [&str; 64] = [
     "--steps 5 shapes a.rb",
     "run shapes a.rb",
     "shapes run a.rb",
+    "work",
+    "Work --number 1 --size 4",
+    "work --",
+    "work a.rb",
+    "work 1 4",
+    "work --number 1",
+    "work --size 4",
+    "work --number 1 --number 4",
+    "work --size 4 --size=4",
+    "work --number 1 --size 4 a.rb",
+    "work a.rb --number 1 --size 4",
+    "work --number 1 a.rb --size 4",
+    "work --number 1 --size 4 --number 1",
+    "work --number 1 --size 4 --size 4",
+    "work --number 1 --size 4 --steps 5",
+    "work --heap-words=4096 --number 1 --size 4",
+    "work -- --number 1 --size 4",
+    "work --number 1 -- --size 4",
+    "work --number 1 --size 4 -- a.rb",
+    "work --number 1 --size 4 -- --",
+    "work --number 1 --size",
+    "work --number --size 4",
+    "work --number= --size 4",
+    "work --number=1=1 --size 4",
+    "work --number -1 --size 4",
+    "work --number=+1 --size 4",
+    "work --number 1x --size 4",
+    "work -number 1 --size 4",
+    "work --num 1 --size 4",
+    "work --Number 1 --size 4",
+    "work --number 2147483648 --size 4",
+    "work --number 1 --size 0",
+    "work --number 1 --size 100001",
+    "work --number 00000000000000000001 --size 4",
+    "run a.rb --number 1",
+    "run --number 1 --size 4",
+    "shapes a.rb --size 4",
+    "--number 1 --size 4 work",
 ];
 
 #[test]

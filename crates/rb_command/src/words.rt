@@ -3,10 +3,11 @@
 ghost use Rattle.std.specs.Prelude.{◌≡◌, List, ℕ, Option, IfOk, map, option_map, string_bytes};
 ghost use Rattle.rb_command.specs.Words as spec;
 ghost use Rattle.rb_command.specs.Line as said;
-ghost use Rattle.rb_command.specs.Seen.{line_seen, run_seen, seen};
+ghost use Rattle.rb_command.specs.Seen.{line_seen, run_seen, work_seen, seen};
 
 use crate::line::{Line, line_of};
 use crate::numbers::{HEAP_WORDS, STEPS, chosen};
+use crate::told::{WorkWords, work_told};
 use std::alloc::{AllocError, Global};
 
 /// What a command is told: the script's path, how many steps a thread may make, how many words the shared heap has.
@@ -24,6 +25,8 @@ pub enum Command<'w> {
     Run(RunWords<'w>),
     /// To run a script, and to tell the shapes of its objects behind that.
     Shapes(RunWords<'w>),
+    /// To run the script that the program has, with these numbers.
+    Work(WorkWords),
 }
 
 /// What the words ask for, without the program's own name; none where they are no words of the program.
@@ -38,6 +41,9 @@ pub fn command_of<'w>(alloc: Global, words: &'w [String]) -> Result<Option<Comma
     }
     if command.as_str() == "shapes" {
         return Ok(asked_for_shapes(file_told(alloc, rest)?));
+    }
+    if command.as_str() == "work" {
+        return Ok(asked_to_work(work_told(rest)));
     }
     Ok(None)
 }
@@ -54,6 +60,13 @@ fn asked_for_shapes<'w>(words: Option<RunWords<'w>>) -> Option<Command<'w>>
     ensures { option_map seen result ≡ option_map spec.shapes (option_map run_seen words.entry) }
 {
     Some(Command::Shapes(words?))
+}
+
+/// The command `work`, where its words are there.
+fn asked_to_work<'w>(words: Option<WorkWords>) -> Option<Command<'w>>
+    ensures { option_map seen result ≡ option_map spec.work (option_map work_seen words) }
+{
+    Some(Command::Work(words?))
 }
 
 /// What the words behind a command tell; none where they are no words of the program.

@@ -21,6 +21,6 @@ pub use fault::Fault;
 pub use immediate::Immediate;
 pub use moved::{Moved, MovedItem};
 pub use shared_text::SharedText;
-pub use store::{OneStore, ThreadStore};
+pub use store::ThreadStore;
 pub use thing::{Field, Thing, ThreadState};
 pub use value::{Id, Ref, Sort, Value};

@@ -1,6 +1,6 @@
 // What one thread works on.
 
-ghost use Rattle.std.specs.Prelude.{◌≡◌, ◌≤◌, ◌-ℤ◌, None, true, false, ℕ, is_some, IsSome, IfSome, IfOk, OnOk, OnErr};
+ghost use Rattle.std.specs.Prelude.{◌≡◌, ◌-ℤ◌, None, true, false, is_some, IsSome, IfSome, IfOk, OnOk, OnErr};
 ghost use Rattle.rb_model.specs.Values.{Int, plain};
 ghost use Rattle.rb_model.specs.Acts.{At, GetField, KGet, Push, Put, SetField};
 ghost use Rattle.rb_model.specs.Acts as answer;
@@ -8,33 +8,16 @@ ghost use Rattle.rb_model.specs.Doing.{doing, said, made, sort_of};
 ghost use Rattle.rb_model.specs.Immediates.{told_answer, list_answered, reference, taking, value_told};
 ghost use Rattle.std.specs.Option.{option_map};
 ghost use Rattle.rb_model.specs.Private.{Private, Gives, Becomes, held, entered, next_id};
-ghost use Rattle.rb_model.specs.Log.{Log as Calls, Answers, On, Print, is_sure, has_end, asked};
+ghost use Rattle.rb_model.specs.Log.{Log as Calls, Answers, On, Print};
 ghost use Rattle.rb_model.specs.Outside.{IsServed, starting};
 
 use crate::act::{Act, Make, Reply, Side};
-use crate::call::{Answer, Call, Served};
+use crate::call::{Answer, Served};
 use crate::immediate::Immediate;
 use crate::shared_text::SharedText;
 use crate::value::{Id, Ref, Value};
 use rb_tree::NameId;
 use std::alloc::AllocError;
-
-/// Where one thread prints and ends.
-pub trait OneStore {
-    /// What it was asked, and what it refused.
-    ghost log: { Self → Calls };
-
-    /// How often its sink has failed.
-    ghost faults: { Self → ℕ };
-
-    /// Makes one entry, of the main thread at this step, exactly where it answers `Done`.
-    fn call(&mut self, step: u64, call: &Call) -> Answer
-        requires open { has_end (log self.old).entries ≡ false }
-        ensures answers { Answers result step (asked call.now) (log self.old) (log self.new) }
-        // Room for an end that is no value was taken before.
-        ensures sure { is_sure (asked call.now) ≡ true → result ≡ Answer.Done }
-        ensures rises { faults self.old ≤ faults self.new };
-}
 
 /// What one thread has: the things that it made and that are still its own, and what it asks of the outside.
 pub trait ThreadStore {

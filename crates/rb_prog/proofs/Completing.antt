@@ -9,7 +9,7 @@ use Rattle.rb_edge.specs.Edge.{Held, Bytes}
 use Rattle.rb_edge.specs.Transfer.{ReadOf, NotHeld}
 use Rattle.rb_model.specs.Ends.{End}
 use Rattle.rb_model.specs.Ends as ending
-use Rattle.rb_prog.specs.Shown.{Shown}
+use Rattle.rb_shared.specs.History.{History}
 use Rattle.rb_prog.specs.Run.{Accepts, status_of, IsOwnOrMemory, RunsSource, shown, refused, Runs, read, missing, failed}
 use Rattle.rb_prog.specs.Run as run
 
@@ -30,11 +30,26 @@ ended (ending.Full used asked) sunk cause never full = absurd (full refl)
 ended ending.Sink sunk cause never full = absurd (never (cause refl))
 ended ending.Memory sunk cause never full = inr (inr (inr refl))
 
-source_ends : (bytes : List ℕ) (program : Program) (sunk : Type 0) (steps : ℕ) (old new : Option (List ℕ)) (status : ℕ) (front : Option Shown) (line : List ℕ)
+pub source_ends : (bytes : List ℕ) (program : Program) (sunk : Type 0) (steps : ℕ) (old new : Option (List ℕ)) (status : ℕ) (front : Option History) (line : List ℕ)
     → Accepts bytes program → RunsSource bytes steps old new status front line → (status ≡ 5 → sunk) → (sunk → ⊥) → (status ≡ 7 → ⊥) → IsOwnOrMemory status
 source_ends bytes program sunk steps old new _ _ _ a (shown {how} p r) cause never full = ended how sunk cause never full
 source_ends bytes program sunk steps old new _ _ _ a (refused w r n) cause never full = absurd (r program a)
 source_ends bytes program sunk steps old new _ _ _ a (run.RunsSource.out_of_memory n) cause never full = inr (inr (inr refl))
+
+-- no run of a source is one of words that are none of the program's
+ended_not_usage : (how : End) → status_of how ≡ 2 → ⊥
+ended_not_usage (ending.Value value) e = cc
+ended_not_usage (ending.Raised fault at) e = cc
+ended_not_usage ending.Steps e = cc
+ended_not_usage (ending.Full used asked) e = cc
+ended_not_usage ending.Sink e = cc
+ended_not_usage ending.Memory e = cc
+
+pub source_not_usage : (source : List ℕ) (steps : ℕ) (old new : Option (List ℕ)) (status : ℕ) (front : Option History) (line : List ℕ)
+    → RunsSource source steps old new status front line → status ≡ 2 → ⊥
+source_not_usage source steps old new _ _ _ (shown {how} p r) e = ended_not_usage how e
+source_not_usage source steps old new _ _ _ (refused w r n) e = cc
+source_not_usage source steps old new _ _ _ (run.RunsSource.out_of_memory n) e = cc
 
 -- a source that has tokens is short
 short_of_tokens : (held : List ℕ) (outcome : Outcome) (tokens : List Token) → Lexes held outcome → outcome ≡ Ok tokens → length held ≤ 1048576
@@ -46,7 +61,7 @@ short_of_tokens held _ tokens (lexer.Lexes.read l u r) e = l
 all_read : (held bytes : List ℕ) (program : Program) → Accepts held program → bytes ≡ take 1048577 held → bytes ≡ held
 all_read held bytes program a e = let l = short_of_tokens held (Ok a.tokens) a.tokens a.lexed refl in e ∙ take_all 1048577 held (omega arith)
 
-pub complete : (h : Held) (held : List ℕ) (program : Program) (read_failed sunk : Type 0) (steps : ℕ) (old new : Option (List ℕ)) (status : ℕ) (front : Option Shown) (line : List ℕ)
+pub complete : (h : Held) (held : List ℕ) (program : Program) (read_failed sunk : Type 0) (steps : ℕ) (old new : Option (List ℕ)) (status : ℕ) (front : Option History) (line : List ℕ)
     → Runs h read_failed steps old new status front line → h ≡ Bytes held → Accepts held program → (read_failed → ⊥) → (status ≡ 5 → sunk) → (sunk → ⊥) → (status ≡ 7 → ⊥) → IsOwnOrMemory status
 complete h held program read_failed sunk steps old new _ _ _ (read {bytes} {status} {front} {line} r s) e a calm cause never full =
     let same : bytes ≡ held = all_read held bytes program a (subst (λ h. ReadOf h bytes) e r) in

@@ -18,23 +18,22 @@ use Rattle.rb_prog.specs.declared.refusal.Refusal.TheVariants as refusal
 use Rattle.rb_prog.specs.declared.source.Unaccepted.{Unaccepted}
 use Rattle.rb_prog.specs.declared.source.Unaccepted.TheVariants as unaccepted
 use Rattle.rb_edge.specs.Edge.{Adds}
-use Rattle.rb_prog.specs.Accepting.{IsRunnable, Judges, AcceptsOf, rejected_status, rejected_line}
+use Rattle.rb_prog.specs.Accepting.{Judges, AcceptsOf, rejected_status, rejected_line}
 use Rattle.rb_prog.specs.Accepting as spec
 use Rattle.rb_prog.specs.Run as run
-use Rattle.rb_prog.specs.Run.{Accepts, RefusedBy, unread, syntax, too_nested, broken, not_built, RunsSource}
+use Rattle.rb_prog.specs.Run.{Accepts, RefusedBy, unread, syntax, too_nested, broken, RunsSource}
 use Rattle.rb_prog.proofs.Refusing.{is_refused}
 
 -- a program that its tokens spell
 pub judged : (source : List ℕ) (tokens : List Token) (program : Program) (result : Result Program Unaccepted) → Lexes source (Ok tokens) → IsProgram max_height max_levels tokens program
     → Judges program result → AcceptsOf source result
 judged source tokens program (Ok found) l p j =
-    let r = subst IsRunnable (sym j.0) j.1 in
+    let r = subst (λ q. fault_of q ≡ None) (sym j.0) j.1 in
     let s = subst (λ q. IsProgram max_height max_levels tokens q) (sym j.0) p in
-    record { tokens = tokens; lexed = l; spelled = s; checked = r.checked; built = r.built }
+    record { tokens = tokens; lexed = l; spelled = s; checked = r }
 judged source tokens program (Err (unaccepted.Refused (refusal.Unread fault))) l p j = absurd j
 judged source tokens program (Err (unaccepted.Refused (refusal.Unparsed fault))) l p j = absurd j
 judged source tokens program (Err (unaccepted.Refused (refusal.Broken fault))) l p j = broken l p j
-judged source tokens program (Err (unaccepted.Refused (refusal.NotBuilt at))) l p j = not_built l p j.0 j.1
 judged source tokens program (Err unaccepted.Memory) l p j = tt
 
 -- tokens that spell none

@@ -8,9 +8,8 @@ use Rattle.rb_grammar.specs.Script.{IsScript, BeginsNone}
 use Rattle.rb_grammar.specs.Program.{IsProgram, max_height, max_levels}
 use Rattle.rb_grammar.proofs.Whole.{one_program}
 use Rattle.rb_checker.specs.Check.{fault_of}
-use Rattle.rb_built.specs.Unbuilt.{first_unbuilt}
 use Rattle.rb_prog.specs.declared.refusal.Refusal.{Refusal}
-use Rattle.rb_prog.specs.Run.{Accepts, RefusedBy, unread, syntax, too_nested, broken, not_built, IsRefused}
+use Rattle.rb_prog.specs.Run.{Accepts, RefusedBy, unread, syntax, too_nested, broken, IsRefused}
 
 begins_no_program : (tokens : List Token) (at : ℕ) → BeginsNone tokens at → (program : Program) → IsProgram max_height max_levels tokens program → ⊥
 begins_no_program tokens at b program p = b.none max_height max_levels b.post p.found (subst (λ ts. IsScript max_height max_levels ts p.found) b.split p.script)
@@ -35,5 +34,3 @@ is_refused source _ (syntax {tokens} {at} l b) = λ program a. begins_no_program
 is_refused source _ (too_nested {tokens} {at} l p) = λ program a. let s = spelled_by source tokens program l a in p.none s.found s.script
 is_refused source _ (broken {tokens} {program} {fault} l p f) = λ other a.
     some_none (fault_of program) fault f (ap fault_of (one_accepted source tokens program other l p a) ∙ a.checked)
-is_refused source _ (not_built {tokens} {program} {at} l p f n) = λ other a.
-    some_none (first_unbuilt program) at n (ap first_unbuilt (one_accepted source tokens program other l p a) ∙ a.built)

@@ -14,7 +14,8 @@ use Rattle.rb_prog.specs.Accepting.{rejected_status}
 use Rattle.rb_prog.specs.Remarks.{Text, end_line, memory_line}
 use Rattle.rb_prog.specs.Shapes.{shape_lines, TellsLines, all, sink_failed, out_of_memory}
 use Rattle.rb_prog.specs.Run as run
-use Rattle.rb_prog.specs.Shown.{Shown, IsShown}
+use Rattle.rb_shared.specs.History.{History}
+use Rattle.rb_prog.specs.Shown.{IsShown}
 use Rattle.rb_prog.specs.Run.{Accepts, HasValue, Shows, as_run, with_lines, IsOwnOrMemory}
 use Rattle.rb_prog.proofs.Adding.{adds_then, adds_none}
 
@@ -51,11 +52,11 @@ abbrev Left : End → Program → List Shape → Valued → Type 0
 Left how program shapes left = (value : Value) × (how ≡ ending.Value value) × (left.program ≡ program) × (left.shapes ≡ shapes)
 
 -- what is said of it where its source is known
-abbrev LeftOf : List ℕ → ℕ → Option Text → Option Text → Option Shown → Valued → Type 0
-LeftOf source steps old new front left = (history : Shown) × (value : Value) × (front ≡ Some history) × Accepts source left.program
+abbrev LeftOf : List ℕ → ℕ → Option Text → Option Text → Option History → Valued → Type 0
+LeftOf source steps old new front left = (history : History) × (value : Value) × (front ≡ Some history) × Accepts source left.program
     × IsShown left.program steps old new history (ending.Value value) left.shapes
 
-pub left_of : (found : Option Valued) (source : List ℕ) (steps : ℕ) (old new : Option Text) (history : Shown) (how : End) (program : Program) (shapes : List Shape)
+pub left_of : (found : Option Valued) (source : List ℕ) (steps : ℕ) (old new : Option Text) (history : History) (how : End) (program : Program) (shapes : List Shape)
     → Accepts source program → IsShown program steps old new history how shapes → IfSome found (Left how program shapes) → IfSome found (LeftOf source steps old new (Some history))
 left_of None source steps old new history how program shapes accepted run left = tt
 left_of (Some found) source steps old new history how program shapes accepted run left =
@@ -69,9 +70,9 @@ pub quiet : (found : Option Valued) (how : End) (program : Program) (shapes : Li
 quiet None how program shapes source steps a b rose left told some = let e : false ≡ true = some in absurd (cc)
 quiet (Some found) how program shapes source steps a b rose left told some = told_nothing a b rose (subst (λ (e : End). Told a b (end_line source steps e) rose) left.1 told)
 
-pub value_of : (found : Option Valued) (held : Held) (source : List ℕ) (steps : ℕ) (old new : Option Text) (front : Option Shown)
+pub value_of : (found : Option Valued) (held : Held) (source : List ℕ) (steps : ℕ) (old new : Option Text) (front : Option History)
     → ReadOf held source → IfSome found (LeftOf source steps old new front)
-    → IfSome found (λ (left : Valued). (history : Shown) × (front ≡ Some history) × HasValue held steps old new history left.program left.shapes)
+    → IfSome found (λ (left : Valued). (history : History) × (front ≡ Some history) × HasValue held steps old new history left.program left.shapes)
 value_of None held source steps old new front read left = tt
 value_of (Some found) held source steps old new front read left =
     (left.0, left.2, record { bytes = source; read = read; accepted = left.3; value = left.1; run = left.4 })
@@ -82,11 +83,11 @@ rejected_not_0 unaccepted.Memory e = cc
 
 -- ---- what `shapes` answers
 
-pub shows_value : (held : Held) (read_failed : Type 0) (steps : ℕ) (old between new : Option Text) (program : Program) (shapes : List Shape) (status : ℕ) (front behind : Option Shown) (line : Text)
-    → ((history : Shown) × (front ≡ Some history) × HasValue held steps old between history program shapes) → behind ≡ front → TellsLines between new (shape_lines program shapes) status line
+pub shows_value : (held : Held) (read_failed : Type 0) (steps : ℕ) (old between new : Option Text) (program : Program) (shapes : List Shape) (status : ℕ) (front behind : Option History) (line : Text)
+    → ((history : History) × (front ≡ Some history) × HasValue held steps old between history program shapes) → behind ≡ front → TellsLines between new (shape_lines program shapes) status line
     → Shows held read_failed steps old new status behind line
 shows_value held read_failed steps old between new program shapes status front behind line (history, is, has) same lines =
-    subst (λ (f : Option Shown). Shows held read_failed steps old new status f line) (sym (same ∙ is)) (with_lines has lines)
+    subst (λ (f : Option History). Shows held read_failed steps old new status f line) (sym (same ∙ is)) (with_lines has lines)
 
 -- memory was wanted before anything was read
 pub shows_no_memory : (held : Held) (read_failed : Type 0) (steps : ℕ) (told : Option Text) → Shows held read_failed steps told told 8 None memory_line

@@ -8,7 +8,6 @@ use Rattle.rb_cursor.specs.declared.fault.ParseFault.TheVariants as parse
 use Rattle.rb_checker.specs.declared.whole.CheckError.{CheckError}
 use Rattle.rb_checker.specs.declared.whole.CheckError.TheVariants as error
 use Rattle.rb_checker.specs.Check.{fault_of}
-use Rattle.rb_built.specs.Unbuilt.{first_unbuilt}
 use Rattle.rb_prog.specs.declared.refusal.Refusal.{Refusal}
 use Rattle.rb_prog.specs.declared.refusal.Refusal.TheVariants as refusal
 use Rattle.rb_prog.specs.declared.source.Unaccepted.{Unaccepted}
@@ -34,16 +33,10 @@ abbrev pub KeepsOut : Program → Refusal → Type 0
 KeepsOut program (refusal.Unread fault) = ⊥
 KeepsOut program (refusal.Unparsed fault) = ⊥
 KeepsOut program (refusal.Broken fault) = fault_of program ≡ Some fault
-KeepsOut program (refusal.NotBuilt at) = (fault_of program ≡ None) × (first_unbuilt program ≡ Some at)
-
--- a program that may be run
-pub record IsRunnable (program : Program) : Type 0 where
-  pub checked : fault_of program ≡ None
-  pub built : first_unbuilt program ≡ None
 
 -- what is answered to a program: itself, where it may be run; or what keeps it from that; or memory is wanted
 abbrev pub Judges : Program → Result Program Unaccepted → Type 0
-Judges program (Ok found) = (found ≡ program) × IsRunnable program
+Judges program (Ok found) = (found ≡ program) × (fault_of program ≡ None)
 Judges program (Err (unaccepted.Refused why)) = KeepsOut program why
 Judges program (Err unaccepted.Memory) = Unit {0}
 

@@ -4,7 +4,7 @@ use Rattle.rb_lexer.specs.declared.fault.LexFault.TheVariants as lex
 use Rattle.rb_cursor.specs.declared.fault.ParseFault.TheVariants as parse
 use Rattle.rb_checker.specs.declared.fault.CheckFault.TheVariants as check
 use Rattle.rb_prog.specs.declared.refusal.Refusal.{Refusal}
-use Rattle.rb_prog.specs.declared.refusal.Refusal.TheVariants.{Unread, Unparsed, Broken, NotBuilt}
+use Rattle.rb_prog.specs.declared.refusal.Refusal.TheVariants.{Unread, Unparsed, Broken}
 
 -- the number; want of memory is no refusal
 abbrev pub number : Refusal → ℕ
@@ -26,7 +26,6 @@ number (Broken (check.TooManyFields at)) = 13
 number (Broken (check.TooManyClasses at)) = 14
 number (Broken (check.BreakOutside at)) = 15
 number (Broken (check.SelfOutside at)) = 16
-number (NotBuilt at) = 17
 
 -- the name
 abbrev pub name : Refusal → List ℕ
@@ -48,7 +47,6 @@ name (Broken (check.TooManyFields at)) = codes "TooManyFields"
 name (Broken (check.TooManyClasses at)) = codes "TooManyClasses"
 name (Broken (check.BreakOutside at)) = codes "BreakOutside"
 name (Broken (check.SelfOutside at)) = codes "SelfOutside"
-name (NotBuilt at) = codes "NotYet"
 
 -- the byte of the source that is told, where there is one
 abbrev pub place : Refusal → Option ℕ
@@ -70,4 +68,3 @@ place (Broken (check.TooManyFields at)) = Some at.from
 place (Broken (check.TooManyClasses at)) = Some at.from
 place (Broken (check.BreakOutside at)) = Some at.from
 place (Broken (check.SelfOutside at)) = Some at.from
-place (NotBuilt at) = Some at.from

@@ -1,7 +1,6 @@
 //! The program: its words, its script, the run and what the run shows.
 #![tactic(auto)]
 
-mod front;
 mod refusal;
 mod remarks;
 mod running;
@@ -11,6 +10,6 @@ mod source;
 mod tests;
 mod top;
 
-pub use front::Front;
 pub use refusal::Refusal;
 pub use top::{Report, run};
+pub use turn_store::TurnFront;

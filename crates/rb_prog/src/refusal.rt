@@ -6,7 +6,6 @@ ghost use Rattle.rb_prog.specs.Refusals as spec;
 use rb_checker::CheckFault;
 use rb_lexer::LexFault;
 use rb_parser::ParseFault;
-use rb_tree::Span;
 
 /// Why a source has no run.
 #[derive(Clone, Copy, Debug, PartialEq, Eq)]
@@ -17,8 +16,6 @@ pub enum Refusal {
     Unparsed(ParseFault),
     /// Its program breaks a rule of names.
     Broken(CheckFault),
-    /// Its program has something in it that is not run, at this place.
-    NotBuilt(Span),
 }
 
 /// What is told of a refusal: its number, its name, and a byte of the source.
@@ -113,6 +110,5 @@ pub(crate) fn row_of(refusal: Refusal) -> Row
         Refusal::Unread(fault) => unread_row(fault),
         Refusal::Unparsed(fault) => unparsed_row(fault),
         Refusal::Broken(fault) => broken_row(fault),
-        Refusal::NotBuilt(span) => at(17, "NotYet", span.from),
     }
 }

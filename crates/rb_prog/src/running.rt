@@ -1,7 +1,6 @@
 // The run of an accepted program.
 
-ghost use Rattle.std.specs.Prelude.{◌≡◌, ◌≤◌, ℕ, IfOk, IfErr, true};
-ghost use Rattle.rb_built.specs.Unbuilt.{shares as shares_things};
+ghost use Rattle.std.specs.Prelude.{◌≡◌, ◌≤◌, ℕ, IfOk, IfErr};
 ghost use Rattle.rb_code.specs.Stands.{StandsFor};
 ghost use Rattle.rb_edge.specs.Edge.{Rose};
 ghost use Rattle.rb_model.specs.Ends.{over};
@@ -10,14 +9,11 @@ ghost use Rattle.rb_model.specs.Private.{bare};
 ghost use Rattle.rb_resolver.specs.Names.{script_of};
 ghost use Rattle.rb_prog.specs.Shown.{IsShown, shown};
 
-use crate::front::Front;
 use local_heap::LocalHeap;
-use rb_built::shares;
 use rb_code::CodeScript;
 use rb_edge::{Gate, Sink};
 use rb_model::End;
 use rb_resolver::resolve;
-use rb_run::{Ran, run_program};
 use rb_tree::Program;
 use shape_tree::Tree;
 use shared_script::Shared;
@@ -25,7 +21,7 @@ use std::alloc::{AllocError, Global};
 use std::sync::Wait;
 use std::thread::Threads;
 use thread_run::{SharedRun, run_shared};
-use turn_store::TurnStore;
+use turn_store::{TurnFront, TurnStore};
 
 /// How many threads there may be at once.
 const THREADS: u32 = 16;
@@ -34,7 +30,7 @@ const THREADS: u32 = 16;
 #[derive(Drop)]
 pub(crate) struct Run<K> {
     pub out: K,
-    pub front: Front,
+    pub front: TurnFront,
     pub end: End,
     pub shapes: Tree,
 }
@@ -57,7 +53,6 @@ fn run_threads<R: Threads + Wait + Sync, K: Sink + Send + Drop + 'static, G: Gat
     gate: &G,
 ) -> Result<Run<K>, K>
     requires stands { StandsFor code.now (script_of program.now) }
-    requires shares { shares_things program.now ≡ true }
     ensures runs { IfOk result (λ run. IsShown program.now steps (K.told out) (K.told run.out) (shown run.front) (over run.end) run.shapes) }
     ensures cause { IfOk result (λ run. over run.end ≡ ending.Sink → Rose (K.faults out) (K.faults run.out)) }
     ensures never_full { IfOk result (λ run. (used asked : ℕ) → over run.end ≡ ending.Full used asked → ⊥) }
@@ -80,7 +75,7 @@ fn run_threads<R: Threads + Wait + Sync, K: Sink + Send + Drop + 'static, G: Gat
     } = run_shared(rt, alloc, &script, things, store, pass, steps, gate);
     Ok(Run {
         out,
-        front: Front::Shared(front),
+        front,
         end,
         shapes,
     })
@@ -98,24 +93,6 @@ pub(crate) fn run_accepted<
     ensures rises { IfOk result (λ run. K.faults out ≤ K.faults run.out) }
     ensures back { IfErr result (λ sink. sink ≡ out) }
 {
-    if !shares(program) {
-        return match run_program(alloc, program, steps, out) {
-            Ok(
-                Ran {
-                    out,
-                    front,
-                    end,
-                    shapes,
-                },
-            ) => Ok(Run {
-                out,
-                front: Front::Alone(front),
-                end,
-                shapes,
-            }),
-            Err(unbegun) => Err(unbegun.out),
-        };
-    }
     match resolve(alloc, program) {
         Ok(code) => run_threads(rt, alloc, program, &code, steps, out, gate),
         Err(_) => Err(out),

@@ -4,7 +4,6 @@ ghost use Rattle.std.specs.Prelude.{◌≡◌};
 ghost use Rattle.rb_prog.specs.Accepting.{Judges, AcceptsOf, unread, unparsed, broken};
 
 use crate::refusal::Refusal;
-use rb_built::first_unbuilt;
 use rb_checker::{CheckError, check};
 use rb_lexer::{LexFault, lex};
 use rb_parser::{ParseFault, parse};
@@ -48,17 +47,13 @@ fn broken(error: CheckError) -> Unaccepted
     }
 }
 
-/// A program, where it keeps the rules of names and has nothing in it that is not run.
+/// A program, where it keeps the rules of names.
 fn judged(alloc: Global, program: Program) -> Result<Program, Unaccepted>
     ensures { Judges program result }
 {
     match check(alloc, &program) {
-        Ok(()) => {}
-        Err(error) => return Err(broken(error)),
-    }
-    match first_unbuilt(&program) {
-        None => Ok(program),
-        Some(at) => Err(Unaccepted::Refused(Refusal::NotBuilt(at))),
+        Ok(()) => Ok(program),
+        Err(error) => Err(broken(error)),
     }
 }
 

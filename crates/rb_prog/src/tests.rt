@@ -7,6 +7,7 @@ mod scripts;
 mod shapes;
 mod sources;
 mod tokens;
+mod work;
 
 use crate::{Report, run};
 use rb_edge::{Gate, MemoryFiles, MemorySink, OpenGate};
@@ -267,9 +268,12 @@ impl Gate for Counting {
 }
 
 #[test]
-fn the_gate_is_not_called_where_nothing_is_shared(rt: HostRuntime) -> Result<(), Fail> {
+fn the_gate_stands_round_prints_and_the_end_alone_where_nothing_is_shared(
+    rt: HostRuntime,
+) -> Result<(), Fail> {
     let alloc = rt.alloc();
-    let mut files = script(alloc, b"puts 1\nputs 2", Vec::new(alloc))?;
+    let source = b"a = [1]\n100.times { |i| a << i }\nputs a[1]\nputs 2";
+    let mut files = script(alloc, source, Vec::new(alloc))?;
     let words = words(alloc, &["run", "a.rb"])?;
     let out = MemorySink::new(alloc, Vec::new(alloc), ROOM)?;
     let mut err = MemorySink::new(alloc, Vec::new(alloc), ROOM)?;
@@ -285,7 +289,8 @@ fn the_gate_is_not_called_where_nothing_is_shared(rt: HostRuntime) -> Result<(),
         &mut err,
         gate,
     );
-    assert_eq!(rt; report.out.bytes(), b"1\n2\n".as_slice());
-    assert_eq!(rt; kept.calls.load(Ordering::SeqCst), 0);
+    assert_eq!(rt; report.out.bytes(), b"0\n2\n".as_slice());
+    // Before and after each of two prints and the end.
+    assert_eq!(rt; kept.calls.load(Ordering::SeqCst), 6);
     Ok(())
 }

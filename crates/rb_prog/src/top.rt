@@ -3,33 +3,40 @@
 ghost use Rattle.std.specs.Prelude.{◌≡◌, ◌⊎◌, ◌≤◌, ℕ, List, [], Option, Some, None, IfSome, IsSome, map, length, string_bytes};
 ghost use Rattle.std.specs.Process.{exit_status};
 ghost use Rattle.rb_command.specs.Words as asked;
+ghost use Rattle.rb_command.specs.Seen.{work_seen};
 ghost use Rattle.rb_edge.specs.Edge.{Adds, Bytes, Rose, Told};
 ghost use Rattle.rb_model.specs.Values.{Value};
 ghost use Rattle.rb_model.specs.Ends.{over};
 ghost use Rattle.rb_model.specs.Ends as ending;
-ghost use Rattle.rb_prog.specs.Shown.{IsShown, Shown, seen};
+ghost use Rattle.rb_shared.specs.History.{History};
+ghost use Rattle.rb_workload.specs.Script as workload;
+ghost use Rattle.rb_prog.specs.Shown.{IsShown, seen};
 ghost use Rattle.rb_prog.specs.Accepting.{rejected_status, rejected_line};
 ghost use Rattle.rb_prog.specs.Remarks.{usage_line, memory_line};
 ghost use Rattle.rb_prog.specs.Shapes.{shape_lines, TellsLines};
 ghost use Rattle.rb_prog.specs.Run as spec;
-ghost use Rattle.rb_prog.specs.Run.{Accepts, RunsSource, Runs, HasValue, Shows, IsOwnOrMemory};
+ghost use Rattle.rb_prog.specs.Run.{Accepts, RunsSource, Runs, Works, HasValue, Shows, IsOwnOrMemory};
 
-use crate::front::Front;
 use crate::remarks::{
     MEMORY, SINK_FAILED, SOURCE_FAILED, SOURCE_MISSING, USAGE, tell, tell_end, tell_refusal,
 };
 use crate::running::{Run, run_accepted};
 use crate::shapes::{Untold, tell_shapes};
 use crate::source::{Unaccepted, accept};
-use rb_command::{Command, RunWords, command_of};
+use rb_command::{Command, RunWords, WorkWords, command_of};
 use rb_edge::{Files, Gate, ReadFault, Sink, read_source};
 use rb_model::End;
 use rb_tree::Program;
+use rb_workload::script;
 use shape_tree::Tree;
 use std::alloc::Global;
 use std::process::ExitCode;
 use std::sync::{Arc, Wait};
 use std::thread::Threads;
+use turn_store::TurnFront;
+
+/// The steps that a thread may make where no words tell them.
+const STEPS: u64 = 100_000_000;
 
 /// What a run gives back: its status, the sink with all that was written, and the history of the run.
 /// There is no history where nothing was run: with the statuses 2, 3 and 4, and with 8 where no run could begin.
@@ -37,7 +44,7 @@ use std::thread::Threads;
 pub struct Report<K> {
     pub status: u8,
     pub out: K,
-    pub front: Option<Front>,
+    pub front: Option<TurnFront>,
 }
 
 impl<K> Report<K> {
@@ -148,7 +155,7 @@ fn run_source<R: Threads + Wait + Sync, K: Sink + Send + Drop + 'static, E: Sink
     requires { length source.now ≤ 1048577 }
     ensures runs { (line : List ℕ) × RunsSource source.now steps (K.told out) (K.told result.report.out) result.report.status (seen result.report.front) line
         × Told (E.told err.old) (E.told err.new) line (Rose (E.faults err.old) (E.faults err.new)) }
-    ensures value { IfSome result.valued (λ left. (history : Shown) × (value : Value) × (seen result.report.front ≡ Some history) × Accepts source.now left.program
+    ensures value { IfSome result.valued (λ left. (history : History) × (value : Value) × (seen result.report.front ≡ Some history) × Accepts source.now left.program
         × IsShown left.program steps (K.told out) (K.told result.report.out) history (ending.Value value) left.shapes) }
     ensures quiet { IsSome result.valued → Adds (E.told err.old) (E.told err.new) [] }
     ensures other { result.valued ≡ None → result.report.status ≡ 0 → ⊥ }
@@ -181,7 +188,7 @@ fn run_source<R: Threads + Wait + Sync, K: Sink + Send + Drop + 'static, E: Sink
                 valued: value_left(program, shapes, &end),
             }
         }
-        // An accepted program has nothing that is not built, so memory was wanted.
+        // An accepted program has code, so memory was wanted.
         Err(out) => no_value(stopped(8, MEMORY, out, err)),
     }
 }
@@ -197,7 +204,7 @@ fn run_file<
     ensures runs { (line : List ℕ)
         × Runs (F.held files.old words.entry.file.now) (Rose (F.faults files.old) (F.faults files.new)) words.entry.steps (K.told out) (K.told result.report.out) result.report.status (seen result.report.front) line
         × Told (E.told err.old) (E.told err.new) line (Rose (E.faults err.old) (E.faults err.new)) }
-    ensures value { IfSome result.valued (λ left. (history : Shown) × (seen result.report.front ≡ Some history)
+    ensures value { IfSome result.valued (λ left. (history : History) × (seen result.report.front ≡ Some history)
         × HasValue (F.held files.old words.entry.file.now) words.entry.steps (K.told out) (K.told result.report.out) history left.program left.shapes) }
     ensures quiet { IsSome result.valued → Adds (E.told err.old) (E.told err.new) [] }
     ensures other { result.valued ≡ None → result.report.status ≡ 0 → ⊥ }
@@ -224,7 +231,7 @@ fn cut_short<K, E: Sink>(
     status: u8,
     line: &str,
     out: K,
-    front: Option<Front>,
+    front: Option<TurnFront>,
     err: &mut E,
 ) -> Report<K>
     ensures report { result ≡ record { status = status; out = out; front = front } }
@@ -290,10 +297,35 @@ fn show_file<
     }
 }
 
+/// The script for the numbers of the words, made and run.
+fn run_work<R: Threads + Wait + Sync, K: Sink + Send + Drop + 'static, E: Sink, G: Gate + Sync>(
+    rt: &R,
+    alloc: Global,
+    words: WorkWords,
+    out: K,
+    err: &mut E,
+    gate: &G,
+) -> Report<K>
+    ensures works { (line : List ℕ) × Works (work_seen words) (K.told out) (K.told result.out) result.status (seen result.front) line
+        × Told (E.told err.old) (E.told err.new) line (Rose (E.faults err.old) (E.faults err.new)) }
+    ensures cause { result.status ≡ 5 → Rose (K.faults out) (K.faults result.out) }
+    ensures not_usage { result.status ≡ 2 → ⊥ }
+    ensures never_full { result.status ≡ 7 → ⊥ }
+    ensures complete { (program : Program) → Accepts (workload.script words.number words.size) program
+        → (Rose (K.faults out) (K.faults result.out) → ⊥) → IsOwnOrMemory result.status }
+    ensures rises { K.faults out ≤ K.faults result.out }
+    ensures err_rises { E.faults err.old ≤ E.faults err.new }
+{
+    match script(alloc, words.number, words.size) {
+        Ok(text) => run_source(rt, alloc, text.as_slice(), STEPS, out, err, gate).report,
+        Err(_) => stopped(8, MEMORY, out, err),
+    }
+}
+
 /// All that the program does: `run FILE` reads a script, runs it and writes what it prints to `out`; `shapes FILE` does the same, and
-/// where the script ended with a value it writes behind that a line for each shape that the main thread's objects have had. `words` are
-/// the arguments without the program's own name. A thread makes as many steps as `--steps` says at most; what `--heap-words` says has no
-/// effect yet, since what threads share lies in no heap of words.
+/// where the script ended with a value it writes behind that a line for each shape that the main thread's objects have had. `work` runs the
+/// script that the program has for two numbers, and reads no file. `words` are the arguments without the program's own name. A thread makes as
+/// many steps as `--steps` says at most; what `--heap-words` says has no effect yet, since what threads share lies in no heap of words.
 ///
 /// The status is 0 where the script ended with a value and 1 where it raised a fault; 2 where the words are none of the
 /// program's; 3 where the script is refused; 4 where it is missing or could not be read; 5 where `out` failed; 6 where it needed
@@ -328,6 +360,12 @@ pub fn run<
         × Shows (F.held files.old wanted.file) (Rose (F.faults files.old) (F.faults files.new)) wanted.steps (K.told out) (K.told result.out) result.status (seen result.front) line
         × Told (E.told err.old) (E.told err.new) line (Rose (E.faults err.old) (E.faults err.new)) }
 
+    // `work` does and answers what `run` does with the script for its two numbers, and lets the files be.
+    ensures works { (wanted : asked.Work) → asked.command_of (map string_bytes words.now) ≡ Some (asked.work wanted) → (line : List ℕ)
+        × Works wanted (K.told out) (K.told result.out) result.status (seen result.front) line
+        × Told (E.told err.old) (E.told err.new) line (Rose (E.faults err.old) (E.faults err.new)) }
+    ensures fileless { (wanted : asked.Work) → asked.command_of (map string_bytes words.now) ≡ Some (asked.work wanted) → files.new ≡ files.old }
+
     // Status 2 comes only where the words are not the program's. Where they are not, it comes, or memory is wanted, and nothing is
     // done.
     ensures usage { result.status ≡ 2 → asked.command_of (map string_bytes words.now) ≡ None }
@@ -355,6 +393,11 @@ pub fn run<
         → (Rose (F.faults files.old) (F.faults files.new) → ⊥) → (Rose (K.faults out) (K.faults result.out) → ⊥)
         → IsOwnOrMemory result.status }
 
+    ensures works_complete { (wanted : asked.Work) (program : Program) → asked.command_of (map string_bytes words.now) ≡ Some (asked.work wanted)
+        → Accepts (workload.script wanted.number wanted.size) program
+        → (Rose (K.faults out) (K.faults result.out) → ⊥)
+        → IsOwnOrMemory result.status }
+
     // What is held stays, and counts of faults never fall.
     ensures kept { (p : List ℕ) → F.held files.new p ≡ F.held files.old p }
     ensures files_rise { F.faults files.old ≤ F.faults files.new }
@@ -365,6 +408,7 @@ pub fn run<
     match command_of(alloc, words) {
         Ok(Some(Command::Run(words))) => run_file(rt, alloc, words, files, out, err, gate).report,
         Ok(Some(Command::Shapes(words))) => show_file(rt, alloc, words, files, out, err, gate),
+        Ok(Some(Command::Work(words))) => run_work(rt, alloc, words, out, err, gate),
         Ok(None) => stopped(2, USAGE, out, err),
         Err(_) => stopped(8, MEMORY, out, err),
     }

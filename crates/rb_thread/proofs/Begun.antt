@@ -9,7 +9,7 @@ use Rattle.rb_model.specs.Started.{started, ungathered}
 use Rattle.rb_shared.specs.Lists.{Has, Each}
 use Rattle.rb_shared.specs.Asking.{Knows, ids_moved}
 use Rattle.publish_barrier.specs.Absent.{HasLeft}
-use Rattle.publish_barrier.specs.Known.{NotesOf}
+use Rattle.publish_barrier.specs.Known.{with_all_noted}
 use Rattle.rb_shared.specs.View.{View, polled_view, to_globals}
 use Rattle.rb_machine.specs.Scopes.{Script}
 use Rattle.rb_machine.specs.Control.{State}
@@ -22,6 +22,7 @@ use Rattle.rb_thread.specs.Kins.{Kin}
 use Rattle.rb_thread.specs.Alive.{Sound, Spawns, Alive, tells, ended_view, Left}
 use Rattle.rb_thread.proofs.Causes.{memory_cause}
 use Rattle.rb_thread.proofs.Closing.{ends_by}
+use Rattle.rb_thread.proofs.Noting.{all_noted}
 
 -- ---- the machine
 
@@ -57,14 +58,23 @@ each_among v (x ∷ rs) e r (inr h) = each_among v rs e.1 r h
 each_among v [] e r h = absurd h
 
 -- what is noted at the start is known
-pub noted_known : (v w : View) (old rs new : List Ref) → w ≡ polled_view v → Knows v to_globals → Each (Knows v) rs → old ≡ to_globals ∷ [] → NotesOf old rs new → (r : Ref) → Has new r → Knows w r
-noted_known v w old rs new e g k o n r h = subst (λ (x : View). Knows x r) (sym e) (by (n r h)) where
-  by : Has old r ⊎ Has rs r → Knows v r
-  by (inl i) = first (subst (λ xs. Has xs r) o i) where
-    first : Has (to_globals ∷ []) r → Knows v r
-    first (inl q) = subst (Knows v) (sym q) g
-    first (inr x) = absurd x
-  by (inr i) = each_among v rs k r i
+pub noted_known : (v w : View) (refs : List Ref) → w ≡ polled_view v → Each (Knows v) refs → (r : Ref) → Has refs r → Knows w r
+noted_known v w refs e k r h = subst (λ (x : View). Knows x r) (sym e) (each_among v refs k r h)
+
+each_by : {A : Type 0} (P : A → Type 0) (xs : List A) → ((x : A) → Has xs x → P x) → Each P xs
+each_by P [] f = tt
+each_by P (x ∷ xs) f = (f x (inl refl), each_by P xs (λ y h. f y (inr h)))
+
+-- the global variables and what a job tells
+pub told_known : (v : View) (rs new : List Ref) → Knows v to_globals → Each (Knows v) rs → new ≡ with_all_noted (to_globals ∷ []) rs → Each (Knows v) new
+told_known v rs new g k e = each_by (Knows v) new (λ r h. by r (all_noted (to_globals ∷ []) rs r (subst (λ xs. Has xs r) e h))) where
+  first : (r : Ref) → Has (to_globals ∷ []) r → Knows v r
+  first r (inl q) = subst (Knows v) (sym q) g
+  first r (inr x) = absurd x
+
+  by : (r : Ref) → Has (to_globals ∷ []) r ⊎ Has rs r → Knows v r
+  by r (inl i) = first r i
+  by r (inr i) = each_among v rs k r i
 
 pub alive_fresh : {Pass Q Z F : Type 0} (of : Pass → TableId) (view : Pass → View) (kept : Q → Pass → Type 0) (pre : F → Z → HeldJob → Pass → Type 0) (post : F → Z → HeldJob → Pass → Q → Type 0)
     (home : TableId) (S : Script) (N : ℕ) (j : Job) (place : TableId) (v w : View) (own : Private) (number : ℕ) (refs : List Ref) (ks : List (Kin Q)) (f : F) (z : Z)

@@ -1,5 +1,6 @@
 -- Words on calls and answers.
-use Rattle.std.specs.Prelude.{◌≡◌, ℕ, Bool, true, false, List, Option, Some, None}
+use Rattle.std.specs.Prelude.{◌≡◌, ◌≤◌, ℕ, Bool, true, false, List, [], length, Option, Some, None, Vec, vec_capacity}
+use Rattle.std.specs.declared.alloc.Global.{Global}
 use Rattle.rb_model.specs.declared.value.Ref.{Ref}
 use Rattle.rb_model.specs.declared.act.Reply.TheVariants as reply
 use Rattle.rb_model.specs.declared.call.End.{End as HeldEnd}
@@ -9,7 +10,8 @@ use Rattle.rb_model.specs.declared.call.Answer.{Answer as Printed}
 use Rattle.rb_model.specs.declared.call.Answer.TheVariants as printed
 use Rattle.rb_model.specs.Acts.{Act, Join}
 use Rattle.rb_shared.specs.declared.answer.Answer.{Answer}
-use Rattle.rb_shared.specs.Lists.{Each, Has}
+use Rattle.rb_model.specs.Moving.{refs_in_all}
+use Rattle.publish_barrier.specs.Sorts.{all_noted_same}
 use Rattle.rb_thread.specs.declared.job.Job.{Job}
 use Rattle.rb_shared.specs.declared.answer.Answer.TheVariants as answer
 
@@ -39,9 +41,15 @@ printed_as (answer.Full used wanted) = printed.Memory
 printed_as answer.SinkFailed = printed.SinkFailed
 printed_as answer.Memory = printed.Memory
 
--- the job that a call hands over to the thread that it starts, with some of these references
+-- a list with nothing in it has room for a reference for each value that a call gives a thread
+abbrev pub HasRoomFor : Held → Vec Ref Global → Type 0
+HasRoomFor (held.Start id body values) room = (room.items ≡ []) × (length values.items ≤ vec_capacity room)
+HasRoomFor call room = Unit {0}
+
+-- the job that a call hands over to the thread that it starts, with those of these references that its values mention
 abbrev pub IsJobIn : List Ref → Held → ℕ → Option Job → Type 0
-IsJobIn refs (held.Start id body values) number (Some job) = (job.number ≡ number) × (job.body ≡ body) × (job.values ≡ values) × Each (Has refs) job.refs.items
+IsJobIn refs (held.Start id body values) number (Some job) =
+    (job.number ≡ number) × (job.body ≡ body) × (job.values ≡ values) × (job.refs.items ≡ all_noted_same refs (refs_in_all values.items))
 IsJobIn refs (held.Start id body values) number None = ⊥
 IsJobIn refs call number o = o ≡ None
 

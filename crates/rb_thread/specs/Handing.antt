@@ -1,5 +1,5 @@
 -- What a thread hands over, and what it is told.
-use Rattle.std.specs.Prelude.{◌≡◌, List, []}
+use Rattle.std.specs.Prelude.{◌≡◌, List, [], Some}
 use Rattle.rb_model.specs.declared.value.Ref.{Ref}
 use Rattle.rb_model.specs.declared.call.Served.{Served}
 use Rattle.rb_model.specs.declared.call.Served.TheVariants as served
@@ -10,10 +10,15 @@ use Rattle.rb_shared.specs.declared.answer.Answer.{Answer}
 use Rattle.rb_shared.specs.declared.answer.Answer.TheVariants as answer
 use Rattle.rb_shared.specs.Lists.{Has}
 use Rattle.rb_shared.specs.Replies.{Serves}
+use Rattle.publish_barrier.specs.Sorts.{noted_same}
 
 -- a noted reference to the same thing, which the act is for
 abbrev pub IsReceiver : List Ref → Ref → Act → Ref → Type 0
 IsReceiver refs thing act r = (reference r ≡ reference thing) × Has refs r × Serves r.sort act
+
+-- the act is for no noted reference to the same thing
+abbrev pub HasNoReceiver : List Ref → Ref → Act → Type 0
+HasNoReceiver refs thing act = (r : Ref) → noted_same refs thing ≡ Some r → Serves r.sort act → ⊥
 
 -- ---- how an answer of the store is told to the thread
 

@@ -16,7 +16,7 @@ use crate::threaded::Threaded;
 use crate::whose::Whose;
 use local_heap::LocalHeap;
 use publish_barrier::Known;
-use rb_model::{Call, End, Ref, ThreadStore};
+use rb_model::{Call, End, ThreadStore};
 use shape_core::ShapeStore;
 use std::alloc::Global;
 use std::marker::PhantomData;
@@ -33,7 +33,7 @@ impl<
     F: Fn(Z, Job, K::Pass) -> C + Drop,
     J: Whose,
 > Threaded<'e, K, R, T, Z, C, F, J> {
-    /// The store of the thread of this number before its first step, with a heap that has no thing yet. `refs` are the references that
+    /// The store of the thread of this number before its first step, with a heap that has no thing yet. It has noted the references that
     /// its job gives it; its pass knows them.
     pub fn new(
         rt: &'e R,
@@ -41,7 +41,7 @@ impl<
         seat: K,
         number: u64,
         things: LocalHeap<T>,
-        refs: &[Ref],
+        known: Known,
         again: Z,
         spawn: F,
     ) -> Self
@@ -49,15 +49,13 @@ impl<
         requires numbered { number ≡ number_of J.job }
         requires things { things ≡ bare number }
         requires fresh { Fresh J.script J.steps J.job (K.view seat) }
-        requires known { Each (Knows (K.view seat)) refs.now }
+        requires known { Each (Knows (K.view seat)) known.refs }
         requires spawns { Spawns K.of K.seen C.keeps (λ f z j p. F.pre f z j p) (λ f z j p q. F.post f z j p q)
             J.id J.script J.steps (K.view seat) spawn again }
         ensures live { ⟦<Self as ThreadStore>⟧.live result }
         ensures log { (K.view result.seat).log ≡ no_log }
         ensures private { result.things ≡ bare number }
     {
-        let mut known = Known::new(alloc);
-        known.note_all(refs);
         let mut seat = seat;
         seat.poll();
         Threaded {

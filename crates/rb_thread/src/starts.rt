@@ -7,7 +7,7 @@ ghost use Rattle.rb_model.specs.Started.{thread_id};
 ghost use Rattle.rb_model.specs.Moving.{refs_in_all};
 ghost use Rattle.rb_model.specs.Values.{plain};
 ghost use Rattle.rb_shared.specs.Lists.{Each};
-ghost use Rattle.rb_thread.specs.Asking.{number_in, IsJobIn};
+ghost use Rattle.rb_thread.specs.Asking.{number_in, HasRoomFor, IsJobIn};
 ghost use Rattle.publish_barrier.specs.Gathers.{IsAddressed};
 
 use crate::handing::hand_over;
@@ -21,7 +21,6 @@ use publish_barrier::{Known, addressed_all, gather};
 use rb_model::{Call, Id, Ref, Reply, Served, ThreadStore, Value};
 use rb_shared::Answer;
 use shape_core::ShapeStore;
-use std::alloc::Global;
 use std::thread::Threads;
 use thread_calls::Due;
 
@@ -35,15 +34,17 @@ fn started_in(answer: &Answer) -> Option<(u64, Ref)>
     }
 }
 
-/// The job of the thread of this number, which the call started. It knows the noted references to what its values mention.
-fn job_in(alloc: Global, known: &Known, call: Call, number: u64) -> Option<Job>
+/// The job of the thread of this number, which the call started. It knows the noted references to what its values mention, for which there
+/// is room.
+fn job_in(known: &Known, call: Call, number: u64, room: Vec<Ref>) -> Option<Job>
+    requires room { HasRoomFor call room }
     ensures { IsJobIn known.now.refs call number result }
 {
     match call {
         Call::Start(_, body, values) => Some(Job {
             number,
             body,
-            refs: found_in(alloc, known, values.as_slice()),
+            refs: found_in(known, values.as_slice(), room),
             values,
         }),
         _ => None,
@@ -77,6 +78,9 @@ impl<
         if let Err(_) = self.known.reserve(moved.len()) {
             return Served::Memory;
         }
+        let Ok(room) = Vec::with_capacity(self.alloc, values.len()) else {
+            return Served::Memory;
+        };
         let call = Call::Start(id, body, values);
         let answer = hand_over(
             &mut self.seat,
@@ -89,7 +93,7 @@ impl<
         let Some((number, thing)) = started_in(&answer) else {
             return take_in(&mut self.known, answer);
         };
-        let Some(job) = job_in(self.alloc, &self.known, call, number) else {
+        let Some(job) = job_in(&self.known, call, number, room) else {
             unreachable!()
         };
         let next = self.seat.split();

@@ -1,7 +1,6 @@
 // Names and places, by example.
 
-use crate::{Block, Boxed, Items, NameId, Names, Node, Piece, Span, height, line_column, place_of};
-use std::alloc::{AllocError, Global};
+use crate::{NameId, Names, line_column};
 use std::test::Fail;
 
 #[test]
@@ -65,57 +64,5 @@ fn bytes_have_lines_and_columns_from_1(rt: HostRuntime) -> Result<(), Fail> {
             assert_eq!(rt; line_column(source, at), (line, column), "{at}");
         }
     }
-    Ok(())
-}
-
-#[test]
-fn a_node_stands_at_its_own_place(rt: HostRuntime) -> Result<(), Fail> {
-    let inner = Span { from: 4, to: 5 };
-    let outer = Span { from: 0, to: 3 };
-    assert_eq!(rt; place_of(&Node::True(inner)), inner);
-    let not = Node::Not(Boxed::new(rt.alloc(), Node::True(inner))?, outer);
-    assert_eq!(rt; place_of(&not), outer);
-    Ok(())
-}
-
-const AT: Span = Span { from: 0, to: 1 };
-
-/// `!1`
-fn not_one(alloc: Global) -> Result<Node, AllocError> {
-    Ok(Node::Not(Boxed::new(alloc, Node::Int(1, AT))?, AT))
-}
-
-/// `1` and `!1`
-fn one_and_not_one(alloc: Global) -> Result<Items<Node>, AllocError> {
-    let mut nodes = Items::new(alloc);
-    nodes.push(Node::Int(1, AT))?;
-    nodes.push(not_one(alloc)?)?;
-    Ok(nodes)
-}
-
-#[test]
-fn a_node_is_one_higher_than_its_highest_child(rt: HostRuntime) -> Result<(), Fail> {
-    let alloc = rt.alloc();
-    assert_eq!(rt; height(&Node::Int(1, AT)), 1);
-    assert_eq!(rt; height(&not_one(alloc)?), 2);
-    assert_eq!(rt; height(&Node::Array(Items::new(alloc), AT)), 1);
-    assert_eq!(rt; height(&Node::Array(one_and_not_one(alloc)?, AT)), 3);
-    let mut pieces = Items::new(alloc);
-    pieces.push(Piece::Text(Items::new(alloc)))?;
-    pieces.push(Piece::Code(not_one(alloc)?))?;
-    assert_eq!(rt; height(&Node::Str(pieces, AT)), 3);
-    let block = Block {
-        params: Items::new(alloc),
-        body: one_and_not_one(alloc)?,
-        at: AT,
-    };
-    let call = Node::Call {
-        receiver: Some(Boxed::new(alloc, Node::Nil(AT))?),
-        name: NameId(0),
-        args: Items::new(alloc),
-        block: Some(Boxed::new(alloc, block)?),
-        at: AT,
-    };
-    assert_eq!(rt; height(&call), 3);
     Ok(())
 }

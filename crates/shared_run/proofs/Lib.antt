@@ -9,3 +9,4 @@ pub mod Enters
 pub mod Starting
 pub mod Pointed
 pub mod Points
+pub mod Sinking

@@ -1,11 +1,11 @@
 -- The run so far, and what is known of it.
-use Rattle.std.specs.Prelude.{◌≡◌, ◌≤◌, ◌<◌, ◌+◌, ◌^◌, ◌⊎◌, ℕ, zero, suc, Bool, true, false, List, [], ◌∷◌, ◌++◌, length, Option, Some, None}
+use Rattle.std.specs.Prelude.{◌≡◌, ◌≤◌, ◌<◌, ◌+◌, ◌^◌, ◌⊎◌, ℕ, zero, suc, Bool, true, false, List, [], ◌∷◌, ◌++◌, length, take, Option, Some, None}
 use Rattle.std.specs.List.{flat_map}
 use Rattle.std.specs.Option.{ForSome}
 use Rattle.rb_edge.specs.Edge.{Adds, Rose}
 use Rattle.rb_model.specs.declared.value.Id.{Id}
 use Rattle.rb_model.specs.Ends.{End as Ending}
-use Rattle.rb_model.specs.Log.{Entry, Refusal, Log, fresh, has_end}
+use Rattle.rb_model.specs.Log.{Call, Entry, Refusal, Log, fresh, has_end, printed}
 use Rattle.rb_model.specs.Private.{Item}
 use Rattle.rb_model.specs.Started.{started, started_by, thread_id}
 use Rattle.rb_model.specs.Things.{ThreadState, Thread}
@@ -212,3 +212,17 @@ pub record Stands (Overflows : ℕ → ℕ → Type 0) (begun : Sunk) (events : 
   pub whole : sink.failed ≡ false → rest ≡ []
   pub front : (rest ≡ []) ⊎ IsFront (all_refused refusals) rest
   pub refused : (r : Refusal) → Has (all_refused refusals) r → IsMeant Overflows sink.failed r.words
+
+-- ---- what the sink did
+
+-- a call prints nothing, or its bytes come behind the others where the sink had not failed
+abbrev pub SinkDid : Call → Sunk → Sunk → Type 0
+SinkDid call old new =
+    (old.faults ≤ new.faults) × (new.failed ≡ old.failed)
+    × (((printed call ≡ []) × (new.told ≡ old.told)) ⊎ ((old.failed ≡ false) × Adds old.told new.told (printed call)))
+
+-- the sink took nothing, since it had failed; or it failed, and took a front of what was to be printed
+abbrev pub SinkRefused : Call → Sunk → Sunk → Type 0
+SinkRefused call old new = (old.faults ≤ new.faults) × (new.failed ≡ true)
+    × (((old.failed ≡ true) × (new.told ≡ old.told))
+    ⊎ ((old.failed ≡ false) × Rose old.faults new.faults × ((n : ℕ) × (n < length (printed call)) × Adds old.told new.told (take n (printed call)))))

@@ -1,4 +1,5 @@
 pub mod Cutting
 pub mod Telling
 pub mod Blames
+pub mod Single
 pub mod Running

@@ -12,6 +12,7 @@ use Rattle.rb_thread.specs.Family.{Main, start_of}
 use Rattle.rb_thread.specs.Alive.{Left}
 use Rattle.thread_run.specs.Run.{EachFollows, IsRunOf}
 use Rattle.thread_run.proofs.Telling.{each_follows, ends_with, main_ends}
+use Rattle.thread_run.proofs.Single.{is_alone, keeps_to_itself}
 use Rattle.thread_run.proofs.Blames.{HaveCauses, ends_come_from_somewhere}
 
 -- each thread that does what the reference thread does ends so, and its end has its cause
@@ -28,4 +29,6 @@ is_run program N slots old new v h how shapes left l s w =
       main = main;
       written = w;
       cause = λ words. ends_come_from_somewhere slots h l (have_causes slots (script_of program) N h l follows) 0 main.thread how words main.first main.ends;
+      alone = is_alone program N slots h how shapes l main;
+      own = keeps_to_itself program N slots h how shapes l main;
     }

@@ -1,4 +1,3 @@
-mod Sinking
 mod Keeps
 mod Passing
 mod Closes

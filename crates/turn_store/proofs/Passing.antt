@@ -1,12 +1,11 @@
 -- What notes, the start of a run, split passes and joined passes leave of the rule.
-use Rattle.std.proofs.Common.{◌≡◌, ◌⊎◌, ℕ, zero, suc, true, false, List, [], ◌∷◌, ◌++◌, length, set, Option, Some, None, refl, sym, ap, ◌∙◌, subst, inl, inr, ⊎_elim, append-nil, true≢false, arith, slice_index}
+use Rattle.std.proofs.Common.{◌≡◌, ◌⊎◌, ℕ, zero, suc, true, false, List, [], ◌∷◌, ◌++◌, length, set, Option, Some, None, refl, sym, ap, ◌∙◌, subst, inl, inr, ⊎_elim, true≢false, slice_index}
 use mathlib.Core.Option.{some, none, some-injective, some-ne-none}
 use mathlib.Core.Logic.{dite}
 use native.Mathlib.Decide.{ℕ_discrete}
 use lib.ListN.{get_elem?}
 use Rattle.atomic_table.specs.Table.{State, Me, Act, keeps, stepped, Allows, Splits, Joins, Valid, carried_after, opening}
 use Rattle.atomic_table.proofs.Lists.{set_else, at_longer}
-use Rattle.rb_edge.specs.Edge.{Adds}
 use Rattle.rb_shared.specs.History.{History}
 use Rattle.rb_shared.specs.Store.{Store, globals}
 use Rattle.rb_shared.specs.Store as store
@@ -16,24 +15,9 @@ use Rattle.turn_store.specs.Holding.{Found, Holder, main_holder, spent_holder, w
 use Rattle.turn_store.specs.Turns.{Never, At, Claims, Apart, ShowsRun, Free, Taken, Kept, Noted}
 use Rattle.shared_run.specs.Run.{IsNote}
 use Rattle.shared_run.proofs.Starting.{first_run, first_is_run, first_knows}
+use Rattle.shared_run.proofs.Sinking.{first_stands}
 use Rattle.shared_run.proofs.Knowing.{noted, maker_knows, newborn_knows, joined_knows}
 use Rattle.turn_store.proofs.Keeps.{each_set, each_snoc, apart_set, set_there, one_holder, note_claims, note_ended}
-
--- nothing was printed and nothing refused
-pub first_stands : (begun : Sunk) → begun.failed ≡ false → Stands Never begun first_run.events first_run.refusals begun
-first_stands begun fine = record {
-  rest = [];
-  told = same begun.told;
-  rises = omega arith;
-  cause = λ h. absurd (true≢false (sym h ∙ fine));
-  whole = λ h. refl;
-  front = inl refl;
-  refused = λ r h. absurd h;
-}
-  where
-    same : (o : Option (List ℕ)) → Adds o o []
-    same None = tt
-    same (Some l) = sym (append-nil l)
 
 module _ {S : Type 0} (store_of : S → Store) (sink_of : S → Sunk) (slots : ℕ) (begun : Sunk) where
   abbrev St : Type 0
@@ -60,7 +44,7 @@ module _ {S : Type 0} (store_of : S → Store) (sink_of : S → Sunk) (slots : �
       word = refl;
       value = y;
       home = refl;
-      is_of = (same, subst (Stands Never begun first_run.events first_run.refusals) (sym sunk) (first_stands begun fine));
+      is_of = (same, subst (Stands Never begun first_run.events first_run.refusals) (sym sunk) (first_stands Never begun fine));
       none_holds = λ j k at. ap (λ (u : Holder). u.holding) (sym (only j k at).1);
     };
   }

@@ -16,8 +16,7 @@ use Rattle.thing_store.specs.Counted.{StartsNew}
 use Rattle.turn_store.specs.declared.slot.Attempt.{Attempt}
 use Rattle.turn_store.specs.declared.slot.Attempt.TheVariants as attempt
 use Rattle.turn_store.specs.declared.slot.Slot.{Slot}
-use Rattle.shared_run.specs.Run.{Sunk}
-use Rattle.turn_store.specs.Turns.{SinkDid, SinkRefused}
+use Rattle.shared_run.specs.Run.{Sunk, SinkDid, SinkRefused}
 
 -- a thread of another number
 abbrev pub another : ℕ → ℕ

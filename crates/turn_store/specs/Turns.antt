@@ -1,11 +1,10 @@
 -- The rule of the turn word and its slot, and what each step tells.
-use Rattle.std.specs.Prelude.{◌≡◌, ◌≢◌, ◌≤◌, ◌<◌, ◌⊎◌, ℕ, true, false, List, [], ◌∷◌, length, take, Some, None}
+use Rattle.std.specs.Prelude.{◌≡◌, ◌≢◌, ◌⊎◌, ℕ, true, false, List, [], ◌∷◌, Some, None}
 use mathlib.Core.Option.{some, none}
 use lib.ListN.{get_elem?}
 use Rattle.atomic_table.specs.Table.{State, Me, rest}
-use Rattle.rb_edge.specs.Edge.{Adds, Rose}
 use Rattle.rb_model.specs.declared.value.Ref.{Ref}
-use Rattle.rb_model.specs.Log.{Call, Entry, has_end, printed}
+use Rattle.rb_model.specs.Log.{Call, Entry, has_end}
 use Rattle.rb_model.specs.Private.{Item}
 use Rattle.rb_shared.specs.History.{History, by}
 use Rattle.rb_shared.specs.Lists.{Each}
@@ -14,7 +13,7 @@ use Rattle.rb_shared.specs.Step.{Steps}
 use Rattle.rb_shared.specs.Store.{Store}
 use Rattle.rb_shared.specs.View.{View, with_entry, with_refused}
 use Rattle.turn_store.specs.Holding.{Found, Holder, with_found, with_view, released}
-use Rattle.shared_run.specs.Run.{Run, Sunk, IsNote, IsRun, IsThread, Knows, MayEnter, Stands}
+use Rattle.shared_run.specs.Run.{Run, Sunk, SinkDid, SinkRefused, IsNote, IsRun, IsThread, Knows, MayEnter, Stands}
 use Rattle.shared_run.specs.Standing.{NamesHeld}
 
 -- no words in use and asked for are more than there are
@@ -121,20 +120,6 @@ module _ {S : Type 0} where
   -- a live seat that has nothing in hand
   abbrev pub IsAtRest : Me S Holder → Type 0
   IsAtRest m = (m.1 ≡ []) × (m.0.holding ≡ None) × (m.0.live ≡ true)
-
--- ---- what the sink did
-
--- a call prints nothing, or its bytes come behind the others where the sink had not failed
-abbrev pub SinkDid : Call → Sunk → Sunk → Type 0
-SinkDid call old new =
-    (old.faults ≤ new.faults) × (new.failed ≡ old.failed)
-    × (((printed call ≡ []) × (new.told ≡ old.told)) ⊎ ((old.failed ≡ false) × Adds old.told new.told (printed call)))
-
--- the sink took nothing, since it had failed; or it failed, and took a front of what was to be printed
-abbrev pub SinkRefused : Call → Sunk → Sunk → Type 0
-SinkRefused call old new = (old.faults ≤ new.faults) × (new.failed ≡ true)
-    × (((old.failed ≡ true) × (new.told ≡ old.told))
-    ⊎ ((old.failed ≡ false) × Rose old.faults new.faults × ((n : ℕ) × (n < length (printed call)) × Adds old.told new.told (take n (printed call)))))
 
 module _ {S : Type 0} (store_of : S → Store) (sink_of : S → Sunk) where
   -- a slot is what an entry of thread t makes of what was found, and has the things that these references name

@@ -1,4 +1,5 @@
-// What is shared: things that are not the thread's own, global variables, and threads that are started.
+// What is shared: things that are not the thread's own, global variables, and threads that are started. The ways here are said to be cold, so that what
+// is private costs less beside them.
 
 ghost use Rattle.std.specs.Prelude.{◌≡◌, ◌≤◌, [], length, map, Some, None, IfErr, IfOk};
 ghost use Rattle.rb_model.specs.Values.{plain};
@@ -77,6 +78,7 @@ impl<'p, O: ThreadStore + Drop> Walker<'p, O> {
     }
 
     /// What a thing replies that is not the thread's own. Where no reply comes the thread ends.
+    #[cold]
     #[inline(never)]
     pub(super) fn reply_of(&mut self, thing: Ref, act: Act) -> Result<Reply, Came>
         requires shared { held (O.private self.old.store) thing.id ≡ None }
@@ -95,6 +97,7 @@ impl<'p, O: ThreadStore + Drop> Walker<'p, O> {
     }
 
     /// Asks a thing that is not the thread's own for a value, which the walker does not keep.
+    #[cold]
     #[inline(never)]
     pub(super) fn fetch_shared(&mut self, thing: Ref, act: Act, at: Span) -> Result<Value, Came>
         requires shared { held (O.private self.old.store) thing.id ≡ None }
@@ -111,6 +114,7 @@ impl<'p, O: ThreadStore + Drop> Walker<'p, O> {
     }
 
     /// Asks something of a thing that is not the thread's own.
+    #[cold]
     #[inline(never)]
     pub(super) fn ask_shared(&mut self, thing: Ref, act: Act, at: Span) -> Came
         requires shared { held (O.private self.old.store) thing.id ≡ None }
@@ -127,6 +131,7 @@ impl<'p, O: ThreadStore + Drop> Walker<'p, O> {
 
     /// A global variable, or an assignment to one, whose step is counted.
     #[cycle(walk)]
+    #[cold]
     #[inline(never)]
     pub(super) fn begin_global(&mut self, code: &'p Code, depth: u32, room: &mut [Value]) -> Came
         ensures base { self.new.base ≡ self.old.base }
@@ -149,6 +154,7 @@ impl<'p, O: ThreadStore + Drop> Walker<'p, O> {
 
     /// The start of a thread, whose step is counted: its arguments first.
     #[cycle(walk)]
+    #[cold]
     #[inline(never)]
     pub(super) fn begin_thread(
         &mut self,
@@ -220,6 +226,7 @@ impl<'p, O: ThreadStore + Drop> Walker<'p, O> {
 
     /// The block of `synchronize`: its mutex is taken first, and given back behind it.
     #[cycle(walk)]
+    #[cold]
     #[inline(never)]
     pub(super) fn synchronize(
         &mut self,

@@ -1,10 +1,14 @@
 // Scripts with threads and global variables, whose output is the same in every order of their threads' steps.
 
+use super::super::{Outcome, ran, script};
 use super::{Row, all_hold};
+use std::alloc::Global;
+use std::sync::Wait;
 use std::test::Fail;
+use std::thread::Threads;
 
 /// Threads, what they give and are given, and global variables.
-const THREADS: [Row; 17] = [
+const THREADS: [Row; 22] = [
     // Global variables.
     ("puts $a", "\n", ""),
     ("$a = 1\n$a += 2\n$b ||= $a\nputs $a, $b", "3\n3\n", ""),
@@ -39,9 +43,31 @@ const THREADS: [Row; 17] = [
         "",
     ),
     (
-        "$n = 0\n200.times { |i| Thread.new { $n += i }.join }\nputs $n",
-        "19900\n",
+        "$n = 0\n1000.times { |i| Thread.new { $n += i }.join }\nputs $n",
+        "499500\n",
         "",
+    ),
+    // A thread that ends takes over the threads that it started, joined or not, and two may join one thread.
+    (
+        "$a = 0\n$b = 0\nt = Thread.new do\n  Thread.new { $a = 1 }\n  Thread.new { $b = 2 }\n  nil\nend\nt.join\nputs $a + $b",
+        "3\n",
+        "",
+    ),
+    (
+        "$t = Thread.new { 5 }\nu = Thread.new { $t.value + 1 }\nv = Thread.new { $t.value + 2 }\nputs u.value + v.value + $t.value",
+        "18\n",
+        "",
+    ),
+    // Threads inside each other, as many as there may be, and one more.
+    (
+        "def f(n)\n  if n == 0\n    0\n  else\n    Thread.new { f(n - 1) }.value + 1\n  end\nend\nputs f(15)",
+        "15\n",
+        "",
+    ),
+    (
+        "def f(n)\n  if n == 0\n    0\n  else\n    Thread.new { f(n - 1) }.value + 1\n  end\nend\nputs f(16)",
+        "",
+        "fault ThreadLimit at 5:12",
     ),
     // Fifteen threads beside the main one, and a sixteenth.
     ("15.times { Thread.new { 1 } }\nputs 1", "1\n", ""),
@@ -66,6 +92,11 @@ const THREADS: [Row; 17] = [
         "def f(n)\n  f(n + 1)\nend\nThread.new { f(0) }.join",
         "",
         "fault TooDeep at 2:5",
+    ),
+    (
+        "t = Thread.new { Thread.new { 1 / 0 }.value }\nu = Thread.new { t.value }\nputs 1\nu.join",
+        "1\n",
+        "fault ZeroDivision at 1:33",
     ),
 ];
 
@@ -243,6 +274,66 @@ const THINGS: [Row; 36] = [
         "",
     ),
 ];
+
+/// Threads that end early, with a thousand steps each: the script, the writes that fail, the status, what the line says, and how many bytes
+/// are written.
+const EARLY: [(&str, &[u64], u8, &str, usize); 4] = [
+    (
+        "t = Thread.new { while true\nend }\nputs 1",
+        &[],
+        6,
+        "rbso: steps 1000\n",
+        2,
+    ),
+    (
+        "Thread.new { while true\nend }.join\nputs 1",
+        &[],
+        6,
+        "rbso: steps 1000\n",
+        0,
+    ),
+    (
+        "t = Thread.new { puts 1 }\nt.join\nputs 2",
+        &[1],
+        5,
+        "rbso: sink failed\n",
+        0,
+    ),
+    (
+        "3.times { |i| Thread.new { 20.times { puts i } } }",
+        &[7],
+        5,
+        "rbso: sink failed\n",
+        12,
+    ),
+];
+
+/// Whether a script ends early as its row says.
+fn ends_early<R: Threads + Wait + Sync>(
+    rt: &R,
+    alloc: Global,
+    row: &(&str, &[u64], u8, &str, usize),
+) -> Result<bool, Fail> {
+    let (source, failing, status, line, written) = row;
+    let mut files = script(alloc, source.as_bytes(), Vec::new(alloc))?;
+    let words = ["run", "--steps=1000", "a.rb"];
+    let failing = Vec::from_slice(alloc, failing)?;
+    let Outcome { report, err } = ran(rt, alloc, &words, &mut files, failing)?;
+    Ok(
+        report.status == *status
+            && err.bytes() == line.as_bytes()
+            && report.out.bytes().len() == *written,
+    )
+}
+
+#[test]
+fn threads_that_end_early_end_the_run_so(rt: HostRuntime) -> Result<(), Fail> {
+    for row in EARLY.iter() {
+        let source = row.0;
+        assert!(rt; ends_early(&rt, rt.alloc(), row)?, "{source}");
+    }
+    Ok(())
+}
 
 #[test]
 fn threads_do_what_the_script_says(rt: HostRuntime) -> Result<(), Fail> {

@@ -23,4 +23,4 @@ returns-clause-served g c =
     let next : id ≡ next_thread own.thread v.log =
     here ∙ (next_id_is c.args.self.now.number (length c.args.self.now.kids.0) l.sound l.numbered refl ∙ ap (λ t. next_thread t v.log) (l.sound.thread_is ∙ sym l.mine)) in
     served_as_call c.launch.result c.args.step (Start id c.args.body (map plain c.in-Some.values.items)) (Start (next_thread own.thread v.log) c.args.body (map plain c.args.values.items)) v.log (g.K.Seat.view c.launch.new.self.seat).log own c.launch.new.self.things
-    (λ i. Start (next i) c.args.body (c.in-Some.ensures.0 i)) c.launch.ensures.served
+    (λ i. Start (next i) c.args.body (c.in-Some.ensures.same.0 i)) c.launch.ensures.served

@@ -40,7 +40,7 @@ returns-in-Done-clause-closes g c =
     subst (λ rs. seats.Hands (view c.args.self.now.seat) c.args.step (held.End (held_end.Value c.in-Some.value)) c.in-Ok.moved c.args.self.now.things rs c.hand_over-answer.result (view c.hand_over-answer.new.seat) c.hand_over-answer.new.things
     c.hand_over-answer.new.known.refs) c.reserve.ensures.refs c.hand_over-answer.ensures.hands in
     closes_done (view c.args.self.now.seat) (view c.hand_over-answer.new.seat) c.args.step c.args.self.now.things c.args.self.now.known.refs (plain c.args.value) c.in-Some.value c.in-Ok.moved c.hand_over-answer.result c.hand_over-answer.new.things
-    c.hand_over-answer.new.known.refs c.in-Some.ensures.0 c.in-Ok.ensures.leaves hands c.in-Done.field-0 (over c.end_in.result) c.in-Done.is (c.end_in.ensures (ending.Value (plain c.in-Some.value)) refl)
+    c.hand_over-answer.new.known.refs c.in-Some.ensures.same.0 c.in-Ok.ensures.leaves hands c.in-Done.field-0 (over c.end_in.result) c.in-Done.is (c.end_in.ensures (ending.Value (plain c.in-Some.value)) refl)
 
 pub returns-in-Full-clause-closes : goal.returns-in-Full-clause-closes
 returns-in-Full-clause-closes g c =
@@ -49,7 +49,7 @@ returns-in-Full-clause-closes g c =
     subst (λ rs. seats.Hands (view c.args.self.now.seat) c.args.step (held.End (held_end.Value c.in-Some.value)) c.in-Ok.moved c.args.self.now.things rs c.hand_over-answer.result (view c.hand_over-answer.new.seat) c.hand_over-answer.new.things
     c.hand_over-answer.new.known.refs) c.reserve.ensures.refs c.hand_over-answer.ensures.hands in
     closes_full (view c.args.self.now.seat) (view c.hand_over-answer.new.seat) c.args.step c.args.self.now.things c.args.self.now.known.refs (plain c.args.value) c.in-Some.value c.in-Ok.moved c.hand_over-answer.result c.hand_over-answer.new.things
-    c.hand_over-answer.new.known.refs c.in-Some.ensures.0 c.in-Ok.ensures.leaves hands c.in-Full.used c.in-Full.asked (view c.end_surely-in-Full.new.self.seat) c.end_surely-in-Full.new.self.things (over c.end_surely-in-Full.result) c.in-Full.is
+    c.hand_over-answer.new.known.refs c.in-Some.ensures.same.0 c.in-Ok.ensures.leaves hands c.in-Full.used c.in-Full.asked (view c.end_surely-in-Full.new.self.seat) c.end_surely-in-Full.new.self.things (over c.end_surely-in-Full.result) c.in-Full.is
     c.end_surely-in-Full.ensures.things c.end_surely-in-Full.ensures.view c.end_surely-in-Full.ensures.end
 
 pub returns-in-Memory-clause-closes : goal.returns-in-Memory-clause-closes
@@ -59,5 +59,5 @@ returns-in-Memory-clause-closes g c =
     subst (λ rs. seats.Hands (view c.args.self.now.seat) c.args.step (held.End (held_end.Value c.in-Some.value)) c.in-Ok.moved c.args.self.now.things rs c.hand_over-answer.result (view c.hand_over-answer.new.seat) c.hand_over-answer.new.things
     c.hand_over-answer.new.known.refs) c.reserve.ensures.refs c.hand_over-answer.ensures.hands in
     closes_memory (view c.args.self.now.seat) (view c.hand_over-answer.new.seat) c.args.step c.args.self.now.things c.args.self.now.known.refs (plain c.args.value) c.in-Some.value c.in-Ok.moved c.hand_over-answer.result c.hand_over-answer.new.things
-    c.hand_over-answer.new.known.refs c.in-Some.ensures.0 c.in-Ok.ensures.leaves hands (view c.end_surely-in-Memory.new.self.seat) c.end_surely-in-Memory.new.self.things (over c.end_surely-in-Memory.result) c.in-Memory.is
+    c.hand_over-answer.new.known.refs c.in-Some.ensures.same.0 c.in-Ok.ensures.leaves hands (view c.end_surely-in-Memory.new.self.seat) c.end_surely-in-Memory.new.self.things (over c.end_surely-in-Memory.result) c.in-Memory.is
     c.end_surely-in-Memory.ensures.things c.end_surely-in-Memory.ensures.view c.end_surely-in-Memory.ensures.end

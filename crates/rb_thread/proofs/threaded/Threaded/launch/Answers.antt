@@ -9,9 +9,10 @@ use Rattle.rb_model.specs.Moving.{items_of, ref_of, refs_in_all}
 use Rattle.publish_barrier.specs.Gathers.{Gathers}
 use Rattle.rb_model.specs.Values.{plain}
 use Rattle.rb_shared.specs.Asking.{Knows}
-use Rattle.rb_shared.specs.Lists.{Has}
+use Rattle.rb_shared.specs.Lists.{Each, Has}
 use Rattle.rb_shared.specs.View.{newborn, polled_view, rested_view, View}
 use Rattle.publish_barrier.proofs.Leaving.{leaves_private}
+use Rattle.publish_barrier.proofs.Noting.{all_same_there}
 use Rattle.rb_thread.specs.Family.{Body, job_of}
 use Rattle.rb_thread.specs.Seats as seats
 use Rattle.rb_thread.proofs.Lines.{is_none_by}
@@ -73,7 +74,8 @@ spawn-child-requires g c =
     let began_so =
     subst (λ (o : Vec Value Global). Began v w c.args.step c.args.id job.body (map plain o.items) (items_of ms) (map ref_of hands.0) c.in-Some.number c.in-Some.thing) (sym is.2) began_body in
     let knows = knows_handed v w c.args.step call ms a hands.0 own refs c.hand_over-answer.new.things c.hand_over-answer.new.known.refs refl l.known hands.1 hands.2 in
-    let known = each_of (Has c.hand_over-answer.new.known.refs) (Knows w) job.refs.items knows is.3 in
+    let there = subst (Each (Has c.hand_over-answer.new.known.refs)) (sym is.3) (all_same_there c.hand_over-answer.new.known.refs (refs_in_all c.args.values.items)) in
+    let known = each_of (Has c.hand_over-answer.new.known.refs) (Knows w) job.refs.items knows there in
     let may = alive_child c.split-next.result job l began_so is.0 (c.split-next.ensures.made_of ∙ (c.hand_over-answer.ensures.home ∙ l.home_is)) made known in
     let pre = may.0 in
     search rules
@@ -134,7 +136,8 @@ returns-clause-live g c =
     let began_so =
     subst (λ (o : Vec Value Global). Began v w c.args.step c.args.id job.body (map plain o.items) (items_of ms) (map ref_of hands.0) c.in-Some.number c.in-Some.thing) (sym is.2) began_body in
     let knows = knows_handed v w c.args.step call ms a hands.0 own refs c.hand_over-answer.new.things c.hand_over-answer.new.known.refs refl l.known hands.1 hands.2 in
-    let known = each_of (Has c.hand_over-answer.new.known.refs) (Knows w) job.refs.items knows is.3 in
+    let there = subst (Each (Has c.hand_over-answer.new.known.refs)) (sym is.3) (all_same_there c.hand_over-answer.new.known.refs (refs_in_all c.args.values.items)) in
+    let known = each_of (Has c.hand_over-answer.new.known.refs) (Knows w) job.refs.items knows there in
     let may = alive_child c.split-next.result job l began_so is.0 (c.split-next.ensures.made_of ∙ (c.hand_over-answer.ensures.home ∙ l.home_is)) made known in
     alive_begun c.spawn-child.result (job_of job) l (c.poll.ensures.home ∙ (c.rest.ensures.home ∙ (c.split-next.ensures.home ∙ c.hand_over-answer.ensures.home))) b
     (c.requires.next ∙ next_id_is c.args.self.now.number (length c.args.self.now.kids.0) l.sound l.numbered refl)

@@ -6,5 +6,5 @@ pub returns-clause-live : goal.returns-clause-live
 returns-clause-live g c =
     let v = g.K.Seat.view c.args.seat in
     let w = g.K.Seat.view c.poll.new.self in
-    alive_fresh _ _ _ _ _ _ _ _ _ _ v w c.args.things c.args.number c.note_all.new.self.refs c.new.result.0 _ _ (c.poll.ensures.home ∙ c.requires.home) c.requires.numbered c.requires.things c.requires.fresh c.poll.ensures.view c.new.ensures
-    (noted_known v w c.new-known.result.refs c.args.refs.now c.note_all.new.self.refs c.poll.ensures.view c.requires.fresh.globals c.requires.known c.new-known.ensures c.note_all.ensures) c.requires.spawns
+    alive_fresh _ _ _ _ _ _ _ _ _ _ v w c.args.things c.args.number c.args.known.refs c.new.result.0 _ _ (c.poll.ensures.home ∙ c.requires.home) c.requires.numbered c.requires.things c.requires.fresh c.poll.ensures.view c.new.ensures
+    (noted_known v w c.args.known.refs c.poll.ensures.view c.requires.known) c.requires.spawns

@@ -1,0 +1,7 @@
+$x = 0
+y = 0
+i = 0
+while i < 1000000
+  i += 1
+end
+puts i

@@ -1,0 +1,9 @@
+pub mod Layers
+pub mod Kept
+pub mod There
+pub mod Bodies
+pub mod Whole
+pub mod Paid
+pub mod Placed
+pub mod Accepted
+pub mod Examples

@@ -1,0 +1,4 @@
+pub mod Mentions
+pub mod Closure
+pub mod Sharing
+pub mod Laws

@@ -1,8 +1,0 @@
-use Rattle.rb_model.specs.Log.{asked}
-use Rattle.rb_store.proofs.store.MainStore.print.Given as goal
-
-abbrev pub ghosts-add : goal.ghosts-add
-ghosts-add g a = record { step = a.step; call = asked a.call.now }
-
-abbrev pub ghosts-refuse : goal.ghosts-refuse
-ghosts-refuse g a = record { step = 0; call = asked a.call.now }

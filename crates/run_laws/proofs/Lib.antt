@@ -1,0 +1,13 @@
+pub mod Lists
+pub mod Own
+pub mod Merging
+pub mod Stores
+pub mod Beginning
+pub mod Closed
+pub mod Order
+pub mod Apart
+pub mod Single
+pub mod Quiet
+pub mod Joint
+pub mod Beside
+pub mod Examples
