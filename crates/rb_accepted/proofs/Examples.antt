@@ -9,13 +9,15 @@ use Rattle.rb_grammar.specs.Grammar.{rule}
 use Rattle.rb_grammar.specs.Program.{program_of, IsProgram}
 use Rattle.rb_grammar.proofs.Whole.{script_sound_in_turns}
 use Rattle.rb_accepted.specs.Laws.{AreOrdered}
+use Rattle.rb_accepted.specs.Coded.{has_code}
 use Rattle.rb_accepted.proofs.Accepted.{accepted_has_all}
+use Rattle.rb_accepted.proofs.Coded.{accepted_has_code}
 
 abbrev tokens : List Token
 tokens = record { kind = kind.End; at = record { from = 0; to = 0 }; spaced = true } ∷ []
 
 ordered : AreOrdered tokens
-ordered = record { from = 0; to = 0; stand = (lit≤ tt, lit≤ tt, lit≤ tt); ends = refl; long = (λ other. absurd (other refl), tt) }
+ordered = record { from = 0; to = 0; stand = (lit≤ tt, lit≤ tt, lit≤ tt); ends = refl; long = (λ other. absurd (other refl), tt); words = (tt, tt) }
 
 spelled : IsProgram 2 0 tokens (program_of no_items)
 unfolding rule
@@ -26,3 +28,6 @@ no_fault = refl
 
 nothing_missing : first_unbuilt (program_of no_items) ≡ None
 nothing_missing = accepted_has_all 2 0 tokens (program_of no_items) ordered spelled no_fault
+
+it_has_code : has_code (program_of no_items) ≡ true
+it_has_code = accepted_has_code 2 0 tokens (program_of no_items) ordered spelled no_fault

@@ -4,7 +4,7 @@ use rb_tree::{NameId, Span};
 
 /// What stands round a part of the text.
 #[derive(Clone, Copy, Debug, PartialEq, Eq)]
-pub(crate) enum Around {
+pub enum Around {
     Loop,
     /// The block of a call, which has a scope of its own.
     Block,
@@ -16,7 +16,7 @@ pub(crate) enum Around {
 
 /// Something that a rule speaks of.
 #[derive(Clone, Copy, Debug, PartialEq, Eq)]
-pub(crate) enum Sight {
+pub enum Sight {
     /// Something begins that stands round what follows, up to its end.
     Begins(Around),
     Ends,
@@ -42,7 +42,7 @@ pub(crate) enum Sight {
 
 /// A sight at its place.
 #[derive(Clone, Copy, Debug, PartialEq, Eq)]
-pub(crate) struct Event {
+pub struct Event {
     pub sight: Sight,
     pub at: Span,
 }

@@ -25,7 +25,9 @@ mod unsettled;
 mod walking;
 mod whole;
 
+pub use event::{Around, Event, Sight};
 pub use fault::CheckFault;
+pub use locals::{Local, Usage};
 pub use naming::{ScopeNames, names_of_scopes};
 pub use threads::{ThreadNames, names_of_threads};
 pub use whole::{CheckError, check};

@@ -11,14 +11,14 @@ use std::collections::HashSet;
 /// A local: the number of its name, and the place of the block whose scope it belongs to; none for the scope of a method or of the
 /// top level.
 #[derive(Clone, Copy, Debug, PartialEq, Eq, Hash)]
-pub(crate) struct Local {
+pub struct Local {
     pub name: u32,
     pub scope: Option<u32>,
 }
 
 /// How a local is used.
 #[derive(Clone, Copy, Debug, PartialEq, Eq)]
-pub(crate) enum Usage {
+pub enum Usage {
     Assigned,
     Param,
     Read,
