@@ -4,3 +4,4 @@ pub mod Numbered
 pub mod Fitted
 pub mod Rows
 pub mod Started
+pub mod Built

@@ -5,6 +5,7 @@ use Rattle.std.specs.Str.{bytes_eq}
 use Rattle.rb_tree.specs.declared.node.Class.{Class}
 use Rattle.rb_tree.specs.declared.node.Method.{Method}
 use Rattle.rb_machine.specs.Scopes.{Text, name_text}
+use Rattle.rb_accepted.specs.Coded.{begins_word}
 use Rattle.rb_code.specs.declared.scripted.Found.{Found}
 use Rattle.rb_code.specs.Dispatch.{is_operator}
 
@@ -34,3 +35,10 @@ are_plain names methods = list_all (has_plain names) methods
 
 abbrev pub all_plain : List Text → List Class → Bool
 all_plain names classes = list_all (λ (k : Class). are_plain names k.methods) classes
+
+-- whether the names of methods are words, and so those of the methods of classes
+abbrev pub have_words : List Text → List Method → Bool
+have_words names methods = list_all (λ (m : Method). begins_word (name_text names m.name)) methods
+
+abbrev pub all_have_words : List Text → List Class → Bool
+all_have_words names classes = list_all (λ (k : Class). have_words names k.methods) classes

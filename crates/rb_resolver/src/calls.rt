@@ -1,12 +1,15 @@
 // Which code a call or a new object becomes, once its parts are resolved.
 
-ghost use Rattle.std.specs.Prelude.{◌≡◌, ℕ, List, Some, None, true, map, IfOk};
+ghost use Rattle.std.specs.Prelude.{◌≡◌, ℕ, List, Some, None, true, is_some, false, map, IfErr, IfOk};
 ghost use Rattle.std.specs.Option.{option_map};
 ghost use Rattle.rb_code.specs.Erase.{erase, erase_block};
 ghost use Rattle.rb_code.specs.Resolved.{every, if_some, fits, block_fits};
 ghost use Rattle.rb_builtin.specs.Names as builtin;
 ghost use Rattle.rb_machine.specs.Scopes.{Script, name_text};
+ghost use Rattle.rb_accepted.specs.Unbuilt.{is_built_class, is_call};
+ghost use Rattle.rb_resolver.specs.Built.{Builds};
 ghost use Rattle.rb_resolver.specs.Known as spec;
+ghost use Rattle.rb_resolver.specs.declared.fault.ResolveFault.TheVariants.{Memory};
 ghost use Rattle.rb_tree.specs.declared.node.Node.TheVariants as tree;
 ghost use Rattle.rb_tree.specs.declared.span.NameId.{NameId as Id};
 
@@ -72,6 +75,7 @@ fn sent(
     mut args: Items<Code>,
     at: Span,
 ) -> Result<Code, ResolveFault>
+    ensures built { IfErr result (λ e. e ≡ Memory) }
     ensures erases { IfOk result (λ code. erase code ≡ tree.Call (Some (erase receiver)) name (map erase args) None at) }
     ensures fits { IfOk result (λ code. (S : Script) (scope : List Id) (size : ℕ) → S.program.names ≡ names.now → fits S receiver scope size ≡ true → every (map (fits S) args) scope size ≡ true → fits S code scope size ≡ true) }
 {
@@ -95,6 +99,7 @@ pub(crate) fn called(
     block: Option<Boxed<CodeBlock>>,
     at: Span,
 ) -> Result<Code, ResolveFault>
+    ensures built { is_call (is_some receiver) (is_some block) ≡ false → IfErr result (λ e. e ≡ Memory) }
     ensures erases { IfOk result (λ code. erase code ≡ tree.Call (option_map erase receiver) name (map erase args) (option_map erase_block block) at) }
     ensures fits { IfOk result (λ code. (S : Script) (scope : List Id) (size : ℕ) → spec.IsKnown known.now names.now S
         → if_some (option_map (fits S) receiver) scope size ≡ true → every (map (fits S) args) scope size ≡ true → if_some (option_map (block_fits S) block) scope size ≡ true
@@ -119,6 +124,7 @@ pub(crate) fn made(
     args: Items<Code>,
     at: Span,
 ) -> Result<Code, ResolveFault>
+    ensures built { Builds known.now names.now (λ S. is_built_class S.program.names S.program.classes class) result }
     ensures erases { IfOk result (λ code. erase code ≡ tree.New class (map erase args) at) }
     ensures fits { IfOk result (λ code. (S : Script) (scope : List Id) (size : ℕ) → spec.IsKnown known.now names.now S → every (map (fits S) args) scope size ≡ true → fits S code scope size ≡ true) }
 {

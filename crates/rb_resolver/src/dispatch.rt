@@ -1,14 +1,15 @@
 // The methods of classes that each name finds.
 
-ghost use Rattle.std.specs.Prelude.{◌≡◌, ◌==◌, ◌++◌, ◌∷◌, [], ℕ, true, replicate, if◌then◌else◌, IfOk, OnOk};
+ghost use Rattle.std.specs.Prelude.{◌≡◌, ◌==◌, ◌++◌, ◌∷◌, [], ℕ, true, replicate, if◌then◌else◌, ◌<◌, length, IfErr, IfOk, OnOk};
 ghost use Rattle.rb_resolver.specs.Rows as spec;
+ghost use Rattle.rb_resolver.specs.declared.fault.ResolveFault.TheVariants.{Memory};
 ghost use Rattle.rb_tree.specs.Texts.{AreDifferent};
 
 use crate::fault::ResolveFault;
 use rb_code::Found;
 use rb_render::name_text;
 use rb_tree::{Class, Items, Method, NameId, Names, Span};
-use std::alloc::Global;
+use std::alloc::{AllocError, Global};
 
 /// Whether a method of a class may have a name of this text: it is not empty, and that of no operator and no brackets.
 fn is_plain(text: &[u8]) -> bool
@@ -28,7 +29,7 @@ fn is_plain(text: &[u8]) -> bool
 }
 
 /// Rows with nothing in them.
-fn empty_rows(alloc: Global, count: usize) -> Result<Vec<Items<Found>>, ResolveFault>
+fn empty_rows(alloc: Global, count: usize) -> Result<Vec<Items<Found>>, AllocError>
     ensures { IfOk result (λ rows. rows.items ≡ replicate count []) }
 {
     let mut rows = Vec::with_capacity(alloc, count)?;
@@ -45,7 +46,9 @@ fn add_found(
     found: Found,
     at: Span,
 ) -> Result<(), ResolveFault>
-    ensures { OnOk result ((n : ℕ) → spec.row_at rows.new.items n ≡ spec.row_at rows.old.items n ++ (if name.0 == n then found ∷ [] else [])) }
+    ensures built { name.0 < length rows.old.items → IfErr result (λ e. e ≡ Memory) }
+    ensures size { length rows.new.items ≡ length rows.old.items }
+    ensures rows { OnOk result ((n : ℕ) → spec.row_at rows.new.items n ≡ spec.row_at rows.old.items n ++ (if name.0 == n then found ∷ [] else [])) }
 {
     let Some(row) = rows.get_mut(name.0 as usize) else {
         return Err(ResolveFault::NotBuilt(at));
@@ -61,6 +64,8 @@ fn add_methods(
     class: u32,
     methods: &[Method],
 ) -> Result<(), ResolveFault>
+    ensures built { length rows.old.items ≡ length names.now → spec.have_words names.now methods.now ≡ true → IfErr result (λ e. e ≡ Memory) }
+    ensures size { length rows.new.items ≡ length rows.old.items }
     ensures rows { OnOk result ((n : ℕ) → spec.row_at rows.new.items n ≡ spec.row_at rows.old.items n ++ spec.found_in class n 0 methods.now) }
     ensures plain { OnOk result (spec.are_plain names.now methods.now ≡ true) }
 {
@@ -90,6 +95,7 @@ pub(crate) fn dispatch_of(
     names: &Names,
     classes: &[Class],
 ) -> Result<Items<Items<Found>>, ResolveFault>
+    ensures built { spec.all_have_words names.now classes.now ≡ true → IfErr result (λ e. e ≡ Memory) }
     ensures rows { IfOk result (λ rows. (n : ℕ) → spec.row_at rows n ≡ spec.found_in_all n 0 classes.now) }
     ensures plain { OnOk result (spec.all_plain names.now classes.now ≡ true) }
     ensures different { AreDifferent names.now }

@@ -1,10 +1,13 @@
 // The names in scope, and how many slots the frame has.
 
-ghost use Rattle.std.specs.Prelude.{◌≡◌, ◌≤◌, ◌+◌, ◌++◌, true, Some, length, take, if◌then◌else◌, IfOk, OnOk};
+ghost use Rattle.std.specs.Prelude.{◌≡◌, ◌≤◌, ◌+◌, ◌++◌, true, Some, length, take, if◌then◌else◌, IfErr, IfOk, OnOk};
+ghost use Rattle.rb_accepted.specs.Coded.{is_seen};
 ghost use Rattle.rb_code.specs.Layout.{slot_of, has_slot};
+ghost use Rattle.rb_resolver.specs.declared.fault.ResolveFault.TheVariants.{Memory};
 
 use crate::fault::ResolveFault;
 use rb_tree::{NameId, Span};
+use std::alloc::AllocError;
 
 /// The slot of a name among the names in scope: its last place.
 fn find(name: NameId, names: &[NameId]) -> Option<usize>
@@ -65,7 +68,8 @@ impl Frame {
 
     /// The slot of a local, which stands at this place.
     pub(crate) fn slot(&self, name: NameId, at: Span) -> Result<u32, ResolveFault>
-        ensures { IfOk result (λ slot. has_slot name self.now.names.items slot ≡ true) }
+        ensures has { IfOk result (λ slot. has_slot name self.now.names.items slot ≡ true) }
+        ensures built { is_seen name self.now.names.items ≡ true → IfErr result (λ e. e ≡ Memory) }
     {
         let Some(place) = find(name, self.names.as_slice()) else {
             return Err(ResolveFault::NotBuilt(at));
@@ -77,24 +81,24 @@ impl Frame {
     }
 
     /// Makes room for names that lie behind those in scope. Answers their first slot.
-    fn first_slot(&mut self, own: &[NameId]) -> Result<u32, ResolveFault>
+    fn first_slot(&mut self, own: &[NameId]) -> Result<u32, AllocError>
         ensures from { IfOk result (λ from. from ≡ length self.old.names.items) }
         ensures names { self.new.names ≡ self.old.names }
         ensures room { OnOk result (length self.old.names.items + length own.now ≤ self.new.size) }
         ensures rises { self.old.size ≤ self.new.size }
     {
         let Ok(from) = u32::try_from(self.names.len()) else {
-            return Err(ResolveFault::Memory);
+            return Err(AllocError);
         };
         let Some(end) = self.names.len().checked_add(own.len()) else {
-            return Err(ResolveFault::Memory);
+            return Err(AllocError);
         };
         self.size = self.size.max(end);
         Ok(from)
     }
 
     /// Goes into a block with these names of its own. Answers their first slot, and how many there are.
-    pub(crate) fn enter(&mut self, own: &[NameId]) -> Result<(u32, u32), ResolveFault>
+    pub(crate) fn enter(&mut self, own: &[NameId]) -> Result<(u32, u32), AllocError>
         ensures from { IfOk result (λ slots. slots.0 ≡ length self.old.names.items) }
         ensures count { IfOk result (λ slots. slots.1 ≡ length own.now) }
         ensures names { OnOk result (self.new.names.items ≡ self.old.names.items ++ own.now) }
@@ -103,7 +107,7 @@ impl Frame {
     {
         let from = self.first_slot(own)?;
         let Ok(count) = u32::try_from(own.len()) else {
-            return Err(ResolveFault::Memory);
+            return Err(AllocError);
         };
         self.names.extend_from_slice(own)?;
         Ok((from, count))

@@ -6,11 +6,10 @@ ghost use Rattle.rb_resolver.specs.Known as spec;
 ghost use Rattle.rb_tree.specs.declared.node.Class.{Class as Kind};
 ghost use Rattle.rb_tree.specs.declared.span.NameId.{NameId as Id};
 
-use crate::fault::ResolveFault;
 use rb_checker::{ScopeNames, ThreadNames};
 use rb_render::name_text;
 use rb_tree::{Class, Items, Method, NameId, Names};
-use std::alloc::Global;
+use std::alloc::{AllocError, Global};
 use std::collections::HashMap;
 
 /// What is known of a program: the numbers of its top-level methods and of its classes by their names, the number of `initialize` in each
@@ -52,11 +51,7 @@ impl Known {
 }
 
 /// Notes the number of a method or a class, where none is noted of that name.
-fn note_number(
-    numbers: &mut HashMap<u32, u32>,
-    name: NameId,
-    number: u32,
-) -> Result<(), ResolveFault>
+fn note_number(numbers: &mut HashMap<u32, u32>, name: NameId, number: u32) -> Result<(), AllocError>
     ensures { OnOk result ((other : Id) → hash.get nat_eq numbers.new other.0 ≡ spec.number_behind (hash.get nat_eq numbers.old other.0) name other number) }
 {
     if numbers.contains_key(&name.0) {
@@ -67,10 +62,7 @@ fn note_number(
 }
 
 /// The numbers of top-level methods by their names: of two methods of one name that of the first.
-pub(crate) fn numbers_of(
-    alloc: Global,
-    methods: &[Method],
-) -> Result<HashMap<u32, u32>, ResolveFault>
+pub(crate) fn numbers_of(alloc: Global, methods: &[Method]) -> Result<HashMap<u32, u32>, AllocError>
     ensures { IfOk result (λ functions. (name : Id) → hash.get nat_eq functions name.0 ≡ spec.number_of name methods.now) }
 {
     let mut functions = HashMap::new(alloc);
@@ -78,7 +70,7 @@ pub(crate) fn numbers_of(
     'methods: for method in methods {
         note_number(&mut functions, method.name, number)?;
         let Some(next) = number.checked_add(1) else {
-            return Err(ResolveFault::Memory);
+            return Err(AllocError);
         };
         number = next;
     }
@@ -89,7 +81,7 @@ pub(crate) fn numbers_of(
 pub(crate) fn numbers_of_classes(
     alloc: Global,
     all: &[Class],
-) -> Result<HashMap<u32, u32>, ResolveFault>
+) -> Result<HashMap<u32, u32>, AllocError>
     ensures { IfOk result (λ classes. (name : Id) → hash.get nat_eq classes name.0 ≡ spec.class_of name all.now) }
 {
     let mut classes = HashMap::new(alloc);
@@ -97,7 +89,7 @@ pub(crate) fn numbers_of_classes(
     'classes: for class in all {
         note_number(&mut classes, class.name, number)?;
         let Some(next) = number.checked_add(1) else {
-            return Err(ResolveFault::Memory);
+            return Err(AllocError);
         };
         number = next;
     }
@@ -105,12 +97,12 @@ pub(crate) fn numbers_of_classes(
 }
 
 /// The number of the method `initialize` among those of a class.
-fn first_of(names: &Names, methods: &[Method]) -> Result<Option<u32>, ResolveFault>
+fn first_of(names: &Names, methods: &[Method]) -> Result<Option<u32>, AllocError>
     ensures { IfOk result (λ first. first ≡ spec.first_in names.now methods.now) }
 {
     'methods: for (i, method) in methods.iter().enumerate() {
         let Ok(number) = u32::try_from(i) else {
-            return Err(ResolveFault::Memory);
+            return Err(AllocError);
         };
         if name_text(names, method.name) == b"initialize".as_slice() {
             return Ok(Some(number));
@@ -124,7 +116,7 @@ pub(crate) fn firsts_of(
     alloc: Global,
     names: &Names,
     classes: &[Class],
-) -> Result<Items<Option<u32>>, ResolveFault>
+) -> Result<Items<Option<u32>>, AllocError>
     ensures { IfOk result (λ firsts. firsts ≡ map (λ (k : Kind). spec.first_in names.now k.methods) classes.now) }
 {
     let mut firsts = Items::new(alloc);

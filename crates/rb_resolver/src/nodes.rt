@@ -5,6 +5,8 @@ ghost use Rattle.std.specs.Option.{option_map};
 ghost use Rattle.rb_code.specs.Erase.{erase, erase_piece, erase_block, paired};
 ghost use Rattle.rb_code.specs.Resolved.{every, if_some, fits, piece_fits, block_fits, body_fits, is_even};
 ghost use Rattle.rb_machine.specs.Scopes.{Script};
+ghost use Rattle.rb_accepted.specs.Coded as coded;
+ghost use Rattle.rb_resolver.specs.Built.{Builds, node_built, body_built, pairs_built, piece_built, text_built, block_built};
 ghost use Rattle.rb_resolver.specs.Known as spec;
 
 use crate::calls::{called, made};
@@ -28,6 +30,7 @@ fn node(
 ) -> Result<Code, ResolveFault>
     ensures erases { IfOk result (λ code. erase code ≡ source.now) }
     ensures fits { IfOk result (λ code. (S : Script) → spec.IsKnown known.now names.now S → (size : ℕ) → frame.new.size ≤ size → fits S code frame.old.names.items size ≡ true) }
+    ensures built { Builds known.now names.now (λ S. node_built S source.now frame.old.names.items) result }
     ensures names { OnOk result (frame.new.names.items ≡ frame.old.names.items) }
     ensures rises { frame.old.size ≤ frame.new.size }
 {
@@ -179,6 +182,7 @@ fn boxed(
 ) -> Result<Boxed<Code>, ResolveFault>
     ensures erases { IfOk result (λ code. erase code ≡ source.now) }
     ensures fits { IfOk result (λ code. (S : Script) → spec.IsKnown known.now names.now S → (size : ℕ) → frame.new.size ≤ size → fits S code frame.old.names.items size ≡ true) }
+    ensures built { Builds known.now names.now (λ S. node_built S source.now frame.old.names.items) result }
     ensures names { OnOk result (frame.new.names.items ≡ frame.old.names.items) }
     ensures rises { frame.old.size ≤ frame.new.size }
 {
@@ -197,6 +201,7 @@ fn optional(
 ) -> Result<Option<Boxed<Code>>, ResolveFault>
     ensures erases { IfOk result (λ code. option_map erase code ≡ source.now) }
     ensures fits { IfOk result (λ code. (S : Script) → spec.IsKnown known.now names.now S → (size : ℕ) → frame.new.size ≤ size → if_some (option_map (fits S) code) frame.old.names.items size ≡ true) }
+    ensures built { Builds known.now names.now (λ S. coded.if_some (option_map (node_built S) source.now) frame.old.names.items) result }
     ensures names { OnOk result (frame.new.names.items ≡ frame.old.names.items) }
     ensures rises { frame.old.size ≤ frame.new.size }
 {
@@ -220,6 +225,7 @@ pub(crate) fn body(
 ) -> Result<Items<Code>, ResolveFault>
     ensures erases { IfOk result (λ codes. map erase codes ≡ nodes.now) }
     ensures fits { IfOk result (λ codes. (S : Script) → spec.IsKnown known.now names.now S → (size : ℕ) → frame.new.size ≤ size → body_fits S codes frame.old.names.items size ≡ true) }
+    ensures built { Builds known.now names.now (λ S. body_built S nodes.now frame.old.names.items) result }
     ensures names { OnOk result (frame.new.names.items ≡ frame.old.names.items) }
     ensures rises { frame.old.size ≤ frame.new.size }
 {
@@ -242,6 +248,7 @@ fn arguments(
 ) -> Result<Items<Code>, ResolveFault>
     ensures erases { IfOk result (λ codes. map erase codes ≡ nodes.now) }
     ensures fits { IfOk result (λ codes. (S : Script) → spec.IsKnown known.now names.now S → (size : ℕ) → frame.new.size ≤ size → body_fits S codes frame.old.names.items size ≡ true) }
+    ensures built { Builds known.now names.now (λ S. body_built S nodes.now frame.old.names.items) result }
     ensures names { OnOk result (frame.new.names.items ≡ frame.old.names.items) }
     ensures rises { frame.old.size ≤ frame.new.size }
 {
@@ -263,6 +270,7 @@ fn pairs(
     ensures erases { IfOk result (λ codes. paired (map erase codes) ≡ sources.now) }
     ensures even { IfOk result (λ codes. is_even codes ≡ true) }
     ensures fits { IfOk result (λ codes. (S : Script) → spec.IsKnown known.now names.now S → (size : ℕ) → frame.new.size ≤ size → body_fits S codes frame.old.names.items size ≡ true) }
+    ensures built { Builds known.now names.now (λ S. pairs_built S sources.now frame.old.names.items) result }
     ensures names { OnOk result (frame.new.names.items ≡ frame.old.names.items) }
     ensures rises { frame.old.size ≤ frame.new.size }
 {
@@ -290,6 +298,7 @@ fn piece(
 ) -> Result<CodePiece, ResolveFault>
     ensures erases { IfOk result (λ part. erase_piece part ≡ source.now) }
     ensures fits { IfOk result (λ part. (S : Script) → spec.IsKnown known.now names.now S → (size : ℕ) → frame.new.size ≤ size → piece_fits S part frame.old.names.items size ≡ true) }
+    ensures built { Builds known.now names.now (λ S. piece_built S source.now frame.old.names.items) result }
     ensures names { OnOk result (frame.new.names.items ≡ frame.old.names.items) }
     ensures rises { frame.old.size ≤ frame.new.size }
 {
@@ -316,6 +325,7 @@ fn text(
 ) -> Result<Items<CodePiece>, ResolveFault>
     ensures erases { IfOk result (λ parts. map erase_piece parts ≡ pieces.now) }
     ensures fits { IfOk result (λ parts. (S : Script) → spec.IsKnown known.now names.now S → (size : ℕ) → frame.new.size ≤ size → every (map (piece_fits S) parts) frame.old.names.items size ≡ true) }
+    ensures built { Builds known.now names.now (λ S. text_built S pieces.now frame.old.names.items) result }
     ensures names { OnOk result (frame.new.names.items ≡ frame.old.names.items) }
     ensures rises { frame.old.size ≤ frame.new.size }
 {
@@ -338,6 +348,7 @@ fn block(
 ) -> Result<Boxed<CodeBlock>, ResolveFault>
     ensures erases { IfOk result (λ block. erase_block block ≡ source.now) }
     ensures fits { IfOk result (λ block. (S : Script) → spec.IsKnown known.now names.now S → (size : ℕ) → frame.new.size ≤ size → block_fits S block frame.old.names.items size ≡ true) }
+    ensures built { Builds known.now names.now (λ S. block_built S source.now frame.old.names.items) result }
     ensures names { OnOk result (frame.new.names.items ≡ frame.old.names.items) }
     ensures rises { frame.old.size ≤ frame.new.size }
 {
@@ -371,6 +382,7 @@ fn optional_block(
 ) -> Result<Option<Boxed<CodeBlock>>, ResolveFault>
     ensures erases { IfOk result (λ code. option_map erase_block code ≡ source.now) }
     ensures fits { IfOk result (λ code. (S : Script) → spec.IsKnown known.now names.now S → (size : ℕ) → frame.new.size ≤ size → if_some (option_map (block_fits S) code) frame.old.names.items size ≡ true) }
+    ensures built { Builds known.now names.now (λ S. coded.if_some (option_map (block_built S) source.now) frame.old.names.items) result }
     ensures names { OnOk result (frame.new.names.items ≡ frame.old.names.items) }
     ensures rises { frame.old.size ≤ frame.new.size }
 {

@@ -1,13 +1,18 @@
 // The resolved script of a program.
 
-ghost use Rattle.std.specs.Prelude.{◌≡◌, ◌≤◌, ℕ, true, length, map, IfOk};
+ghost use Rattle.std.specs.Prelude.{◌≡◌, ◌≤◌, ℕ, true, length, map, IfErr, IfOk};
 ghost use Rattle.std.specs.List.{list_all};
 ghost use Rattle.rb_code.specs.Erase.{erase, erase_method, erase_class};
 ghost use Rattle.rb_code.specs.Resolved.{body_fits, method_fits, class_fits};
 ghost use Rattle.rb_code.specs.Stands.{StandsFor};
 ghost use Rattle.rb_machine.specs.Scopes.{Script};
+ghost use Rattle.rb_accepted.specs.Coded.{has_code};
+ghost use Rattle.rb_resolver.specs.Built.{Builds, body_built, method_built, methods_built, classes_built};
 ghost use Rattle.rb_resolver.specs.Known as spec;
+ghost use Rattle.rb_resolver.specs.declared.fault.ResolveFault.TheVariants.{Memory};
 ghost use Rattle.rb_resolver.specs.Names.{script_of};
+ghost use Rattle.rb_resolver.specs.Rows.{all_plain};
+ghost use Rattle.rb_tree.specs.Texts.{AreDifferent};
 ghost use Rattle.rb_tree.specs.declared.node.Class.{Class as Kind};
 
 use crate::dispatch::dispatch_of;
@@ -30,6 +35,7 @@ pub(crate) fn text(
     nodes: &[Node],
     least: usize,
 ) -> Result<(Items<Code>, u32, u32), ResolveFault>
+    ensures built { Builds known.now names.now (λ S. body_built S nodes.now own.now) result }
     ensures erases { IfOk result (λ it. map erase it.0 ≡ nodes.now) }
     ensures fits { IfOk result (λ it. (S : Script) → spec.IsKnown known.now names.now S → body_fits S it.0 own.now it.1 ≡ true) }
     ensures room { IfOk result (λ it. length own.now ≤ it.1) }
@@ -53,6 +59,7 @@ fn method(
     own: &[NameId],
     source: &Method,
 ) -> Result<CodeMethod, ResolveFault>
+    ensures built { (S : Script) → spec.IsKnown known.now names.now S → S.method_names source.now ≡ own.now → method_built S source.now ≡ true → IfErr result (λ e. e ≡ Memory) }
     ensures erases { IfOk result (λ method. erase_method method ≡ source.now) }
     ensures fits { IfOk result (λ method. (S : Script) → spec.IsKnown known.now names.now S → S.method_names source.now ≡ own.now → method_fits S method ≡ true) }
 {
@@ -82,6 +89,7 @@ fn methods(
     sources: &[Method],
 ) -> Result<Items<CodeMethod>, ResolveFault>
     requires { length own.now ≡ length sources.now }
+    ensures built { (S : Script) → spec.IsKnown known.now names.now S → own.now ≡ map S.method_names sources.now → methods_built S sources.now ≡ true → IfErr result (λ e. e ≡ Memory) }
     ensures erases { IfOk result (λ methods. map erase_method methods ≡ sources.now) }
     ensures fits { IfOk result (λ methods. (S : Script) → spec.IsKnown known.now names.now S → own.now ≡ map S.method_names sources.now → list_all (method_fits S) methods ≡ true) }
 {
@@ -101,6 +109,8 @@ fn classes(
     sources: &[Class],
 ) -> Result<Items<CodeClass>, ResolveFault>
     requires { map length own.now ≡ map (λ (k : Kind). length k.methods) sources.now }
+    ensures built { (S : Script) → spec.IsKnown known.now names.now S → own.now ≡ map (λ (k : Kind). map S.method_names k.methods) sources.now → classes_built S sources.now ≡ true
+        → IfErr result (λ e. e ≡ Memory) }
     ensures erases { IfOk result (λ classes. map erase_class classes ≡ sources.now) }
     ensures fits { IfOk result (λ classes. (S : Script) → spec.IsKnown known.now names.now S → own.now ≡ map (λ (k : Kind). map S.method_names k.methods) sources.now → list_all (class_fits S) classes ≡ true) }
 {
@@ -117,28 +127,42 @@ fn classes(
     Ok(codes)
 }
 
-/// Resolves a program. What comes stands for that very program, whose locals lie in the scopes that its text gives them.
-///
-/// # Errors
-/// `NotBuilt` with the place of something that has no code yet; `Memory`.
-pub fn resolve(alloc: Global, program: &Program) -> Result<CodeScript, ResolveFault>
-    ensures { IfOk result (λ script. StandsFor script (script_of program.now)) }
+/// What is known of a program whose names differ, and whose classes have methods with plain names alone.
+fn known_of(alloc: Global, program: &Program) -> Result<Known, ResolveFault>
+    requires plain { all_plain program.now.names program.now.classes ≡ true }
+    requires different { AreDifferent program.now.names }
+    ensures built { IfErr result (λ e. e ≡ Memory) }
+    ensures known { IfOk result (λ known. spec.IsKnown known program.now.names (script_of program.now)) }
+    ensures classes { IfOk result (λ known. known.scopes.classes ≡ map (λ (k : Kind). map (script_of program.now).method_names k.methods) program.now.classes) }
+    ensures functions { IfOk result (λ known. known.scopes.functions ≡ map (script_of program.now).method_names program.now.functions) }
+    ensures main { IfOk result (λ known. known.scopes.main ≡ (script_of program.now).main_names) }
 {
-    let names = &program.names;
-    let dispatch = dispatch_of(alloc, names, program.classes.as_slice())?;
-    let firsts = firsts_of(alloc, names, program.classes.as_slice())?;
+    let firsts = firsts_of(alloc, &program.names, program.classes.as_slice())?;
     let numbers = numbers_of_classes(alloc, program.classes.as_slice())?;
     let functions = numbers_of(alloc, program.functions.as_slice())?;
     let scopes = names_of_scopes(alloc, program)?;
     let threads = names_of_threads(alloc, program)?;
-    let known = Known {
+    Ok(Known {
         alloc,
         functions,
         classes: numbers,
         firsts,
         scopes,
         threads,
-    };
+    })
+}
+
+/// Resolves a program. What comes stands for that very program, whose locals lie in the scopes that its text gives them.
+///
+/// # Errors
+/// `NotBuilt` with the place of something that has no code, which no program has that is accepted; `Memory`.
+pub fn resolve(alloc: Global, program: &Program) -> Result<CodeScript, ResolveFault>
+    ensures built { has_code program.now ≡ true → IfErr result (λ e. e ≡ Memory) }
+    ensures stands { IfOk result (λ script. StandsFor script (script_of program.now)) }
+{
+    let names = &program.names;
+    let dispatch = dispatch_of(alloc, names, program.classes.as_slice())?;
+    let known = known_of(alloc, program)?;
     let own = known.scopes.classes.as_slice();
     let classes = classes(&known, names, own, program.classes.as_slice())?;
     let own = known.scopes.functions.as_slice();

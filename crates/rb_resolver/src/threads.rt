@@ -1,13 +1,16 @@
 // The starts of threads, and their bodies.
 
-ghost use Rattle.std.specs.Prelude.{◌≡◌, ℕ, List, true, Some, map, slice_get, IfOk};
+ghost use Rattle.std.specs.Prelude.{◌≡◌, ℕ, List, true, Some, map, slice_get, IfErr, IfOk};
 ghost use Rattle.rb_code.specs.Erase.{erase, erase_body};
 ghost use Rattle.rb_code.specs.Layout.{have_slots};
 ghost use Rattle.rb_code.specs.Resolved.{every, fits};
 ghost use Rattle.rb_code.specs.Stands.{IsBody};
 ghost use Rattle.rb_code.specs.declared.scripted.CodeBody.{CodeBody as Body};
 ghost use Rattle.rb_machine.specs.Scopes.{Script, Text};
+ghost use Rattle.rb_accepted.specs.Coded.{are_seen};
+ghost use Rattle.rb_resolver.specs.Built.{Builds, body_built, bodies_built};
 ghost use Rattle.rb_resolver.specs.Known as spec;
+ghost use Rattle.rb_resolver.specs.declared.fault.ResolveFault.TheVariants.{Memory};
 ghost use Rattle.rb_tree.specs.declared.node.Node.TheVariants as tree;
 
 use crate::fault::ResolveFault;
@@ -25,7 +28,8 @@ fn slots_of(
     used: &[NameId],
     at: Span,
 ) -> Result<Items<u32>, ResolveFault>
-    ensures { IfOk result (λ slots. have_slots used.now frame.now.names.items slots ≡ true) }
+    ensures built { are_seen used.now frame.now.names.items ≡ true → IfErr result (λ e. e ≡ Memory) }
+    ensures has { IfOk result (λ slots. have_slots used.now frame.now.names.items slots ≡ true) }
 {
     let mut slots = Items::new(alloc);
     'used: for name in used {
@@ -43,6 +47,7 @@ pub(crate) fn started(
     body: u32,
     at: Span,
 ) -> Result<Code, ResolveFault>
+    ensures built { (S : Script) (names : List Text) → spec.IsKnown known.now names S → are_seen (S.captured_names body) frame.now.names.items ≡ true → IfErr result (λ e. e ≡ Memory) }
     ensures erases { IfOk result (λ code. erase code ≡ tree.ThreadNew (map erase args) body at) }
     ensures fits { IfOk result (λ code. (S : Script) (names : List Text) (size : ℕ) → spec.IsKnown known.now names S → every (map (fits S) args) frame.now.names.items size ≡ true → fits S code frame.now.names.items size ≡ true) }
 {
@@ -52,6 +57,7 @@ pub(crate) fn started(
 
 /// Resolves the body of a thread, which has this number.
 fn body(known: &Known, names: &Names, number: u32, source: &Block) -> Result<CodeBody, ResolveFault>
+    ensures built { Builds known.now names.now (λ S. body_built S source.now.body (S.thread_names number)) result }
     ensures erases { IfOk result (λ body. erase_body body ≡ source.now) }
     ensures fits { IfOk result (λ body. (S : Script) → spec.IsKnown known.now names.now S → IsBody S number body) }
 {
@@ -84,6 +90,7 @@ pub(crate) fn bodies(
     names: &Names,
     sources: &[Block],
 ) -> Result<Items<CodeBody>, ResolveFault>
+    ensures built { Builds known.now names.now (λ S. bodies_built S 0 sources.now) result }
     ensures erases { IfOk result (λ bodies. map erase_body bodies ≡ sources.now) }
     ensures fits { IfOk result (λ bodies. (S : Script) → spec.IsKnown known.now names.now S → (number : ℕ) (it : Body) → slice_get bodies number ≡ Some it → IsBody S number it) }
 {

@@ -6,7 +6,7 @@ use Rattle.rb_resolver.proofs.Rows.{one_if, rows_next, all_next}
 use Rattle.rb_resolver.proofs.dispatch.add_methods.Goals as goal
 
 pub methods-init : goal.methods-init
-methods-init c = record { rows = λ n. refl; plain = refl }
+methods-init c = record { rows = λ n. refl; size = refl; plain = refl }
 
 pub methods-preserved : goal.methods-preserved
 methods-preserved c =
@@ -20,14 +20,15 @@ methods-preserved c =
     record {
       rows = λ n.
           rows_next c.args.class n ms i method (row_at c.args.rows.now.items n ++ found_in c.args.class n 0 ms) (row_at c.methods.rows.items n) (row_at c.add_found.new.rows.items n)
-          c.methods-test.true c.index-methods-i.is (c.methods.invariant.rows n) (c.in_ok-add_found.ensures n ∙ ap (λ k. row_at c.methods.rows.items n ++ one n k) number);
+          c.methods-test.true c.index-methods-i.is (c.methods.invariant.rows n) (c.in_ok-add_found.ensures.rows n ∙ ap (λ k. row_at c.methods.rows.items n ++ one n k) number);
+      size = c.add_found.ensures.size ∙ c.methods.invariant.size;
       plain = all_next (has_plain c.args.names.now) ms i method c.methods-test.true c.methods.invariant.plain plain;
     }
 
-pub returns : goal.returns
-returns c = record {
-  rows = λ n.
-      sym (append-nil (row_at c.methods.rows.items n)) ∙ sym (ap (λ fs. row_at c.methods.rows.items n ++ fs) (at_drop_all (found_in c.args.class n c.methods.i) c.args.methods.now c.methods.i c.methods-test.false))
-      ∙ c.methods.invariant.rows n;
-  plain = sym (c.methods.invariant.plain) ∙ at_drop_all (are_plain c.args.names.now) c.args.methods.now c.methods.i c.methods-test.false;
-}
+pub returns-clause-rows : goal.returns-clause-rows
+returns-clause-rows c = λ n.
+    sym (append-nil (row_at c.methods.rows.items n)) ∙ sym (ap (λ fs. row_at c.methods.rows.items n ++ fs) (at_drop_all (found_in c.args.class n c.methods.i) c.args.methods.now c.methods.i c.methods-test.false))
+    ∙ c.methods.invariant.rows n
+
+pub returns-clause-plain : goal.returns-clause-plain
+returns-clause-plain c = sym (c.methods.invariant.plain) ∙ at_drop_all (are_plain c.args.names.now) c.args.methods.now c.methods.i c.methods-test.false

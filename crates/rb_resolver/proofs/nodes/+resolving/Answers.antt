@@ -12,6 +12,12 @@ use Rattle.rb_code.specs.Erase.{erase, erase_piece, erase_block, paired}
 use Rattle.rb_code.specs.Resolved.{every, if_some, fits, piece_fits, block_fits, is_even}
 use Rattle.rb_code.proofs.Fitting.{fits-nil, fits-false, fits-true, fits-self_ref, fits-field, fits-set_field, fits-update_field, fits-global, fits-set_global, fits-update_global, fits-int, fits-sym, fits-break, fits-next, piece_fits-text, piece_fits-code}
 use Rattle.rb_resolver.proofs.Fitted.{at_names, str_fits, array_fits, hash_fits, local_fits, set_local_fits, update_local_fits, update_element_fits, and_fits, or_fits, not_fits, if_fits, while_fits, return_fits, block_of, names_left, block_is_right, map_pushed, every_pushed, even_more, pushed_twice, paired_pushed}
+use Rattle.rb_resolver.proofs.Built.{handed, every_at, at_scope, same_call, str_built, array_built, hash_built, local_built, set_local_built, set_field_built, set_global_built, store_built, update_built, update_local_built, update_element_built, update_attribute_built, call_built, new_built, thread_built, and_built, or_built, not_built, if_built, while_built, return_built, code_built, block_body_built}
+use Rattle.rb_machine.specs.Scopes.{name_text}
+use Rattle.rb_code.proofs.Dispatched.{conjunction, conjunction_rest}
+use Rattle.rb_accepted.specs.Coded.{begins_word, are_seen}
+use Rattle.rb_accepted.specs.Coded as coded
+use Rattle.rb_resolver.specs.Built.{node_built, piece_built, block_built, body_built, pair_built, pairs_built, text_built}
 use Rattle.rb_resolver.proofs.nodes.+resolving.Goals as goal
 
 pub node-returns-in_ok-pieces-in-Str-clause-fits : goal.node-returns-in_ok-pieces-in-Str-clause-fits
@@ -24,10 +30,10 @@ pub node-returns-in_ok-items-in-Hash-clause-fits : goal.node-returns-in_ok-items
 node-returns-in_ok-items-in-Hash-clause-fits t c = λ S k size h. hash_fits S _ size _ _ c.in_ok-items-in-Hash.ensures.even (c.in_ok-items-in-Hash.ensures.fits S k size h)
 
 pub node-returns-in_ok-slot-in-Local-clause-fits : goal.node-returns-in_ok-slot-in-Local-clause-fits
-node-returns-in_ok-slot-in-Local-clause-fits t c = λ S k size h. local_fits S _ size _ _ _ c.in_ok-slot-in-Local.ensures
+node-returns-in_ok-slot-in-Local-clause-fits t c = λ S k size h. local_fits S _ size _ _ _ c.in_ok-slot-in-Local.ensures.has
 
 pub node-returns-in_ok-value-in-SetLocal-clause-fits : goal.node-returns-in_ok-value-in-SetLocal-clause-fits
-node-returns-in_ok-value-in-SetLocal-clause-fits t c = λ S k size h. set_local_fits S _ size _ _ _ _ c.in_ok-slot-in-SetLocal.ensures (c.in_ok-value-in-SetLocal.ensures.fits S k size h)
+node-returns-in_ok-value-in-SetLocal-clause-fits t c = λ S k size h. set_local_fits S _ size _ _ _ _ c.in_ok-slot-in-SetLocal.ensures.has (c.in_ok-value-in-SetLocal.ensures.fits S k size h)
 
 pub node-returns-in_ok-args-in-Store-clause-fits : goal.node-returns-in_ok-args-in-Store-clause-fits
 node-returns-in_ok-args-in-Store-clause-fits t c = λ S k size h. c.stored.ensures.fits S _ size k.texts (c.in_ok-receiver-in-Store.ensures.fits S k size (omega (arith, h, c.in_ok-args-in-Store.ensures.rises))) (at_names (λ ns z. every (map (fits S) c.in_ok-args-in-Store.args) ns z) _ _ size (c.in_ok-receiver-in-Store.ensures.names) (c.in_ok-args-in-Store.ensures.fits S k size h))
@@ -40,7 +46,7 @@ node-returns-in_ok-args-in-Store-clause-erases t c =
     ∙ sym c.in-Store.is
 
 pub node-returns-in_ok-value-in-Local-target-clause-fits : goal.node-returns-in_ok-value-in-Local-target-clause-fits
-node-returns-in_ok-value-in-Local-target-clause-fits t c = λ S k size h. update_local_fits S _ size _ _ _ _ _ c.in_ok-slot-in-Local-target.ensures (c.in_ok-value-in-Local-target.ensures.fits S k size h)
+node-returns-in_ok-value-in-Local-target-clause-fits t c = λ S k size h. update_local_fits S _ size _ _ _ _ _ c.in_ok-slot-in-Local-target.ensures.has (c.in_ok-value-in-Local-target.ensures.fits S k size h)
 
 pub node-returns-in_ok-value-in-Index-clause-fits : goal.node-returns-in_ok-value-in-Index-clause-fits
 node-returns-in_ok-value-in-Index-clause-fits t c = λ S k size h. update_element_fits S _ size _ _ _ _ _ (c.in_ok-receiver-in-Index.ensures.fits S k size (omega (arith, h, c.in_ok-index-in-Index.ensures.rises, c.in_ok-value-in-Index.ensures.rises))) (at_names (fits S c.in_ok-index-in-Index.index) _ _ size (c.in_ok-receiver-in-Index.ensures.names) (c.in_ok-index-in-Index.ensures.fits S k size (omega (arith, h, c.in_ok-value-in-Index.ensures.rises)))) (at_names (fits S c.in_ok-value-in-Index.value) _ _ size (c.in_ok-index-in-Index.ensures.names ∙ c.in_ok-receiver-in-Index.ensures.names) (c.in_ok-value-in-Index.ensures.fits S k size h))
@@ -269,3 +275,152 @@ node-returns-in_ok-args-in-ThreadNew-clause-erases t c =
     IfOk-weaker c.started.result _ _ (λ code is. is
     ∙ ap (λ (ns : List Node). tree.ThreadNew ns c.in-ThreadNew.number c.in-ThreadNew.at) (c.in_ok-args-in-ThreadNew.ensures.erases ∙ c.as_slice-in-ThreadNew.ensures)
     ∙ sym c.in-ThreadNew.is) c.started.ensures.erases
+
+-- ---- what has code
+
+pub node-returns-in_err-pieces-in-Str-clause-built : goal.node-returns-in_err-pieces-in-Str-clause-built
+node-returns-in_err-pieces-in-Str-clause-built t c = λ S k h. handed c.from_residual.result _ c.from_residual.ensures.1 (c.in_err-pieces-in-Str.ensures.built S k (ap (λ x. text_built S x c.args.frame.now.names.items) c.as_slice.ensures ∙ str_built S _ c.args.source.now _ _ c.in-Str.is h))
+
+pub node-returns-in_err-items-in-Array-clause-built : goal.node-returns-in_err-items-in-Array-clause-built
+node-returns-in_err-items-in-Array-clause-built t c = λ S k h. handed c.from_residual-in_err-items-in-Array.result _ c.from_residual-in_err-items-in-Array.ensures.1 (c.in_err-items-in-Array.ensures.built S k (ap (λ x. body_built S x c.args.frame.now.names.items) c.as_slice-in-Array.ensures ∙ array_built S _ c.args.source.now _ _ c.in-Array.is h))
+
+pub node-returns-in_err-items-in-Hash-clause-built : goal.node-returns-in_err-items-in-Hash-clause-built
+node-returns-in_err-items-in-Hash-clause-built t c = λ S k h. handed c.from_residual-in_err-items-in-Hash.result _ c.from_residual-in_err-items-in-Hash.ensures.1 (c.in_err-items-in-Hash.ensures.built S k (ap (λ x. pairs_built S x c.args.frame.now.names.items) c.as_slice-in-Hash.ensures ∙ hash_built S _ c.args.source.now _ _ c.in-Hash.is h))
+
+pub node-returns-in_err-slot-in-Local-clause-built : goal.node-returns-in_err-slot-in-Local-clause-built
+node-returns-in_err-slot-in-Local-clause-built t c = λ S k h. handed c.from_residual-in_err-slot-in-Local.result _ c.from_residual-in_err-slot-in-Local.ensures.1 (c.in_err-slot-in-Local.ensures.built (local_built S _ c.args.source.now _ _ c.in-Local.is h))
+
+pub node-returns-in_err-slot-in-SetLocal-clause-built : goal.node-returns-in_err-slot-in-SetLocal-clause-built
+node-returns-in_err-slot-in-SetLocal-clause-built t c = λ S k h. handed c.from_residual-in_err-slot-in-SetLocal.result _ c.from_residual-in_err-slot-in-SetLocal.ensures.1 (c.in_err-slot-in-SetLocal.ensures.built ((set_local_built S _ c.args.source.now _ _ _ c.in-SetLocal.is h).0))
+
+pub node-returns-in_err-value-in-SetLocal-clause-built : goal.node-returns-in_err-value-in-SetLocal-clause-built
+node-returns-in_err-value-in-SetLocal-clause-built t c = λ S k h. handed c.from_residual-in_err-value-in-SetLocal.result _ c.from_residual-in_err-value-in-SetLocal.ensures.1 (c.in_err-value-in-SetLocal.ensures.built S k (ap (λ x. node_built S x c.args.frame.now.names.items) c.get.ensures ∙ (set_local_built S _ c.args.source.now _ _ _ c.in-SetLocal.is h).1))
+
+pub node-returns-in_err-value-in-SetField-clause-built : goal.node-returns-in_err-value-in-SetField-clause-built
+node-returns-in_err-value-in-SetField-clause-built t c = λ S k h. handed c.from_residual-in_err-value-in-SetField.result _ c.from_residual-in_err-value-in-SetField.ensures.1 (c.in_err-value-in-SetField.ensures.built S k (ap (λ x. node_built S x c.args.frame.now.names.items) c.get-in-SetField.ensures ∙ set_field_built S _ c.args.source.now _ _ _ c.in-SetField.is h))
+
+pub node-returns-in_err-value-in-SetGlobal-clause-built : goal.node-returns-in_err-value-in-SetGlobal-clause-built
+node-returns-in_err-value-in-SetGlobal-clause-built t c = λ S k h. handed c.from_residual-in_err-value-in-SetGlobal.result _ c.from_residual-in_err-value-in-SetGlobal.ensures.1 (c.in_err-value-in-SetGlobal.ensures.built S k (ap (λ x. node_built S x c.args.frame.now.names.items) c.get-in-SetGlobal.ensures ∙ set_global_built S _ c.args.source.now _ _ _ c.in-SetGlobal.is h))
+
+pub node-returns-in_err-receiver-in-Store-clause-built : goal.node-returns-in_err-receiver-in-Store-clause-built
+node-returns-in_err-receiver-in-Store-clause-built t c = λ S k h. handed c.from_residual-in_err-receiver-in-Store.result _ c.from_residual-in_err-receiver-in-Store.ensures.1 (c.in_err-receiver-in-Store.ensures.built S k (ap (λ x. node_built S x c.args.frame.now.names.items) c.get-in-Store.ensures ∙ (store_built S _ c.args.source.now _ _ _ _ c.in-Store.is h).0))
+
+pub node-returns-in_err-args-in-Store-clause-built : goal.node-returns-in_err-args-in-Store-clause-built
+node-returns-in_err-args-in-Store-clause-built t c = λ S k h. handed c.from_residual-in_err-args-in-Store.result _ c.from_residual-in_err-args-in-Store.ensures.1 (c.in_err-args-in-Store.ensures.built S k (at_scope (λ ns. body_built S c.as_slice-in-Store.result.now ns) _ _ (c.in_ok-receiver-in-Store.ensures.names) (ap (λ x. body_built S x c.args.frame.now.names.items) c.as_slice-in-Store.ensures ∙ (store_built S _ c.args.source.now _ _ _ _ c.in-Store.is h).1)))
+
+pub node-returns-in_err-slot-in-Local-target-clause-built : goal.node-returns-in_err-slot-in-Local-target-clause-built
+node-returns-in_err-slot-in-Local-target-clause-built t c = λ S k h. handed c.from_residual-in_err-slot-in-Local-target.result _ c.from_residual-in_err-slot-in-Local-target.ensures.1 (c.in_err-slot-in-Local-target.ensures.built (update_local_built S _ c.args.source.now _ _ _ _ _ c.in-OpAssign.is c.in-Local-target.is h))
+
+pub node-returns-in_err-value-in-Local-target-clause-built : goal.node-returns-in_err-value-in-Local-target-clause-built
+node-returns-in_err-value-in-Local-target-clause-built t c = λ S k h. handed c.from_residual-in_err-value-in-Local-target.result _ c.from_residual-in_err-value-in-Local-target.ensures.1 (c.in_err-value-in-Local-target.ensures.built S k (ap (λ x. node_built S x c.args.frame.now.names.items) c.get-in-Local-target.ensures ∙ update_built S _ c.args.source.now _ _ _ _ c.in-OpAssign.is h))
+
+pub node-returns-in_err-value-in-Field-target-clause-built : goal.node-returns-in_err-value-in-Field-target-clause-built
+node-returns-in_err-value-in-Field-target-clause-built t c = λ S k h. handed c.from_residual-in_err-value-in-Field-target.result _ c.from_residual-in_err-value-in-Field-target.ensures.1 (c.in_err-value-in-Field-target.ensures.built S k (ap (λ x. node_built S x c.args.frame.now.names.items) c.get-in-Field-target.ensures ∙ update_built S _ c.args.source.now _ _ _ _ c.in-OpAssign.is h))
+
+pub node-returns-in_err-value-in-Global-target-clause-built : goal.node-returns-in_err-value-in-Global-target-clause-built
+node-returns-in_err-value-in-Global-target-clause-built t c = λ S k h. handed c.from_residual-in_err-value-in-Global-target.result _ c.from_residual-in_err-value-in-Global-target.ensures.1 (c.in_err-value-in-Global-target.ensures.built S k (ap (λ x. node_built S x c.args.frame.now.names.items) c.get-in-Global-target.ensures ∙ update_built S _ c.args.source.now _ _ _ _ c.in-OpAssign.is h))
+
+pub node-returns-in_err-receiver-in-Index-clause-built : goal.node-returns-in_err-receiver-in-Index-clause-built
+node-returns-in_err-receiver-in-Index-clause-built t c = λ S k h. handed c.from_residual-in_err-receiver-in-Index.result _ c.from_residual-in_err-receiver-in-Index.ensures.1 (c.in_err-receiver-in-Index.ensures.built S k (ap (λ x. node_built S x c.args.frame.now.names.items) c.get-in-Index.ensures ∙ (update_element_built S _ c.args.source.now _ _ _ _ _ _ c.in-OpAssign.is c.in-Index.is h).0))
+
+pub node-returns-in_err-index-in-Index-clause-built : goal.node-returns-in_err-index-in-Index-clause-built
+node-returns-in_err-index-in-Index-clause-built t c = λ S k h. handed c.from_residual-in_err-index-in-Index.result _ c.from_residual-in_err-index-in-Index.ensures.1 (c.in_err-index-in-Index.ensures.built S k (at_scope (λ ns. node_built S c.get-in-Index-2.result.now ns) _ _ (c.in_ok-receiver-in-Index.ensures.names) (ap (λ x. node_built S x c.args.frame.now.names.items) c.get-in-Index-2.ensures ∙ (update_element_built S _ c.args.source.now _ _ _ _ _ _ c.in-OpAssign.is c.in-Index.is h).1)))
+
+pub node-returns-in_err-value-in-Index-clause-built : goal.node-returns-in_err-value-in-Index-clause-built
+node-returns-in_err-value-in-Index-clause-built t c = λ S k h. handed c.from_residual-in_err-value-in-Index.result _ c.from_residual-in_err-value-in-Index.ensures.1 (c.in_err-value-in-Index.ensures.built S k (at_scope (λ ns. node_built S c.get-in-Index-3.result.now ns) _ _ (c.in_ok-index-in-Index.ensures.names ∙ c.in_ok-receiver-in-Index.ensures.names) (ap (λ x. node_built S x c.args.frame.now.names.items) c.get-in-Index-3.ensures ∙ update_built S _ c.args.source.now _ _ _ _ c.in-OpAssign.is h)))
+
+pub node-returns-in_err-receiver-in-Attribute-clause-built : goal.node-returns-in_err-receiver-in-Attribute-clause-built
+node-returns-in_err-receiver-in-Attribute-clause-built t c = λ S k h. handed c.from_residual-in_err-receiver-in-Attribute.result _ c.from_residual-in_err-receiver-in-Attribute.ensures.1 (c.in_err-receiver-in-Attribute.ensures.built S k (ap (λ x. node_built S x c.args.frame.now.names.items) c.get-in-Attribute.ensures ∙ (update_attribute_built S _ c.args.source.now _ _ _ _ _ _ c.in-OpAssign.is c.in-Attribute.is h).1))
+
+pub node-returns-in_err-value-in-Attribute-clause-built : goal.node-returns-in_err-value-in-Attribute-clause-built
+node-returns-in_err-value-in-Attribute-clause-built t c = λ S k h. handed c.from_residual-in_err-value-in-Attribute.result _ c.from_residual-in_err-value-in-Attribute.ensures.1 (c.in_err-value-in-Attribute.ensures.built S k (at_scope (λ ns. node_built S c.get-in-Attribute-2.result.now ns) _ _ (c.in_ok-receiver-in-Attribute.ensures.names) (ap (λ x. node_built S x c.args.frame.now.names.items) c.get-in-Attribute-2.ensures ∙ update_built S _ c.args.source.now _ _ _ _ c.in-OpAssign.is h)))
+
+pub node-returns-in_ok-value-in-Attribute-clause-built : goal.node-returns-in_ok-value-in-Attribute-clause-built
+node-returns-in_ok-value-in-Attribute-clause-built t c = λ S k h. c.attribute_updated.ensures.built (ap (λ ts. begins_word (name_text ts c.in-Attribute.name)) (sym k.texts) ∙ (update_attribute_built S _ c.args.source.now _ _ _ _ _ _ c.in-OpAssign.is c.in-Attribute.is h).0)
+
+pub node-returns-in_err-receiver-in-Call-clause-built : goal.node-returns-in_err-receiver-in-Call-clause-built
+node-returns-in_err-receiver-in-Call-clause-built t c = λ S k h. handed c.from_residual-in_err-receiver-in-Call.result _ c.from_residual-in_err-receiver-in-Call.ensures.1 (c.in_err-receiver-in-Call.ensures.built S k ((call_built S _ c.args.source.now _ _ _ _ _ c.in-Call.is h).of_receiver))
+
+pub node-returns-in_err-args-in-Call-clause-built : goal.node-returns-in_err-args-in-Call-clause-built
+node-returns-in_err-args-in-Call-clause-built t c = λ S k h. handed c.from_residual-in_err-args-in-Call.result _ c.from_residual-in_err-args-in-Call.ensures.1 (c.in_err-args-in-Call.ensures.built S k (at_scope (λ ns. body_built S c.as_slice-in-Call.result.now ns) _ _ (c.in_ok-receiver-in-Call.ensures.names) (ap (λ x. body_built S x c.args.frame.now.names.items) c.as_slice-in-Call.ensures ∙ (call_built S _ c.args.source.now _ _ _ _ _ c.in-Call.is h).of_args)))
+
+pub node-returns-in_err-block-in-Call-clause-built : goal.node-returns-in_err-block-in-Call-clause-built
+node-returns-in_err-block-in-Call-clause-built t c = λ S k h. handed c.from_residual-in_err-block-in-Call.result _ c.from_residual-in_err-block-in-Call.ensures.1 (c.in_err-block-in-Call.ensures.built S k (at_scope (λ ns. coded.if_some (option_map (block_built S) c.in-Call.block) ns) _ _ (c.in_ok-args-in-Call.ensures.names ∙ c.in_ok-receiver-in-Call.ensures.names) ((call_built S _ c.args.source.now _ _ _ _ _ c.in-Call.is h).of_block)))
+
+pub node-returns-in_ok-block-in-Call-clause-built : goal.node-returns-in_ok-block-in-Call-clause-built
+node-returns-in_ok-block-in-Call-clause-built t c = λ S k h. c.called.ensures.built (same_call _ _ _ _ _ _ c.in_ok-receiver-in-Call.ensures.erases c.in_ok-block-in-Call.ensures.erases (call_built S _ c.args.source.now _ _ _ _ _ c.in-Call.is h).spelled)
+
+pub node-returns-in_err-args-in-New-clause-built : goal.node-returns-in_err-args-in-New-clause-built
+node-returns-in_err-args-in-New-clause-built t c = λ S k h. handed c.from_residual-in_err-args-in-New.result _ c.from_residual-in_err-args-in-New.ensures.1 (c.in_err-args-in-New.ensures.built S k (ap (λ x. body_built S x c.args.frame.now.names.items) c.as_slice-in-New.ensures ∙ (new_built S _ c.args.source.now _ _ _ c.in-New.is h).1))
+
+pub node-returns-in_ok-args-in-New-clause-built : goal.node-returns-in_ok-args-in-New-clause-built
+node-returns-in_ok-args-in-New-clause-built t c = λ S k h. c.made.ensures.built S k (new_built S _ c.args.source.now _ _ _ c.in-New.is h).0
+
+pub node-returns-in_err-args-in-ThreadNew-clause-built : goal.node-returns-in_err-args-in-ThreadNew-clause-built
+node-returns-in_err-args-in-ThreadNew-clause-built t c = λ S k h. handed c.from_residual-in_err-args-in-ThreadNew.result _ c.from_residual-in_err-args-in-ThreadNew.ensures.1 (c.in_err-args-in-ThreadNew.ensures.built S k (ap (λ x. body_built S x c.args.frame.now.names.items) c.as_slice-in-ThreadNew.ensures ∙ (thread_built S _ c.args.source.now _ _ _ c.in-ThreadNew.is h).1))
+
+pub node-returns-in_ok-args-in-ThreadNew-clause-built : goal.node-returns-in_ok-args-in-ThreadNew-clause-built
+node-returns-in_ok-args-in-ThreadNew-clause-built t c = λ S k h. c.started.ensures.built S _ k (at_scope (λ ns. are_seen (S.captured_names c.in-ThreadNew.number) ns) _ _ c.in_ok-args-in-ThreadNew.ensures.names (thread_built S _ c.args.source.now _ _ _ c.in-ThreadNew.is h).0)
+
+pub node-returns-in_err-left-in-And-clause-built : goal.node-returns-in_err-left-in-And-clause-built
+node-returns-in_err-left-in-And-clause-built t c = λ S k h. handed c.from_residual-in_err-left-in-And.result _ c.from_residual-in_err-left-in-And.ensures.1 (c.in_err-left-in-And.ensures.built S k (ap (λ x. node_built S x c.args.frame.now.names.items) c.get-in-And.ensures ∙ (and_built S _ c.args.source.now _ _ _ c.in-And.is h).0))
+
+pub node-returns-in_err-right-in-And-clause-built : goal.node-returns-in_err-right-in-And-clause-built
+node-returns-in_err-right-in-And-clause-built t c = λ S k h. handed c.from_residual-in_err-right-in-And.result _ c.from_residual-in_err-right-in-And.ensures.1 (c.in_err-right-in-And.ensures.built S k (at_scope (λ ns. node_built S c.get-in-And-2.result.now ns) _ _ (c.in_ok-left-in-And.ensures.names) (ap (λ x. node_built S x c.args.frame.now.names.items) c.get-in-And-2.ensures ∙ (and_built S _ c.args.source.now _ _ _ c.in-And.is h).1)))
+
+pub node-returns-in_err-left-in-Or-clause-built : goal.node-returns-in_err-left-in-Or-clause-built
+node-returns-in_err-left-in-Or-clause-built t c = λ S k h. handed c.from_residual-in_err-left-in-Or.result _ c.from_residual-in_err-left-in-Or.ensures.1 (c.in_err-left-in-Or.ensures.built S k (ap (λ x. node_built S x c.args.frame.now.names.items) c.get-in-Or.ensures ∙ (or_built S _ c.args.source.now _ _ _ c.in-Or.is h).0))
+
+pub node-returns-in_err-right-in-Or-clause-built : goal.node-returns-in_err-right-in-Or-clause-built
+node-returns-in_err-right-in-Or-clause-built t c = λ S k h. handed c.from_residual-in_err-right-in-Or.result _ c.from_residual-in_err-right-in-Or.ensures.1 (c.in_err-right-in-Or.ensures.built S k (at_scope (λ ns. node_built S c.get-in-Or-2.result.now ns) _ _ (c.in_ok-left-in-Or.ensures.names) (ap (λ x. node_built S x c.args.frame.now.names.items) c.get-in-Or-2.ensures ∙ (or_built S _ c.args.source.now _ _ _ c.in-Or.is h).1)))
+
+pub node-returns-in_err-value-in-Not-clause-built : goal.node-returns-in_err-value-in-Not-clause-built
+node-returns-in_err-value-in-Not-clause-built t c = λ S k h. handed c.from_residual-in_err-value-in-Not.result _ c.from_residual-in_err-value-in-Not.ensures.1 (c.in_err-value-in-Not.ensures.built S k (ap (λ x. node_built S x c.args.frame.now.names.items) c.get-in-Not.ensures ∙ not_built S _ c.args.source.now _ _ c.in-Not.is h))
+
+pub node-returns-in_err-condition-in-If-clause-built : goal.node-returns-in_err-condition-in-If-clause-built
+node-returns-in_err-condition-in-If-clause-built t c = λ S k h. handed c.from_residual-in_err-condition-in-If.result _ c.from_residual-in_err-condition-in-If.ensures.1 (c.in_err-condition-in-If.ensures.built S k (ap (λ x. node_built S x c.args.frame.now.names.items) c.get-in-If.ensures ∙ (if_built S _ c.args.source.now _ _ _ _ c.in-If.is h).0))
+
+pub node-returns-in_err-first-in-If-clause-built : goal.node-returns-in_err-first-in-If-clause-built
+node-returns-in_err-first-in-If-clause-built t c = λ S k h. handed c.from_residual-in_err-first-in-If.result _ c.from_residual-in_err-first-in-If.ensures.1 (c.in_err-first-in-If.ensures.built S k (at_scope (λ ns. body_built S c.as_slice-in-If.result.now ns) _ _ (c.in_ok-condition-in-If.ensures.names) (ap (λ x. body_built S x c.args.frame.now.names.items) c.as_slice-in-If.ensures ∙ (if_built S _ c.args.source.now _ _ _ _ c.in-If.is h).1.0)))
+
+pub node-returns-in_err-second-in-If-clause-built : goal.node-returns-in_err-second-in-If-clause-built
+node-returns-in_err-second-in-If-clause-built t c = λ S k h. handed c.from_residual-in_err-second-in-If.result _ c.from_residual-in_err-second-in-If.ensures.1 (c.in_err-second-in-If.ensures.built S k (at_scope (λ ns. body_built S c.as_slice-in-If-2.result.now ns) _ _ (c.in_ok-first-in-If.ensures.names ∙ c.in_ok-condition-in-If.ensures.names) (ap (λ x. body_built S x c.args.frame.now.names.items) c.as_slice-in-If-2.ensures ∙ (if_built S _ c.args.source.now _ _ _ _ c.in-If.is h).1.1)))
+
+pub node-returns-in_err-condition-in-While-clause-built : goal.node-returns-in_err-condition-in-While-clause-built
+node-returns-in_err-condition-in-While-clause-built t c = λ S k h. handed c.from_residual-in_err-condition-in-While.result _ c.from_residual-in_err-condition-in-While.ensures.1 (c.in_err-condition-in-While.ensures.built S k (ap (λ x. node_built S x c.args.frame.now.names.items) c.get-in-While.ensures ∙ (while_built S _ c.args.source.now _ _ _ c.in-While.is h).0))
+
+pub node-returns-in_err-nodes-in-While-clause-built : goal.node-returns-in_err-nodes-in-While-clause-built
+node-returns-in_err-nodes-in-While-clause-built t c = λ S k h. handed c.from_residual-in_err-nodes-in-While.result _ c.from_residual-in_err-nodes-in-While.ensures.1 (c.in_err-nodes-in-While.ensures.built S k (at_scope (λ ns. body_built S c.as_slice-in-While.result.now ns) _ _ (c.in_ok-condition-in-While.ensures.names) (ap (λ x. body_built S x c.args.frame.now.names.items) c.as_slice-in-While.ensures ∙ (while_built S _ c.args.source.now _ _ _ c.in-While.is h).1)))
+
+pub node-returns-in_err-value-in-Return-clause-built : goal.node-returns-in_err-value-in-Return-clause-built
+node-returns-in_err-value-in-Return-clause-built t c = λ S k h. handed c.from_residual-in_err-value-in-Return.result _ c.from_residual-in_err-value-in-Return.ensures.1 (c.in_err-value-in-Return.ensures.built S k (return_built S _ c.args.source.now _ _ c.in-Return.is h))
+
+pub boxed-returns-in_err-code-clause-built : goal.boxed-returns-in_err-code-clause-built
+boxed-returns-in_err-code-clause-built t c = λ S k h. handed c.from_residual.result _ c.from_residual.ensures.1 (c.in_err-code.ensures.built S k h)
+
+pub optional-returns-in_err-code-in-Some-clause-built : goal.optional-returns-in_err-code-in-Some-clause-built
+optional-returns-in_err-code-in-Some-clause-built t c = λ S k h. handed c.from_residual.result _ c.from_residual.ensures.1 (c.in_err-code-in-Some.ensures.built S k (ap (λ x. node_built S x c.args.frame.now.names.items) c.get.ensures ∙ (sym (ap (λ o. coded.if_some (option_map (node_built S) o) c.args.frame.now.names.items) c.in-Some.is) ∙ h)))
+
+pub optional_block-returns-in_err-code-in-Some-clause-built : goal.optional_block-returns-in_err-code-in-Some-clause-built
+optional_block-returns-in_err-code-in-Some-clause-built t c = λ S k h. handed c.from_residual.result _ c.from_residual.ensures.1 (c.in_err-code-in-Some.ensures.built S k (ap (λ x. block_built S x c.args.frame.now.names.items) c.get.ensures ∙ (sym (ap (λ o. coded.if_some (option_map (block_built S) o) c.args.frame.now.names.items) c.in-Some.is) ∙ h)))
+
+pub body-returns-in_err-code-clause-built : goal.body-returns-in_err-code-clause-built
+body-returns-in_err-code-clause-built t c = λ S k h. handed c.from_residual.result _ c.from_residual.ensures.1 (c.in_err-code.ensures.built S k (at_scope (node_built S c.source-item.result) _ _ c.nodes.invariant.names (every_at (node_built S) c.args.nodes.now c.nodes.source-index _ _ c.nodes-test.true c.source-item.is h)))
+
+pub text-returns-in_err-part-clause-built : goal.text-returns-in_err-part-clause-built
+text-returns-in_err-part-clause-built t c = λ S k h. handed c.from_residual.result _ c.from_residual.ensures.1 (c.in_err-part.ensures.built S k (at_scope (piece_built S c.source-item.result) _ _ c.pieces.invariant.names (every_at (piece_built S) c.args.pieces.now c.pieces.source-index _ _ c.pieces-test.true c.source-item.is h)))
+
+pub pairs-returns-in_err-key-clause-built : goal.pairs-returns-in_err-key-clause-built
+pairs-returns-in_err-key-clause-built t c = λ S k h. handed c.from_residual.result _ c.from_residual.ensures.1 (c.in_err-key.ensures.built S k (at_scope (node_built S _) _ _ c.pairs.invariant.names (conjunction _ _ (every_at (pair_built S) c.args.sources.now c.pairs.pair-index c.pair-item.result _ c.pairs-test.true c.pair-item.is h))))
+
+pub pairs-returns-in_err-value-clause-built : goal.pairs-returns-in_err-value-clause-built
+pairs-returns-in_err-value-clause-built t c = λ S k h. handed c.from_residual-in_err-value.result _ c.from_residual-in_err-value.ensures.1 (c.in_err-value.ensures.built S k (at_scope (node_built S _) _ _ (c.in_ok-key.ensures.names ∙ c.pairs.invariant.names) (conjunction_rest _ _ (every_at (pair_built S) c.args.sources.now c.pairs.pair-index c.pair-item.result _ c.pairs-test.true c.pair-item.is h))))
+
+pub arguments-returns-in_err-codes-clause-built : goal.arguments-returns-in_err-codes-clause-built
+arguments-returns-in_err-codes-clause-built t c = λ S k h. handed c.from_residual.result _ c.from_residual.ensures.1 (c.in_err-codes.ensures.built S k (at_scope (body_built S c.args.nodes.now) _ _ (ap (λ v. v.items) c.wait.ensures.names) h))
+
+pub piece-returns-in_err-code-in-Code-clause-built : goal.piece-returns-in_err-code-in-Code-clause-built
+piece-returns-in_err-code-in-Code-clause-built t c = λ S k h. handed c.from_residual-in_err-code-in-Code.result _ c.from_residual-in_err-code-in-Code.ensures.1 (c.in_err-code-in-Code.ensures.built S k (code_built S _ c.args.source.now _ c.in-Code.is h))
+
+pub block-returns-in_err-nodes-clause-built : goal.block-returns-in_err-nodes-clause-built
+block-returns-in_err-nodes-clause-built t c = λ S k h. handed c.from_residual-in_err-nodes.result _ c.from_residual-in_err-nodes.ensures.1 (c.in_err-nodes.ensures.built S k (at_scope (body_built S c.as_slice.result.now) _ _ (c.in_ok-from.ensures.names ∙ ap (λ ns. c.args.frame.now.names.items ++ ns) (c.of_block.ensures ∙ k.blocks c.args.source.now.at)) (ap (λ x. body_built S x (c.args.frame.now.names.items ++ S.block_names c.args.source.now.at)) c.as_slice.ensures ∙ block_body_built S c.args.frame.now.names.items c.args.source.now h)))

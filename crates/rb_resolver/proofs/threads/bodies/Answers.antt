@@ -1,7 +1,9 @@
-use Rattle.std.proofs.Common.{◌≡◌, ◌∙◌, ◌∷◌, [], ap, map, length, length-append, arith, rules}
+use Rattle.std.proofs.Common.{◌≡◌, ◌∙◌, ◌+◌, ◌∷◌, sym, [], ap, map, length, length-append, arith, rules}
 use Rattle.std.proofs.lemmas.List.{take_all}
 use Rattle.rb_code.specs.Erase.{erase_body}
 use Rattle.rb_code.specs.Stands.{IsBody}
+use Rattle.rb_resolver.proofs.Built.{handed, body_at}
+use Rattle.rb_resolver.specs.Built.{body_built}
 use Rattle.rb_resolver.proofs.Fitted.{map_pushed}
 use Rattle.rb_resolver.proofs.Started.{each_pushed, none_there}
 use Rattle.rb_resolver.proofs.threads.bodies.Goals as goal
@@ -30,3 +32,11 @@ bodies-preserved c =
 
 pub returns-clause-erases : goal.returns-clause-erases
 returns-clause-erases c = c.bodies.invariant.erases ∙ take_all c.bodies.i c.args.sources.now c.bodies-test.false
+
+pub returns-in_err-code-clause-built : goal.returns-in_err-code-clause-built
+returns-in_err-code-clause-built c = λ S k h.
+    let number : c.in-Ok.number ≡ c.bodies.i = search rules in
+    let from_first : 0 + c.bodies.i ≡ c.bodies.i = omega arith in
+    handed c.from_residual.result _ c.from_residual.ensures.1
+    (c.in_err-code.ensures.built S k
+    (ap (λ n. body_built S c.index-sources-i.result.body (S.thread_names n)) (number ∙ sym from_first) ∙ body_at S 0 c.args.sources.now c.bodies.i c.index-sources-i.result c.bodies-test.true c.index-sources-i.is h))
