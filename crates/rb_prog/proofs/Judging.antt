@@ -1,9 +1,12 @@
 -- From what is answered to a program to what is answered to its source.
-use Rattle.std.proofs.Common.{◌≡◌, ℕ, List, [], Option, Some, None, Result, Ok, Err, sym, refl, subst}
+use Rattle.std.proofs.Common.{◌≡◌, ◌∙◌, ap, ℕ, true, List, [], length, Option, Some, None, Result, Ok, Err, sym, refl, subst}
+use Rattle.std.specs.Prelude.{IfOk}
+use Rattle.std.specs.List.{AllByRecursion}
 use Rattle.rb_tree.specs.declared.node.Program.{Program}
 use Rattle.rb_lexer.specs.declared.token.Token.{Token}
 use Rattle.rb_lexer.specs.declared.fault.LexFault.{LexFault}
 use Rattle.rb_lexer.specs.declared.fault.LexFault.TheVariants as lex
+use Rattle.rb_lexer.specs.Spans.{StandInOrder, EndsOnce, NotEmpty}
 use Rattle.rb_lexer.specs.Tokens.{Lexes, Answers}
 use Rattle.rb_grammar.specs.Program.{IsProgram, max_height, max_levels}
 use Rattle.rb_grammar.specs.Script.{BeginsNone}
@@ -22,6 +25,10 @@ use Rattle.rb_prog.specs.Accepting.{Judges, AcceptsOf, rejected_status, rejected
 use Rattle.rb_prog.specs.Accepting as spec
 use Rattle.rb_prog.specs.Run as run
 use Rattle.rb_prog.specs.Run.{Accepts, RefusedBy, unread, syntax, too_nested, broken, RunsSource}
+use Rattle.rb_accepted.specs.Coded.{has_code}
+use Rattle.rb_accepted.specs.Laws.{AreOrdered}
+use Rattle.rb_accepted.proofs.Coded.{accepted_has_code}
+use Rattle.rb_accepted.proofs.Words.{lexed_are_words}
 use Rattle.rb_prog.proofs.Refusing.{is_refused}
 
 -- a program that its tokens spell
@@ -35,6 +42,15 @@ judged source tokens program (Err (unaccepted.Refused (refusal.Unread fault))) l
 judged source tokens program (Err (unaccepted.Refused (refusal.Unparsed fault))) l p j = absurd j
 judged source tokens program (Err (unaccepted.Refused (refusal.Broken fault))) l p j = broken l p j
 judged source tokens program (Err unaccepted.Memory) l p j = tt
+
+-- and it has code
+pub judged_coded : (source : List ℕ) (tokens : List Token) (program : Program) (result : Result Program Unaccepted) → StandInOrder 0 (length source) tokens → EndsOnce tokens
+    → AllByRecursion NotEmpty tokens → Lexes source (Ok tokens) → IsProgram max_height max_levels tokens program → Judges program result
+    → IfOk result (λ p. has_code p ≡ true)
+judged_coded source tokens program (Ok found) stand ends long l p j =
+    let ordered : AreOrdered tokens = record { from = 0; to = length source; stand = stand; ends = ends; long = long; words = lexed_are_words source tokens l } in
+    ap has_code j.0 ∙ accepted_has_code max_height max_levels tokens program ordered p j.1
+judged_coded source tokens program (Err why) stand ends long l p j = tt
 
 -- tokens that spell none
 pub none_parsed : (source : List ℕ) (tokens : List Token) (fault : ParseFault) (why : Unaccepted) → Lexes source (Ok tokens)

@@ -1,6 +1,7 @@
 // The run of an accepted program.
 
-ghost use Rattle.std.specs.Prelude.{◌≡◌, ◌≤◌, ℕ, IfOk, IfErr};
+ghost use Rattle.std.specs.Prelude.{◌≡◌, ◌≤◌, ℕ, true, IfOk, IfErr};
+ghost use Rattle.rb_accepted.specs.Coded.{has_code};
 ghost use Rattle.rb_code.specs.Stands.{StandsFor};
 ghost use Rattle.rb_edge.specs.Edge.{Rose};
 ghost use Rattle.rb_model.specs.Ends.{over};
@@ -13,7 +14,7 @@ use local_heap::LocalHeap;
 use rb_code::CodeScript;
 use rb_edge::{Gate, Sink};
 use rb_model::End;
-use rb_resolver::resolve;
+use rb_resolver::{ResolveFault, resolve};
 use rb_tree::Program;
 use shape_tree::Tree;
 use shared_script::Shared;
@@ -87,6 +88,7 @@ pub(crate) fn run_accepted<
     K: Sink + Send + Drop + 'static,
     G: Gate + Sync,
 >(rt: &R, alloc: Global, program: &Program, steps: u64, out: K, gate: &G) -> Result<Run<K>, K>
+    requires { has_code program.now ≡ true }
     ensures runs { IfOk result (λ run. IsShown program.now steps (K.told out) (K.told run.out) (shown run.front) (over run.end) run.shapes) }
     ensures cause { IfOk result (λ run. over run.end ≡ ending.Sink → Rose (K.faults out) (K.faults run.out)) }
     ensures never_full { IfOk result (λ run. (used asked : ℕ) → over run.end ≡ ending.Full used asked → ⊥) }
@@ -95,6 +97,7 @@ pub(crate) fn run_accepted<
 {
     match resolve(alloc, program) {
         Ok(code) => run_threads(rt, alloc, program, &code, steps, out, gate),
-        Err(_) => Err(out),
+        Err(ResolveFault::Memory) => Err(out),
+        Err(ResolveFault::NotBuilt(_)) => unreachable!(),
     }
 }

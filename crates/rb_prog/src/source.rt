@@ -1,6 +1,7 @@
 // From a source to a program that is run, or to its refusal.
 
-ghost use Rattle.std.specs.Prelude.{◌≡◌};
+ghost use Rattle.std.specs.Prelude.{◌≡◌, true, IfOk};
+ghost use Rattle.rb_accepted.specs.Coded.{has_code};
 ghost use Rattle.rb_prog.specs.Accepting.{Judges, AcceptsOf, unread, unparsed, broken};
 
 use crate::refusal::Refusal;
@@ -57,9 +58,10 @@ fn judged(alloc: Global, program: Program) -> Result<Program, Unaccepted>
     }
 }
 
-/// The program of a source that is run.
+/// The program of a source that is run. It has code, as each program has that is spelled and keeps the rules of names.
 pub(crate) fn accept(alloc: Global, source: &[u8]) -> Result<Program, Unaccepted>
-    ensures { AcceptsOf source.now result }
+    ensures accepts { AcceptsOf source.now result }
+    ensures coded { IfOk result (λ program. has_code program ≡ true) }
 {
     let tokens = match lex(alloc, source) {
         Ok(tokens) => tokens,
