@@ -137,10 +137,12 @@ impl<'p, O: ThreadStore + Drop> Walker<'p, O> {
         if is_left(came) {
             return came;
         }
-        if self.is_true_now(came) {
-            return self.body(first, depth, room);
-        }
-        self.body(second, depth, room)
+        let chosen = if self.is_true_now(came) {
+            first
+        } else {
+            second
+        };
+        self.body(chosen, depth, room)
     }
 
     /// The statements of a body, one after another.
@@ -196,16 +198,13 @@ impl<'p, O: ThreadStore + Drop> Walker<'p, O> {
         ensures kept { Kept (node_fits code.now) self.old room.old room.new }
         ensures came { WalksUnread (node_fits code.now) (at_node code.now) self.old self.new room.old room.new depth result }
     {
-        match code {
-            Code::SetLocal(slot, _, value, _) => {
-                if self.left > 0 && depth < MAX_DEPTH {
-                    self.left -= 1;
-                    return self.keep_local(*slot, value.get(), depth + 1, room);
-                }
-                self.walk_here(code, depth, room)
+        if let Code::SetLocal(slot, _, value, _) = code {
+            if self.left > 0 && depth < MAX_DEPTH {
+                self.left -= 1;
+                return self.keep_local(*slot, value.get(), depth + 1, room);
             }
-            _ => self.walk_here(code, depth, room),
         }
+        self.walk_here(code, depth, room)
     }
 
     /// An assignment to a local, which is not given on. What an attribute of a local's object has goes into the slot at once.

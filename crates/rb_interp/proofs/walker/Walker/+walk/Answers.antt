@@ -62,7 +62,7 @@ use Rattle.rb_walk.proofs.Objects.{fielded_by, read_so, created, created_from, i
 use Rattle.rb_walk.proofs.Owning.{no_owning, owning_left, owning_opens}
 use Rattle.rb_walk.specs.Objects.{of_self, of_all, plainly as fielded, globally, updating as field_updated}
 use Rattle.rb_interp.proofs.Alike.{Alike, alike}
-use Rattle.rb_interp.proofs.walker.Walker.+walk.Goals.{arguments-then-self-room+then-self-gt0+then-depth-lt-MAX_DEPTH+in_default+in_default-local_at, arguments-then-self-room+then-self-gt0+then-depth-lt-MAX_DEPTH+in_default+in-Some-local_at+in_default-share, arguments-else-self-room, text-in-Text+in_default, text-in-Code+else-is_left+else-is_left-2+in_default-add_value}
+use Rattle.rb_interp.proofs.walker.Walker.+walk.Goals.{choose-then-is_true_now, choose-else-is_true_now, arguments-then-self-room+then-self-gt0+then-depth-lt-MAX_DEPTH+in_default+in_default-local_at, arguments-then-self-room+then-self-gt0+then-depth-lt-MAX_DEPTH+in_default+in-Some-local_at+in_default-share, arguments-else-self-room, text-in-Text+in_default, text-in-Code+else-is_left+else-is_left-2+in_default-add_value}
 use Rattle.rb_walk.proofs.Endings.{quietly}
 use Rattle.rb_render.specs.Forms.{style_of}
 use Rattle.rb_model.specs.declared.value.Value.TheVariants as held
@@ -299,33 +299,33 @@ choose-returns-then-is_left-clause-came g m c = λ S names size st e l. (
       passes S _ start _ w.result w.new.self.value w.new.self.leave _ (Choose (map erase c.args.first.now) (map erase c.args.second.now)) k _ _ _ (sym c.is_left.ensures ∙ c.if-is_left.true) came,
 )
 
-pub choose-returns-then-is_true_now-clause-came : goal.choose-returns-then-is_true_now-clause-came
-choose-returns-then-is_true_now-clause-came g m c = λ S names size st e l.
-    let w = c.test-came in
-    let under = moved _ _ w.ensures.base w.ensures.room (sub (every (map (fits S) c.args.first.now)) l (fst _ _ (snd _ _ l.fits))) in
-    let f = rw w.ensures.context at c.body.ensures.came in (
-      λ i p q. (f S names size st e under).0 i p (omega (arith, q, w.ensures.base)) ∙ w.ensures.kept S names size st e (sub (fits S c.args.condition.now) l (fst _ _ l.fits)) i p q,
-      λ start k a.
-          let none = sym c.is_left.ensures ∙ c.if-is_left.false in
-          let some = w.ensures.came.1 none in
-          let g = some.2 S start (Then (Choose (map erase c.args.first.now) (map erase c.args.second.now)) ∷ k) names size st e (sub (fits S c.args.condition.now) l (fst _ _ l.fits)) a in
-          let t = some.1 ∙ sym (c.is_true_now.ensures none) in
-          (f S names size st e under).1 start k (chosen_first (t ∙ c.if-is_true_now.true) g),
-    )
-
 pub choose-returns-clause-came : goal.choose-returns-clause-came
-choose-returns-clause-came g m c = λ S names size st e l.
-    let w = c.test-came in
-    let under = moved _ _ w.ensures.base w.ensures.room (sub (every (map (fits S) c.args.second.now)) l (snd _ _ (snd _ _ l.fits))) in
-    let f = rw w.ensures.context at c.body-2.ensures.came in (
-      λ i p q. (f S names size st e under).0 i p (omega (arith, q, w.ensures.base)) ∙ w.ensures.kept S names size st e (sub (fits S c.args.condition.now) l (fst _ _ l.fits)) i p q,
-      λ start k a.
-          let none = sym c.is_left.ensures ∙ c.if-is_left.false in
-          let some = w.ensures.came.1 none in
-          let g = some.2 S start (Then (Choose (map erase c.args.first.now) (map erase c.args.second.now)) ∷ k) names size st e (sub (fits S c.args.condition.now) l (fst _ _ l.fits)) a in
-          let t = some.1 ∙ sym (c.is_true_now.ensures none) in
-          (f S names size st e under).1 start k (chosen_second (t ∙ c.if-is_true_now.false) g),
-    )
+choose-returns-clause-came g m c = elim c.if-is_true_now.branch [
+  | choose-then-is_true_now x ↦ λ S names size st e l.
+      let w = c.test-came in
+      let under = moved _ _ w.ensures.base w.ensures.room (sub (every (map (fits S) c.args.first.now)) l (fst _ _ (snd _ _ l.fits))) in
+      let f = rw (x.chosen-is, w.ensures.context) at c.body.ensures.came in (
+        λ i p q. (f S names size st e under).0 i p (omega (arith, q, w.ensures.base)) ∙ w.ensures.kept S names size st e (sub (fits S c.args.condition.now) l (fst _ _ l.fits)) i p q,
+        λ start k a.
+            let none = sym c.is_left.ensures ∙ c.if-is_left.false in
+            let some = w.ensures.came.1 none in
+            let g = some.2 S start (Then (Choose (map erase c.args.first.now) (map erase c.args.second.now)) ∷ k) names size st e (sub (fits S c.args.condition.now) l (fst _ _ l.fits)) a in
+            let t = some.1 ∙ sym (c.is_true_now.ensures none) in
+            (f S names size st e under).1 start k (chosen_first (t ∙ x.if-is_true_now.true) g),
+      )
+  | choose-else-is_true_now x ↦ λ S names size st e l.
+      let w = c.test-came in
+      let under = moved _ _ w.ensures.base w.ensures.room (sub (every (map (fits S) c.args.second.now)) l (snd _ _ (snd _ _ l.fits))) in
+      let f = rw (x.chosen-is, w.ensures.context) at c.body.ensures.came in (
+        λ i p q. (f S names size st e under).0 i p (omega (arith, q, w.ensures.base)) ∙ w.ensures.kept S names size st e (sub (fits S c.args.condition.now) l (fst _ _ l.fits)) i p q,
+        λ start k a.
+            let none = sym c.is_left.ensures ∙ c.if-is_left.false in
+            let some = w.ensures.came.1 none in
+            let g = some.2 S start (Then (Choose (map erase c.args.first.now) (map erase c.args.second.now)) ∷ k) names size st e (sub (fits S c.args.condition.now) l (fst _ _ l.fits)) a in
+            let t = some.1 ∙ sym (c.is_true_now.ensures none) in
+            (f S names size st e under).1 start k (chosen_second (t ∙ x.if-is_true_now.false) g),
+      )
+]
 
 pub body-returns-in_default-clause-came : goal.body-returns-in_default-clause-came
 body-returns-in_default-clause-came g m c = λ S names size st e l. (
@@ -523,20 +523,12 @@ statement-returns-then-depth-lt-MAX_DEPTH-clause-came g m c =
           ),
     )
 
-pub statement-returns-else-self-gt0-clause-kept : goal.statement-returns-else-self-gt0-clause-kept
-statement-returns-else-self-gt0-clause-kept g m c = (λ S names size st e l. (c.walk_here.ensures.came S names size st e l).0)
+pub statement-returns-clause-kept : goal.statement-returns-clause-kept
+statement-returns-clause-kept g m c = (λ S names size st e l. (c.walk_here.ensures.came S names size st e l).0)
 
-pub statement-returns-else-self-gt0-clause-came : goal.statement-returns-else-self-gt0-clause-came
-statement-returns-else-self-gt0-clause-came g m c =
+pub statement-returns-clause-came : goal.statement-returns-clause-came
+statement-returns-clause-came g m c =
     let w = c.walk_here in
-    (λ gone. (λ S start k names size st e l. (w.ensures.came S names size st e l).1 start k), λ none. (value_of w.result w.new.self.value, λ S start k names size st e l a. given w.result w.new.self.value w.new.self.leave none ((w.ensures.came S names size st e l).1 start k a)))
-
-pub statement-returns-in_default-clause-kept : goal.statement-returns-in_default-clause-kept
-statement-returns-in_default-clause-kept g m c = (λ S names size st e l. (c.walk_here-in_default.ensures.came S names size st e l).0)
-
-pub statement-returns-in_default-clause-came : goal.statement-returns-in_default-clause-came
-statement-returns-in_default-clause-came g m c =
-    let w = c.walk_here-in_default in
     (λ gone. (λ S start k names size st e l. (w.ensures.came S names size st e l).1 start k), λ none. (value_of w.result w.new.self.value, λ S start k names size st e l a. given w.result w.new.self.value w.new.self.leave none ((w.ensures.came S names size st e l).1 start k a)))
 
 pub keep_local-returns-then-slot-room-clause-kept : goal.keep_local-returns-then-slot-room-clause-kept
