@@ -1,5 +1,4 @@
 use Rattle.rb_tree.specs.declared.node.Program.{Program}
-use Rattle.rb_machine.proofs.Down.{begin_left}
 use Rattle.rb_tree.specs.declared.node.Node.{out-Node}
 use Rattle.rb_walk.specs.Answers.{OrMemory, outcome_of}
 use Rattle.rb_walk.specs.Carries.{numbered, goes_on, plainly, updating, scope_of, written_by, printing, me_of}
@@ -62,6 +61,7 @@ use Rattle.rb_walk.proofs.Objects.{fielded_by, read_so, created, created_from, i
 use Rattle.rb_walk.proofs.Owning.{no_owning, owning_left, owning_opens}
 use Rattle.rb_walk.specs.Objects.{of_self, of_all, plainly as fielded, globally, updating as field_updated}
 use Rattle.rb_interp.proofs.Alike.{Alike, alike}
+use Rattle.rb_interp.proofs.Arms.{no_arm}
 use Rattle.rb_interp.proofs.walker.Walker.+walk.Goals.{choose-then-is_true_now, choose-else-is_true_now, arguments-then-self-room+then-self-gt0+then-depth-lt-MAX_DEPTH+in_default+in_default-local_at, arguments-then-self-room+then-self-gt0+then-depth-lt-MAX_DEPTH+in_default+in-Some-local_at+in_default-share, arguments-else-self-room, text-in-Text+in_default, text-in-Code+else-is_left+else-is_left-2+in_default-add_value}
 use Rattle.rb_walk.proofs.Endings.{quietly}
 use Rattle.rb_render.specs.Forms.{style_of}
@@ -1445,132 +1445,52 @@ pub begin-returns-in_default-clause-came : goal.begin-returns-in_default-clause-
 begin-returns-in_default-clause-came g m c = c.begin_other.ensures.came
 
 pub begin_set-returns-in_default-clause-came : goal.begin_set-returns-in_default-clause-came
-begin_set-returns-in_default-clause-came g m c = λ S names size st e l. (
-  λ i p q. refl,
-  λ start k a.
-      let o = c.over.ensures in
-      rw (o.gives, o.left, o.store) (_, a, begin_left S (out-Node (erase c.args.code.now)) k (scope_of (me_of c.args.self.now.context.me) names c.args.room.now) c.args.depth c.args.self.now.left),
-)
+begin_set-returns-in_default-clause-came g m c = λ S names size st e l. (λ i p q. refl, λ start k a. let o = c.over.ensures in no_arm S _ k _ _ _ o.gives o.left (ap g.O.ThreadStore.log o.store) (ap g.O.ThreadStore.private o.store) a)
 
 pub begin_update-returns-in_default-clause-came : goal.begin_update-returns-in_default-clause-came
-begin_update-returns-in_default-clause-came g m c = λ S names size st e l. (
-  λ i p q. refl,
-  λ start k a.
-      let o = c.over.ensures in
-      rw (o.gives, o.left, o.store) (_, a, begin_left S (out-Node (erase c.args.code.now)) k (scope_of (me_of c.args.self.now.context.me) names c.args.room.now) c.args.depth c.args.self.now.left),
-)
+begin_update-returns-in_default-clause-came g m c = λ S names size st e l. (λ i p q. refl, λ start k a. let o = c.over.ensures in no_arm S _ k _ _ _ o.gives o.left (ap g.O.ThreadStore.log o.store) (ap g.O.ThreadStore.private o.store) a)
 
 pub begin_slow_update-returns-in_default-clause-came : goal.begin_slow_update-returns-in_default-clause-came
-begin_slow_update-returns-in_default-clause-came g m c = λ S names size st e l. (
-  λ i p q. refl,
-  λ start k a.
-      let o = c.over.ensures in
-      rw (o.gives, o.left, o.store) (_, a, begin_left S (out-Node (erase c.args.code.now)) k (scope_of (me_of c.args.self.now.context.me) names c.args.room.now) c.args.depth c.args.self.now.left),
-)
+begin_slow_update-returns-in_default-clause-came g m c = λ S names size st e l. (λ i p q. refl, λ start k a. let o = c.over.ensures in no_arm S _ k _ _ _ o.gives o.left (ap g.O.ThreadStore.log o.store) (ap g.O.ThreadStore.private o.store) a)
 
 pub begin_operate-returns-in_default-clause-came : goal.begin_operate-returns-in_default-clause-came
-begin_operate-returns-in_default-clause-came g m c = λ S names size st e l. (
-  λ i p q. refl,
-  λ start k a.
-      let o = c.over.ensures in
-      rw (o.gives, o.left, o.store) (_, a, begin_left S (out-Node (erase c.args.code.now)) k (scope_of (me_of c.args.self.now.context.me) names c.args.room.now) c.args.depth c.args.self.now.left),
-)
+begin_operate-returns-in_default-clause-came g m c = λ S names size st e l. (λ i p q. refl, λ start k a. let o = c.over.ensures in no_arm S _ k _ _ _ o.gives o.left (ap g.O.ThreadStore.log o.store) (ap g.O.ThreadStore.private o.store) a)
 
 pub begin_object_operate-returns-in_default-clause-came : goal.begin_object_operate-returns-in_default-clause-came
-begin_object_operate-returns-in_default-clause-came g m c = λ S names size st e l. (
-  λ i p q. refl,
-  λ start k a.
-      let o = c.over.ensures in
-      rw (o.gives, o.left, o.store) (_, a, begin_left S (out-Node (erase c.args.code.now)) k (scope_of (me_of c.args.self.now.context.me) names c.args.room.now) c.args.depth c.args.self.now.left),
-)
+begin_object_operate-returns-in_default-clause-came g m c = λ S names size st e l. (λ i p q. refl, λ start k a. let o = c.over.ensures in no_arm S _ k _ _ _ o.gives o.left (ap g.O.ThreadStore.log o.store) (ap g.O.ThreadStore.private o.store) a)
 
 pub begin_slow_operate-returns-in_default-clause-came : goal.begin_slow_operate-returns-in_default-clause-came
-begin_slow_operate-returns-in_default-clause-came g m c = λ S names size st e l. (
-  λ i p q. refl,
-  λ start k a.
-      let o = c.over.ensures in
-      rw (o.gives, o.left, o.store) (_, a, begin_left S (out-Node (erase c.args.code.now)) k (scope_of (me_of c.args.self.now.context.me) names c.args.room.now) c.args.depth c.args.self.now.left),
-)
+begin_slow_operate-returns-in_default-clause-came g m c = λ S names size st e l. (λ i p q. refl, λ start k a. let o = c.over.ensures in no_arm S _ k _ _ _ o.gives o.left (ap g.O.ThreadStore.log o.store) (ap g.O.ThreadStore.private o.store) a)
 
 pub read_attribute-returns-in_default-clause-came : goal.read_attribute-returns-in_default-clause-came
-read_attribute-returns-in_default-clause-came g m c = λ S names size st e l. (
-  λ i p q. refl,
-  λ start k a.
-      let o = c.over.ensures in
-      rw (o.gives, o.left, o.store) (_, a, begin_left S (out-Node (erase c.args.code.now)) k (scope_of (me_of c.args.self.now.context.me) names c.args.room.now) c.args.depth c.args.self.now.left),
-)
+read_attribute-returns-in_default-clause-came g m c = λ S names size st e l. (λ i p q. refl, λ start k a. let o = c.over.ensures in no_arm S _ k _ _ _ o.gives o.left (ap g.O.ThreadStore.log o.store) (ap g.O.ThreadStore.private o.store) a)
 
 pub begin_send-returns-in_default-clause-came : goal.begin_send-returns-in_default-clause-came
-begin_send-returns-in_default-clause-came g m c = λ S names size st e l. (
-  λ i p q. refl,
-  λ start k a.
-      let o = c.over.ensures in
-      rw (o.gives, o.left, o.store) (_, a, begin_left S (out-Node (erase c.args.code.now)) k (scope_of (me_of c.args.self.now.context.me) names c.args.room.now) c.args.depth c.args.self.now.left),
-)
+begin_send-returns-in_default-clause-came g m c = λ S names size st e l. (λ i p q. refl, λ start k a. let o = c.over.ensures in no_arm S _ k _ _ _ o.gives o.left (ap g.O.ThreadStore.log o.store) (ap g.O.ThreadStore.private o.store) a)
 
 pub begin_function-returns-in_default-clause-came : goal.begin_function-returns-in_default-clause-came
-begin_function-returns-in_default-clause-came g m c = λ S names size st e l. (
-  λ i p q. refl,
-  λ start k a.
-      let o = c.over.ensures in
-      rw (o.gives, o.left, o.store) (_, a, begin_left S (out-Node (erase c.args.code.now)) k (scope_of (me_of c.args.self.now.context.me) names c.args.room.now) c.args.depth c.args.self.now.left),
-)
+begin_function-returns-in_default-clause-came g m c = λ S names size st e l. (λ i p q. refl, λ start k a. let o = c.over.ensures in no_arm S _ k _ _ _ o.gives o.left (ap g.O.ThreadStore.log o.store) (ap g.O.ThreadStore.private o.store) a)
 
 pub begin_choice-returns-in_default-clause-came : goal.begin_choice-returns-in_default-clause-came
-begin_choice-returns-in_default-clause-came g m c = λ S names size st e l. (
-  λ i p q. refl,
-  λ start k a.
-      let o = c.over.ensures in
-      rw (o.gives, o.left, o.store) (_, a, begin_left S (out-Node (erase c.args.code.now)) k (scope_of (me_of c.args.self.now.context.me) names c.args.room.now) c.args.depth c.args.self.now.left),
-)
+begin_choice-returns-in_default-clause-came g m c = λ S names size st e l. (λ i p q. refl, λ start k a. let o = c.over.ensures in no_arm S _ k _ _ _ o.gives o.left (ap g.O.ThreadStore.log o.store) (ap g.O.ThreadStore.private o.store) a)
 
 pub begin_set_field-returns-in_default-clause-came : goal.begin_set_field-returns-in_default-clause-came
-begin_set_field-returns-in_default-clause-came g m c = λ S names size st e l. (
-  λ i p q. refl,
-  λ start k a.
-      let o = c.over.ensures in
-      rw (o.gives, o.left, o.store) (_, a, begin_left S (out-Node (erase c.args.code.now)) k (scope_of (me_of c.args.self.now.context.me) names c.args.room.now) c.args.depth c.args.self.now.left),
-)
+begin_set_field-returns-in_default-clause-came g m c = λ S names size st e l. (λ i p q. refl, λ start k a. let o = c.over.ensures in no_arm S _ k _ _ _ o.gives o.left (ap g.O.ThreadStore.log o.store) (ap g.O.ThreadStore.private o.store) a)
 
 pub begin_update_field-returns-in_default-clause-came : goal.begin_update_field-returns-in_default-clause-came
-begin_update_field-returns-in_default-clause-came g m c = λ S names size st e l. (
-  λ i p q. refl,
-  λ start k a.
-      let o = c.over.ensures in
-      rw (o.gives, o.left, o.store) (_, a, begin_left S (out-Node (erase c.args.code.now)) k (scope_of (me_of c.args.self.now.context.me) names c.args.room.now) c.args.depth c.args.self.now.left),
-)
+begin_update_field-returns-in_default-clause-came g m c = λ S names size st e l. (λ i p q. refl, λ start k a. let o = c.over.ensures in no_arm S _ k _ _ _ o.gives o.left (ap g.O.ThreadStore.log o.store) (ap g.O.ThreadStore.private o.store) a)
 
 pub begin_new-returns-in_default-clause-came : goal.begin_new-returns-in_default-clause-came
-begin_new-returns-in_default-clause-came g m c = λ S names size st e l. (
-  λ i p q. refl,
-  λ start k a.
-      let o = c.over.ensures in
-      rw (o.gives, o.left, o.store) (_, a, begin_left S (out-Node (erase c.args.code.now)) k (scope_of (me_of c.args.self.now.context.me) names c.args.room.now) c.args.depth c.args.self.now.left),
-)
+begin_new-returns-in_default-clause-came g m c = λ S names size st e l. (λ i p q. refl, λ start k a. let o = c.over.ensures in no_arm S _ k _ _ _ o.gives o.left (ap g.O.ThreadStore.log o.store) (ap g.O.ThreadStore.private o.store) a)
 
 pub begin_logic-returns-in_default-clause-came : goal.begin_logic-returns-in_default-clause-came
-begin_logic-returns-in_default-clause-came g m c = λ S names size st e l. (
-  λ i p q. refl,
-  λ start k a.
-      let o = c.over.ensures in
-      rw (o.gives, o.left, o.store) (_, a, begin_left S (out-Node (erase c.args.code.now)) k (scope_of (me_of c.args.self.now.context.me) names c.args.room.now) c.args.depth c.args.self.now.left),
-)
+begin_logic-returns-in_default-clause-came g m c = λ S names size st e l. (λ i p q. refl, λ start k a. let o = c.over.ensures in no_arm S _ k _ _ _ o.gives o.left (ap g.O.ThreadStore.log o.store) (ap g.O.ThreadStore.private o.store) a)
 
 pub begin_slow_send-returns-in_default-clause-came : goal.begin_slow_send-returns-in_default-clause-came
-begin_slow_send-returns-in_default-clause-came g m c = λ S names size st e l. (
-  λ i p q. refl,
-  λ start k a.
-      let o = c.over.ensures in
-      rw (o.gives, o.left, o.store) (_, a, begin_left S (out-Node (erase c.args.code.now)) k (scope_of (me_of c.args.self.now.context.me) names c.args.room.now) c.args.depth c.args.self.now.left),
-)
+begin_slow_send-returns-in_default-clause-came g m c = λ S names size st e l. (λ i p q. refl, λ start k a. let o = c.over.ensures in no_arm S _ k _ _ _ o.gives o.left (ap g.O.ThreadStore.log o.store) (ap g.O.ThreadStore.private o.store) a)
 
 pub begin_other-returns-in_default-clause-came : goal.begin_other-returns-in_default-clause-came
-begin_other-returns-in_default-clause-came g m c = λ S names size st e l. (
-  λ i p q. refl,
-  λ start k a.
-      let o = c.over.ensures in
-      rw (o.gives, o.left, o.store) (_, a, begin_left S (out-Node (erase c.args.code.now)) k (scope_of (me_of c.args.self.now.context.me) names c.args.room.now) c.args.depth c.args.self.now.left),
-)
+begin_other-returns-in_default-clause-came g m c = λ S names size st e l. (λ i p q. refl, λ start k a. let o = c.over.ensures in no_arm S _ k _ _ _ o.gives o.left (ap g.O.ThreadStore.log o.store) (ap g.O.ThreadStore.private o.store) a)
 
 pub begin_update-returns-in-Some-clause-came : goal.begin_update-returns-in-Some-clause-came
 begin_update-returns-in-Some-clause-came g m c = λ S names size st e l.
@@ -1605,12 +1525,7 @@ begin_update_over-returns-in-Some-clause-came g m c = λ S names size st e l.
     )
 
 pub begin_update_over-returns-in_default-clause-came : goal.begin_update_over-returns-in_default-clause-came
-begin_update_over-returns-in_default-clause-came g m c = λ S names size st e l. (
-  λ i p q. refl,
-  λ start k a.
-      let o = c.over.ensures in
-      rw (o.gives, o.left, o.store) (_, a, begin_left S (out-Node (erase c.args.code.now)) k (scope_of (me_of c.args.self.now.context.me) names c.args.room.now) c.args.depth c.args.self.now.left),
-)
+begin_update_over-returns-in_default-clause-came g m c = λ S names size st e l. (λ i p q. refl, λ start k a. let o = c.over.ensures in no_arm S _ k _ _ _ o.gives o.left (ap g.O.ThreadStore.log o.store) (ap g.O.ThreadStore.private o.store) a)
 
 pub begin_update-returns-then-is_deep-clause-came : goal.begin_update-returns-then-is_deep-clause-came
 begin_update-returns-then-is_deep-clause-came g m c = c.begin_slow_update.ensures.came
@@ -1622,12 +1537,7 @@ pub begin_update-returns-then-is_send-clause-came : goal.begin_update-returns-th
 begin_update-returns-then-is_send-clause-came g m c = c.begin_update_sent.ensures.came
 
 pub begin_update_sent-returns-in_default-clause-came : goal.begin_update_sent-returns-in_default-clause-came
-begin_update_sent-returns-in_default-clause-came g m c = λ S names size st e l. (
-  λ i p q. refl,
-  λ start k a.
-      let o = c.over.ensures in
-      rw (o.gives, o.left, o.store) (_, a, begin_left S (out-Node (erase c.args.code.now)) k (scope_of (me_of c.args.self.now.context.me) names c.args.room.now) c.args.depth c.args.self.now.left),
-)
+begin_update_sent-returns-in_default-clause-came g m c = λ S names size st e l. (λ i p q. refl, λ start k a. let o = c.over.ensures in no_arm S _ k _ _ _ o.gives o.left (ap g.O.ThreadStore.log o.store) (ap g.O.ThreadStore.private o.store) a)
 
 pub begin_update_sent-returns-after-is_combining-clause-came : goal.begin_update_sent-returns-after-is_combining-clause-came
 begin_update_sent-returns-after-is_combining-clause-came g m c = c.begin_slow_update.ensures.came
@@ -1737,12 +1647,7 @@ pub begin_operate-returns-then-has_read-clause-came : goal.begin_operate-returns
 begin_operate-returns-then-has_read-clause-came g m c = c.begin_read_operate.ensures.came
 
 pub begin_read_operate-returns-in_default-clause-came : goal.begin_read_operate-returns-in_default-clause-came
-begin_read_operate-returns-in_default-clause-came g m c = λ S names size st e l. (
-  λ i p q. refl,
-  λ start k a.
-      let o = c.over.ensures in
-      rw (o.gives, o.left, o.store) (_, a, begin_left S (out-Node (erase c.args.code.now)) k (scope_of (me_of c.args.self.now.context.me) names c.args.room.now) c.args.depth c.args.self.now.left),
-)
+begin_read_operate-returns-in_default-clause-came g m c = λ S names size st e l. (λ i p q. refl, λ start k a. let o = c.over.ensures in no_arm S _ k _ _ _ o.gives o.left (ap g.O.ThreadStore.log o.store) (ap g.O.ThreadStore.private o.store) a)
 
 pub begin_read_operate-returns-in-Some-clause-came : goal.begin_read_operate-returns-in-Some-clause-came
 begin_read_operate-returns-in-Some-clause-came g m c = λ S names size st e l. (
@@ -1853,12 +1758,7 @@ pub begin_read-returns-clause-came : goal.begin_read-returns-clause-came
 begin_read-returns-clause-came g m c = c.read_attribute.ensures.came
 
 pub begin_far_send-returns-in_default-clause-came : goal.begin_far_send-returns-in_default-clause-came
-begin_far_send-returns-in_default-clause-came g m c = λ S names size st e l. (
-  λ i p q. refl,
-  λ start k a.
-      let o = c.over.ensures in
-      rw (o.gives, o.left, o.store) (_, a, begin_left S (out-Node (erase c.args.code.now)) k (scope_of (me_of c.args.self.now.context.me) names c.args.room.now) c.args.depth c.args.self.now.left),
-)
+begin_far_send-returns-in_default-clause-came g m c = λ S names size st e l. (λ i p q. refl, λ start k a. let o = c.over.ensures in no_arm S _ k _ _ _ o.gives o.left (ap g.O.ThreadStore.log o.store) (ap g.O.ThreadStore.private o.store) a)
 
 pub begin_far_send-returns-in-Send-clause-came : goal.begin_far_send-returns-in-Send-clause-came
 begin_far_send-returns-in-Send-clause-came g m c = λ S names size st e l.
@@ -5006,12 +4906,7 @@ begin_slow_operate-returns-in-Some-local_collection-clause-came g m c = λ S nam
     )
 
 pub begin_store-returns-in_default-clause-came : goal.begin_store-returns-in_default-clause-came
-begin_store-returns-in_default-clause-came g m c = λ S names size st e l. (
-  λ i p q. refl,
-  λ start k a.
-      let o = c.over.ensures in
-      rw (o.gives, o.left, o.store) (_, a, begin_left S (out-Node (erase c.args.code.now)) k (scope_of (me_of c.args.self.now.context.me) names c.args.room.now) c.args.depth c.args.self.now.left),
-)
+begin_store-returns-in_default-clause-came g m c = λ S names size st e l. (λ i p q. refl, λ start k a. let o = c.over.ensures in no_arm S _ k _ _ _ o.gives o.left (ap g.O.ThreadStore.log o.store) (ap g.O.ThreadStore.private o.store) a)
 
 pub begin-returns-in-Store-clause-came : goal.begin-returns-in-Store-clause-came
 begin-returns-in-Store-clause-came g m c = c.begin_store.ensures.came
