@@ -1,0 +1,13 @@
+$list = []
+threads = []
+4.times do
+  threads << Thread.new do
+    i = 0
+    while i < 25000
+      $list << i
+      i += 1
+    end
+  end
+end
+threads.each { |thread| thread.join }
+puts $list.size

@@ -1,0 +1,13 @@
+$pairs = {}
+threads = []
+2.times do
+  threads << Thread.new do
+    i = 0
+    while i < 50000
+      $pairs[i % 1000] = i
+      i += 1
+    end
+  end
+end
+threads.each { |thread| thread.join }
+puts $pairs.size
