@@ -1,10 +1,11 @@
 -- Facts of each seat, after one changed, one came and one was spent; and what all seats own.
-use Rattle.std.proofs.Common.{◌≡◌, ◌≢◌, ◌⊎◌, ℕ, zero, suc, ◌+◌, Bool, true, false, List, [], ◌∷◌, ◌++◌, length, set, refl, sym, ap, ◌∙◌, subst, inl, inr, ⊎_elim, arith}
+use Rattle.std.proofs.Common.{◌≡◌, ◌≢◌, ◌⊎◌, ℕ, zero, suc, ◌+◌, Bool, true, false, List, [], ◌∷◌, ◌++◌, length, set, Some, None, refl, sym, ap, ◌∙◌, subst, inl, inr, ⊎_elim, arith}
 use mathlib.Core.Option.{some, some-injective, some-ne-none}
 use lib.ListN.{get_elem?}
 use Rattle.atomic_table.proofs.Lists.{at_set, set_here, set_else}
 use mathlib.Core.Logic.{dite}
 use native.Mathlib.Decide.{ℕ_discrete}
+use Rattle.rb_shared.specs.History.{History}
 use Rattle.heap_core.specs.Places.{turn_word}
 use Rattle.heap_core.specs.Handing.{Handed}
 use Rattle.heap_core.specs.Blocks.{Block, words_of_shapes}
@@ -49,6 +50,11 @@ pub each_both : (P : ℕ → Holder → Type 0) (views : List Holder) (id other 
     → (j : ℕ) (k : Holder) → At (set (set views id k') other w) j k → P j k
 each_both P views id other k' w mine theirs others j k a = each_set (λ j k. P j k) (set views id k') other w theirs
     (λ l u far b. each_set (λ l u. l ≢ other → P l u) views id k' (λ _. mine) (λ i x ne c apart. others i x ne apart c) l u b far) j k a
+
+-- ---- a history that is shown
+
+pub none_shown : (h : History) → None ≡ Some h → ⊥
+none_shown h e = cc
 
 -- ---- who claims a thread
 

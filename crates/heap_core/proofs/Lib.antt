@@ -18,3 +18,4 @@ pub mod Turning
 pub mod Printing
 pub mod Owning
 pub mod Ending
+pub mod Last

@@ -53,6 +53,7 @@ module _ (plan : Plan) (s : State Slot Holder) (r : Kept plan s) (id : ℕ) (k :
     new = λ c h. absurd h;
     no_thing = λ c h. absurd h;
     shapes_on = λ shape h. h;
+    shows = λ h e. r.shows id k seat h e;
     shapes_new = λ shape place h. absurd h;
     homes = λ c h. absurd h;
     one_shape = λ shape place to h. absurd h;

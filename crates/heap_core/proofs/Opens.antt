@@ -25,6 +25,7 @@ use Rattle.heap_core.specs.Shapes.{flagged, edge_word, first_child}
 use Rattle.heap_core.specs.Opening.{IsOpening, IsFirst, globals_class, laid_in, first_lines, first_table}
 use Rattle.heap_core.specs.Turns.{Any, LinesTell}
 use Rattle.heap_core.specs.Rule.{Stands, Kept, LiesIn, Below, moment}
+use Rattle.heap_core.proofs.Holders.{none_shown}
 
 -- ---- the words
 
@@ -295,6 +296,7 @@ starts ws what p lines_are sink_is fine some_slots some_words size o = record {
   late = λ j k a _. subst (λ (u : Holder). Each (runs.MayStill p.slots first_run u.view.thread) u.late) (only j k a).1 tt;
   refused = none_refused;
   spent = λ j k a e. absurd (true≢false (ap (λ (u : Holder). u.live) (only j k a).1 ∙ e));
+  shows = λ j k a h e. absurd (none_shown h (ap (λ (u : Holder). u.front) (only j k a).1 ∙ e));
 }
   where
     w : ℕ → ℕ

@@ -2,9 +2,11 @@
 use Rattle.std.proofs.Common.{◌≡◌, ◌<◌, ◌⊎◌, ℕ, ◌+◌, ◌*◌, Bool, true, false, List, ◌++◌, length, get_or, Option, Some, refl, sym, ap, ◌∙◌, inl, inr, ⊎_elim}
 use Rattle.atomic_table.specs.Table.{State}
 use Rattle.rb_model.specs.declared.value.Id.{Id}
+use Rattle.rb_shared.specs.History.{History}
 use Rattle.rb_shared.specs.Lists.{Has, Each}
 use Rattle.rb_shared.proofs.Runs.{has_front}
 use Rattle.shape_core.specs.Shape.{Shape}
+use Rattle.shared_run.specs.Closing.{ShowsRun}
 use Rattle.shared_run.specs.Run.{Run, IsRun, IsThread, MayStill, refused_at}
 use Rattle.shared_run.specs.Run as runs
 use Rattle.shared_run.proofs.Events.{has_either}
@@ -68,6 +70,7 @@ module _ (plan : Plan) (s : State Slot Holder) (r : Kept plan s) (ws' : List ℕ
     pub late : (j : ℕ) (k : Holder) → At views' j k → k.live ≡ true → Each (MayStill plan.slots run k.view.thread) k.late
     pub refused : (t : ℕ) → Each (Below (get_or ws' used_word 0) (length ws')) (refused_at run.refusals t)
     pub spent : (j : ℕ) (k : Holder) → At views' j k → k.live ≡ false → held k ≡ 0
+    pub shows : (j : ℕ) (k : Holder) → At views' j k → (h : History) → k.front ≡ Some h → ShowsRun run h
 
   either_way : (b : Bool) → (b ≡ true) ⊎ (b ≡ false)
   either_way true = inl refl
@@ -120,6 +123,7 @@ module _ (plan : Plan) (s : State Slot Holder) (r : Kept plan s) (ws' : List ℕ
     late = o.late;
     refused = o.refused;
     spent = o.spent;
+    shows = o.shows;
   }
     where
       m : Moment

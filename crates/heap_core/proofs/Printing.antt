@@ -12,6 +12,7 @@ use Rattle.rb_shared.specs.View.{View}
 use Rattle.rb_shared.proofs.Runs.{each_append}
 use Rattle.shared_run.specs.Run.{Run, Sunk, SinkDid, SinkRefused, MayStill, IsOver, run_after, run_refused, refused_at, refused_more}
 use Rattle.shared_run.specs.Run as runs
+use Rattle.shared_run.proofs.Closing.{open_hides}
 use Rattle.shared_run.proofs.Events.{refused_count, refused_own, refused_other}
 use Rattle.shared_run.proofs.Knowing.{knows_on, refusal_grows, refused_knows}
 use Rattle.shared_run.proofs.Sinking.{refused_run, stands_did, stands_refused}
@@ -31,7 +32,7 @@ use Rattle.heap_core.proofs.Holders.{each_set, apart_set, owned_set}
 use Rattle.heap_core.proofs.Owes.{whole, owes_kept}
 use Rattle.heap_core.proofs.Rooms.{place_inside, laid_quiet}
 use Rattle.heap_core.proofs.Seats.{alone_at, seated_plain}
-use Rattle.heap_core.proofs.Steps.{is_home, change_to, used_same, family_same, stays_else, others_own, own_same, ahead_else}
+use Rattle.heap_core.proofs.Steps.{is_home, hidden, change_to, used_same, family_same, stays_else, others_own, own_same, ahead_else}
 use Rattle.heap_core.proofs.Takes.{late_refused}
 use Rattle.heap_core.proofs.Tallies.{tally_print}
 use Rattle.heap_core.proofs.Turning.{Had, had, busy_again, turn_fits, object_not_turn}
@@ -80,6 +81,7 @@ module _ (plan : Plan) (s : State Slot Holder) (r : Kept plan s) (id : ℕ) (k :
         own = own;
         ahead = ahead;
         late = refl;
+        front = refl;
         knows_in = λ c q. subst (λ bs. Has bs c) (sym (append-nil r.blocks)) (r.known id k c seat q);
         lie = subst (Each (LiesIn k.blocks)) (sym (append-nil k.view.known)) (r.lie id k seat live);
         lines = r.lines;
@@ -163,6 +165,7 @@ module _ (plan : Plan) (s : State Slot Holder) (r : Kept plan s) (id : ℕ) (k :
         refused = λ x. subst (λ u. Each (Below u (length (set s.words turn_word 0))) (refused_at run'.refusals x)) (sym used)
             (subst (λ m. Each (Below (get_or s.words used_word 0) m) (refused_at run'.refusals x)) (sym long) (by_thread v.thread q refl knew.within x));
         spent = each_set (λ j u. u.live ≡ false → held u ≡ 0) s.views id k' (λ n. absurd (true≢false (sym live ∙ n))) (λ j u _ a. r.spent j u a);
+        shows = hidden plan s r homes' id k k' turn_word 0 TheTurn seat live live refl refl r.turn (place_inside TheTurn) (open_hides plan.slots r.run v knew t.going) refl run';
       }
     where
       -- a refusal without numbers is below any

@@ -11,6 +11,7 @@ use Rattle.rb_shared.specs.View.{View, with_entry}
 use Rattle.shared_run.specs.Standing.{NamesHeld}
 use Rattle.shared_run.specs.Run.{Run, MayRead, MayStill, run_read, event_of, IsOver}
 use Rattle.shared_run.specs.Run as runs
+use Rattle.shared_run.proofs.Closing.{open_hides}
 use Rattle.shared_run.proofs.Knowing.{knows_on}
 use Rattle.rb_shared.specs.Step.{Steps}
 use Rattle.rb_shared.proofs.Runs.{each_more}
@@ -29,7 +30,7 @@ use Rattle.heap_core.specs.Rule.{Stands, LiesIn, Kept, Below}
 use Rattle.heap_core.proofs.Holders.{each_set, apart_set, keeps_set, owned_set}
 use Rattle.heap_core.proofs.Owes.{whole, owes_kept}
 use Rattle.heap_core.proofs.Rooms.{laid_quiet}
-use Rattle.heap_core.proofs.Steps.{ahead_else, is_home, after, used_same, family_same, stays_else, others_own, own_same}
+use Rattle.heap_core.proofs.Steps.{ahead_else, hidden, is_home, after, used_same, family_same, stays_else, others_own, own_same}
 use Rattle.heap_core.proofs.Tallies.{tally_read}
 
 module _ (plan : Plan) (s : State Slot Holder) (r : Kept plan s) (id : ℕ) (k k' : Holder) (i n : ℕ) (b : Block)
@@ -44,6 +45,7 @@ module _ (plan : Plan) (s : State Slot Holder) (r : Kept plan s) (id : ℕ) (k k
     pub ahead : k'.ahead ≡ k.ahead
     pub late : k'.late ≡ []
     pub shapes : k'.shapes ≡ k.shapes
+    pub same_front : k'.front ≡ k.front
     pub knows_in : (c : Block) → Knows k' c → Has r.blocks c
     pub lie : Each (LiesIn k'.blocks) k'.view.known
     pub doing : (x : ℕ) → is_home b x ≡ false → busy_at x k'.doing ≡ busy_at x k.doing
@@ -116,6 +118,7 @@ module _ (plan : Plan) (s : State Slot Holder) (r : Kept plan s) (id : ℕ) (k k
             (λ f p. (p.0, p.1, point_put plan.slots r.run (λ y. Steps plan.slots y u.view.thread f y) u.view.thread t e front behind (λ is. ne (r.apart j id t u k a at (l, inl is) (live, inl refl))) c.may p.2)) u.late (r.late j u a l));
         refused = λ x. subst (λ u. Each (Below u (length (set s.words i n))) (runs.refused_at r.run.refusals x)) (sym used) (subst (λ m. Each (Below (get_or s.words used_word 0) m) (runs.refused_at r.run.refusals x)) (sym long) (r.refused x));
         spent = each_set (λ j u. u.live ≡ false → held u ≡ 0) s.views id k' (λ q. absurd (true≢false (sym alive ∙ q))) (λ j u _ a. r.spent j u a);
+        shows = hidden plan s r s.homes id k k' i n b at live alive line size here inside (open_hides plan.slots r.run k.view knew c.going) c.same_front run;
       }
     where
       -- a read starts no thread

@@ -88,7 +88,7 @@ module _ (ws ws' : List ℕ) (views : List Holder) (blocks added : List Block) (
 
 -- ---- a seat comes, and one is spent
 
-pub laid_split : (ws : List ℕ) (views : List Holder) (blocks : List Block) → Laid ws views blocks → (id : ℕ) (k w : Holder) → At views id k → k.live ≡ true → w.own ≡ [] → w.size ≡ k.size
+pub laid_split : (ws : List ℕ) (views : List Holder) (blocks : List Block) → Laid ws views blocks → (id : ℕ) (k w : Holder) → At views id k → k.live ≡ true → w.own ≡ [] → (w.live ≡ true → w.size ≡ k.size)
     → Laid ws (set views id (maker k) ++ w ∷ []) blocks
 laid_split ws views blocks l id k w at live none_own size = record {
   apart = l.apart;
@@ -104,7 +104,7 @@ laid_split ws views blocks l id k w at live none_own size = record {
   own_in = λ j u o a. each_two (λ j u. Has u.own o → (opening_words ≤ o.at) × (o.at + length o.words ≤ get_or ws used_word 0)) views id (maker k) w (l.own_in id k o at) (λ h. absurd (subst (λ os. Has os o) none_own h)) (λ j u _ a. l.own_in j u o a) j u a;
   opening_in = l.opening_in;
   used_in = l.used_in;
-  size = each_two (λ j u. u.live ≡ true → u.size ≡ length ws) views id (maker k) w (l.size id k at) (λ _. size ∙ l.size id k at live) (λ j u _ a. l.size j u a);
+  size = each_two (λ j u. u.live ≡ true → u.size ≡ length ws) views id (maker k) w (l.size id k at) (λ l'. size l' ∙ l.size id k at live) (λ j u _ a. l.size j u a);
 }
 
 pub laid_join : (ws : List ℕ) (views : List Holder) (blocks : List Block) → Laid ws views blocks → (id other : ℕ) (k u : Holder) → At views id k

@@ -8,15 +8,18 @@ use Rattle.rb_model.specs.declared.value.Ref.{Ref}
 use Rattle.rb_model.specs.Log.{Call, On, Start, Gather, Print, End, Entry, is_end, printed}
 use Rattle.rb_model.specs.Started.{started_by}
 use Rattle.rb_model.specs.Things.{Thing}
+use Rattle.rb_shared.specs.History.{History}
 use Rattle.rb_shared.specs.Lists.{Has, Each}
 use Rattle.rb_shared.specs.Step.{Steps, store_behind, ended_thing}
 use Rattle.rb_shared.specs.Store.{Store, found}
 use Rattle.rb_shared.specs.View.{View, with_entry, started_number}
 use Rattle.rb_shared.proofs.Runs.{each_more, has_front, found_more}
 use Rattle.shape_core.specs.Shape.{Shape}
+use Rattle.shared_run.specs.Closing.{ShowsRun}
 use Rattle.shared_run.specs.Standing.{NamesHeld}
 use Rattle.shared_run.specs.Run.{Run, IsNote, MayEnter, MayStill, run_after, opened, refused_at}
 use Rattle.shared_run.specs.Run as runs
+use Rattle.shared_run.proofs.Closing.{open_hides}
 use Rattle.shared_run.proofs.Events.{has_either, refused_opened}
 use Rattle.shared_run.proofs.Knowing.{noted, knows_on}
 use Rattle.shared_run.proofs.Points.{point_entry}
@@ -107,6 +110,10 @@ module _ (plan : Plan) (s : State Slot Holder) (r : Kept plan s) (hs' : Homes) (
   pub ahead_new : (made : List Shape) (shape : Shape) → Has made shape ⊎ Has k'.shapes shape → IsMade made views' shape
   ahead_new made shape m = ⊎_elim (λ (h : Has made shape). inl h) (λ (h : Has k'.shapes shape). inr (id, k', mine_there, alive, h)) m
 
+  -- while a thread goes on, no history is shown
+  pub hidden : ((h : History) → ShowsRun r.run h → ⊥) → k'.front ≡ k.front → (run : Run) → (j : ℕ) (u : Holder) → At views' j u → (h : History) → u.front ≡ Some h → ShowsRun run h
+  hidden none same run = each_set (λ j u. (h : History) → u.front ≡ Some h → ShowsRun run h) s.views id k' (λ h e. absurd (none h (r.shows id k at h (sym same ∙ e)))) (λ j u _ a h e. absurd (none h (r.shows j u a h e)))
+
   -- ---- a quiet step, and one that publishes ahead: no entry is made
 
   -- What a step owes that makes no entry. It may publish own words.
@@ -132,6 +139,7 @@ module _ (plan : Plan) (s : State Slot Holder) (r : Kept plan s) (hs' : Homes) (
     pub new : (c : Block) → Has added c → Stands (after r.run r.lines (r.blocks ++ added)) c
     pub no_thing : (c : Block) → Has added c → id_of c ≡ None
     pub shapes_on : (shape : Shape) → Has k.shapes shape → Has k'.shapes shape
+    pub shows : (h : History) → k'.front ≡ Some h → ShowsRun r.run h
     pub shapes_new : (shape : Shape) (place : ℕ) → Has added (ShapeAt shape place) → Has k'.shapes shape
     pub homes : (c : Block) → Has added c → HasHome (r.blocks ++ added) c
     pub one_shape : (shape : Shape) (place to : ℕ) → Has added (ShapeAt shape place) → Has (r.blocks ++ added) (ShapeAt shape to) → place ≡ to
@@ -192,6 +200,7 @@ module _ (plan : Plan) (s : State Slot Holder) (r : Kept plan s) (hs' : Homes) (
         late = each_set (λ j u. u.live ≡ true → Each (MayStill plan.slots r.run u.view.thread) u.late) s.views id k' (λ _. subst (λ t. Each (MayStill plan.slots r.run t) k'.late) (sym (note_thread k.view k'.view q.note)) q.late) (λ j u _ a. r.late j u a);
         refused = λ t. subst (λ u. Each (Below u (length ws')) (refused_at r.run.refusals t)) (sym used) (subst (λ m. Each (Below (get_or s.words used_word 0) m) (refused_at r.run.refusals t)) (sym long) (r.refused t));
         spent = each_set (λ j u. u.live ≡ false → held u ≡ 0) s.views id k' (λ e. absurd (true≢false (sym alive ∙ e))) (λ j u _ a. r.spent j u a);
+        shows = each_set (λ j u. (h : History) → u.front ≡ Some h → ShowsRun r.run h) s.views id k' q.shows (λ j u _ a. r.shows j u a);
       }
 
   -- ---- an entry is made, at the end of the run
@@ -206,6 +215,7 @@ module _ (plan : Plan) (s : State Slot Holder) (r : Kept plan s) (hs' : Homes) (
     pub own : k'.own ≡ []
     pub ahead : k'.ahead ≡ 0
     pub late : k'.late ≡ []
+    pub front : k'.front ≡ k.front
     pub knows_in : (c : Block) → Knows k' c → Has (r.blocks ++ added) c
     pub lie : Each (LiesIn k'.blocks) k'.view.known
     pub lines : List (Option ℕ)
@@ -339,4 +349,5 @@ module _ (plan : Plan) (s : State Slot Holder) (r : Kept plan s) (hs' : Homes) (
           refused = λ x. subst (λ rs. Each (Below (get_or ws' used_word 0) (length ws')) rs) (sym (refused_opened r.run.refusals (Rattle.rb_model.specs.Started.started_by e.call e.reply) x))
               (subst (λ u. Each (Below u (length ws')) (refused_at r.run.refusals x)) (sym used) (subst (λ m. Each (Below (get_or s.words used_word 0) m) (refused_at r.run.refusals x)) (sym long) (r.refused x)));
           spent = each_set (λ j u. u.live ≡ false → held u ≡ 0) s.views id k' (λ q. absurd (true≢false (sym alive ∙ q))) (λ j u _ a. r.spent j u a);
+          shows = hidden (open_hides plan.slots r.run k.view knew c.going) c.front run';
         }

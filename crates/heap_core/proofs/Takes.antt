@@ -10,11 +10,13 @@ use Rattle.atomic_table.specs.Table.{State, Me, Allows, keeps, step}
 use Rattle.atomic_table.proofs.Lists.{set_again, set_here, set_else}
 use Rattle.rb_model.specs.Log.{Entry, Refusal, Log, has_end}
 use Rattle.rb_shared.specs.Lists.{Has, Each}
-use Rattle.rb_shared.specs.History.{by}
+use Rattle.rb_shared.specs.History.{History, by}
 use Rattle.rb_shared.specs.View.{View}
 use Rattle.rb_shared.proofs.Runs.{each_append, each_more}
 use Rattle.shared_run.specs.Run.{MayStill, Run, Sunk, IsRun, IsOver, run_refused, refused_at, refused_more}
 use Rattle.shared_run.specs.Run as runs
+use Rattle.shared_run.specs.Closing.{ShowsRun}
+use Rattle.shared_run.proofs.Closing.{open_hides}
 use Rattle.shared_run.proofs.Events.{refused_count, refused_own, refused_other}
 use Rattle.rb_shared.specs.Step.{Steps}
 use Rattle.shared_run.proofs.Points.{point_events}
@@ -110,6 +112,7 @@ module _ (plan : Plan) (s : State Slot Holder) (r : Kept plan s) (id : ℕ) (k k
     pub doing : k'.doing ≡ k.doing
     pub late : k'.late ≡ k.late
     pub shapes : k'.shapes ≡ k.shapes
+    pub front : k'.front ≡ k.front
     pub known : k'.view.known ≡ k.view.known
     pub thread : k'.view.thread ≡ k.view.thread
     pub ended : k'.view.ended ≡ k.view.ended
@@ -117,6 +120,7 @@ module _ (plan : Plan) (s : State Slot Holder) (r : Kept plan s) (id : ℕ) (k k
     pub refusals : List (List Refusal)
     pub count : length refusals ≡ length r.run.refusals
     pub sinks : (x : Sunk) → runs.Stands Any plan.begun r.run.events r.run.refusals x → runs.Stands Any plan.begun r.run.events refusals x
+    pub shows : (h : History) → ShowsRun r.run h → ShowsRun (record { events = r.run.events; refusals = refusals; store = r.run.store }) h
     pub is_run : IsRun plan.slots (record { events = r.run.events; refusals = refusals; store = r.run.store })
     pub knows : (j : ℕ) (u : Holder) → At (set s.views id k') j u → u.live ≡ true → runs.Knows plan.slots (record { events = r.run.events; refusals = refusals; store = r.run.store }) u.view
     pub refused : (t : ℕ) → Each (Below (get_or ws' used_word 0) (length ws')) (refused_at refusals t)
@@ -192,6 +196,8 @@ module _ (plan : Plan) (s : State Slot Holder) (r : Kept plan s) (id : ℕ) (k k
             (λ j u _ a l. late_refused plan.slots r.run o.refusals u.view.thread u.late (r.late j u a l));
         refused = o.refused;
         spent = each_set (λ j u. u.live ≡ false → held u ≡ 0) s.views id k' (λ e. absurd (true≢false (sym o.alive ∙ e))) (λ j u _ a. r.spent j u a);
+        shows = each_set (λ j u. (h : History) → u.front ≡ Some h → ShowsRun (record { events = r.run.events; refusals = o.refusals; store = r.run.store }) h) s.views id k'
+            (λ h e. o.shows h (r.shows id k at h (sym o.front ∙ e))) (λ j u _ a h e. o.shows h (r.shows j u a h e));
       }
 
 -- nothing changes
@@ -228,12 +234,14 @@ refuses plan s r id wanted a k at live going over =
       doing = refl;
       late = refl;
       shapes = refl;
+      front = refl;
       known = refl;
       thread = refl;
       ended = refl;
       unsplit = λ y is. absurd (let h : None ≡ Some y = is in cc);
       refusals = refused_more r.run.refusals v.thread q;
       count = refused_count r.run.refusals v.thread q;
+      shows = λ h x. absurd (open_hides plan.slots r.run v knew going h x);
       sinks = λ x st. stands_full Any plan.begun r.run.events r.run.refusals v.thread q n wanted x st refl tt;
       is_run = refused_run plan.slots r.run v.thread q r.is_run;
       knows = each_set (λ j u. u.live ≡ true → runs.Knows plan.slots (run_refused r.run v.thread q) u.view) s.views id k' (λ _. refused_knows plan.slots r.run v a.call a.moved (Some (n, wanted)) q knew going refl)
@@ -322,12 +330,14 @@ takes plan count id old new me live low up room s r size at small =
             doing = refl;
             late = refl;
             shapes = refl;
+            front = refl;
             known = refl;
             thread = refl;
             ended = refl;
             unsplit = λ y e. e;
             refusals = r.run.refusals;
             count = refl;
+            shows = λ h x. x;
             sinks = λ x st. st;
             is_run = r.is_run;
             knows = each_set (λ j u. u.live ≡ true → runs.Knows plan.slots r.run u.view) s.views id k' (r.knows id k at) (λ j u _ a. r.knows j u a);
@@ -403,12 +413,14 @@ own_stores plan count id i x me live own s r size at small =
         doing = refl;
         late = refl;
         shapes = refl;
+        front = refl;
         known = refl;
         thread = refl;
         ended = refl;
         unsplit = λ y e. e;
         refusals = r.run.refusals;
         count = refl;
+        shows = λ h x. x;
         sinks = λ x st. st;
         is_run = r.is_run;
         knows = each_set (λ j u. u.live ≡ true → runs.Knows plan.slots r.run u.view) s.views id k' (r.knows id k at) (λ j u _ a. r.knows j u a);

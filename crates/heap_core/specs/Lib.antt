@@ -23,3 +23,4 @@ pub mod Turning
 pub mod Owning
 pub mod Ending
 pub mod Heaps
+pub mod Closing

@@ -7,9 +7,11 @@ use Rattle.rb_model.specs.declared.value.Id.{Id}
 use Rattle.rb_model.specs.declared.value.Ref.{Ref}
 use Rattle.rb_model.specs.Log.{Refusal}
 use Rattle.rb_model.specs.Things.{ThreadState}
+use Rattle.rb_shared.specs.History.{History}
 use Rattle.rb_shared.specs.Store.{Store, threads}
 use Rattle.rb_shared.specs.Lists.{Has, Each}
 use Rattle.shape_core.specs.Shape.{Shape}
+use Rattle.shared_run.specs.Closing.{ShowsRun}
 use Rattle.shared_run.specs.Run.{Run, IsRun, MayStill, refused_at}
 use Rattle.shared_run.specs.Run as runs
 use Rattle.heap_core.specs.Places.{opening_words, used_word, shape_words}
@@ -127,3 +129,5 @@ pub record Kept (plan : Plan) (s : State Slot Holder) : Type 0 where
   pub late : (j : ℕ) (k : Holder) → At s.views j k → k.live ≡ true → Each (MayStill plan.slots run k.view.thread) k.late
   pub refused : (t : ℕ) → Each (Below (get_or s.words used_word 0) (length s.words)) (refused_at run.refusals t)
   pub spent : (j : ℕ) (k : Holder) → At s.views j k → k.live ≡ false → held k ≡ 0
+  -- a history that is shown is that of the run, whose threads have all ended
+  pub shows : (j : ℕ) (k : Holder) → At s.views j k → (h : History) → k.front ≡ Some h → ShowsRun run h

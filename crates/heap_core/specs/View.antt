@@ -3,6 +3,7 @@ use Rattle.std.specs.Prelude.{◌≡◌, ◌≤◌, ◌<◌, ◌==◌, ◌&&◌,
 use Rattle.rb_model.specs.Log.{Call, Entry}
 use Rattle.rb_model.specs.Private.{Item}
 use Rattle.rb_model.specs.declared.value.Ref.{Ref}
+use Rattle.rb_shared.specs.History.{History}
 use Rattle.rb_shared.specs.Lists.{Has}
 use Rattle.rb_shared.specs.Store.{globals}
 use Rattle.rb_shared.specs.View.{View, first_view, with_entry, with_refused, split_view, newborn, joined_view}
@@ -39,7 +40,8 @@ set_busy d (e ∷ es) = if e.at == d.at then d ∷ es else e ∷ set_busy d es
 
 -- What the seat of a pass knows: the view of the pass, whether the pass still is one, its line in the table of threads and that of the thread
 -- that it started last, how many words the heap has, the blocks that it can name, the regions of words that are its own, how many words it published
--- ahead of the entry that they are for, the shapes that it made ahead, what is in progress by place, and the reads that it has loaded and may still make, each with its reply.
+-- ahead of the entry that they are for, the shapes that it made ahead, what is in progress by place, the reads that it has loaded and may still make, each with its reply, and the history
+-- that it shows, once all threads have ended.
 pub record Holder : Type 0 where
   pub view : View
   pub live : Bool
@@ -52,6 +54,7 @@ pub record Holder : Type 0 where
   pub shapes : List Shape
   pub doing : List Doing
   pub late : List Entry
+  pub front : Option History
 
 -- the blocks of the opening
 abbrev pub opening_blocks : List Block
@@ -70,11 +73,12 @@ first_holder p = record {
   shapes = [];
   doing = [];
   late = [];
+  front = None;
 }
 
 -- a seat that is no pass any more
 abbrev pub spent_holder : Holder
-spent_holder = record { view = first_view 0; live = false; line = 0; due = 0; size = 0; blocks = []; own = []; ahead = 0; shapes = []; doing = []; late = [] }
+spent_holder = record { view = first_view 0; live = false; line = 0; due = 0; size = 0; blocks = []; own = []; ahead = 0; shapes = []; doing = []; late = []; front = None }
 
 abbrev pub Knows : Holder → Block → Type 0
 Knows k b = Has k.blocks b
@@ -135,6 +139,14 @@ with_change k e refs bs = record k { view = with_entry k.view e refs; blocks = k
 abbrev pub with_ahead : Holder → List Region → ℕ → List Block → Holder
 with_ahead k left n bs = record k { blocks = k.blocks ++ bs; own = left; ahead = k.ahead + n }
 
+-- the history of all threads is shown
+abbrev pub with_front : Holder → History → Holder
+with_front k h = record k { front = Some h }
+
+-- what shows it still when the heap is gone, and is no pass
+abbrev pub front_holder : Holder → Holder
+front_holder k = record spent_holder { front = k.front }
+
 -- ---- split and join
 
 abbrev pub maker : Holder → Holder
@@ -154,6 +166,7 @@ child_of (Some n) k = record {
   shapes = [];
   doing = [];
   late = [];
+  front = None;
 }
 
 abbrev pub child : Holder → Holder

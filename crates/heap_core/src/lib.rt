@@ -2,6 +2,7 @@
 #![tactic(auto)]
 
 mod act;
+mod closing;
 mod deed;
 mod ends;
 mod heap;
@@ -21,6 +22,7 @@ mod turn;
 mod turns;
 
 pub use act::Act;
+pub use closing::{HeapFront, ShowHistory, Shown};
 pub use deed::{Deed, owner_word};
 pub use holder::{Known, Law, Made, Passes};
 pub use line::Line;

@@ -10,3 +10,4 @@ pub mod Starting
 pub mod Pointed
 pub mod Points
 pub mod Sinking
+pub mod Closing

@@ -1,142 +1,23 @@
 -- At the close the pass of the main thread knows every log whole.
-use Rattle.std.proofs.Common.{◌≡◌, ◌<◌, ◌+◌, ◌⊎◌, ◌||◌, ℕ, zero, suc, Bool, true, false, not, cond, List, [], ◌∷◌, ◌++◌, length, set, slice_index, slice_get, Some, None, refl, sym, ap, ◌∙◌, subst, inl, inr, ⊎_elim, true≢false, arith, append-nil, append_assoc}
+use Rattle.std.proofs.Common.{◌≡◌, ◌+◌, ◌⊎◌, ℕ, true, false, List, [], ◌∷◌, ◌++◌, length, set, slice_index, Some, None, refl, sym, ap, ◌∙◌, subst, inl, inr, ⊎_elim, true≢false}
 use mathlib.Core.Option.{some, some-injective}
 use lib.ListN.{get_elem?}
-use Rattle.std.specs.List.{flat_map}
 use Rattle.atomic_table.specs.Table.{State, Me, Act, keeps, stepped, Valid, carried_after, Allows, Splits, Seen, Final}
 use Rattle.atomic_table.proofs.Lists.{set_again, at_longer}
-use Rattle.rb_edge.specs.Edge.{Adds}
-use Rattle.rb_model.specs.Log.{Call, On, Start, Gather, Print, End, Entry, Refusal, Log, has_end, printed}
-use Rattle.rb_model.specs.Started.{started}
-use Rattle.rb_shared.specs.Closing.{Shows, IsFront, Written, Caused, AreFull}
-use Rattle.rb_shared.specs.History.{Event, Placed, History, IsLegal, IsBegun, EndsOnce, by, is_event, is_read, moves_none, prints}
-use Rattle.rb_shared.specs.Lists.{Has}
-use Rattle.rb_shared.specs.Placing.{events_in, placed_log, placed_logs, history_of}
+use Rattle.rb_model.specs.Log.{Log, has_end}
+use Rattle.rb_shared.specs.History.{History}
+use Rattle.rb_shared.specs.Placing.{history_of}
 use Rattle.rb_shared.specs.Store.{Store}
-use Rattle.rb_shared.specs.Threads.{ThreadLog, HasEnded, AllGathered}
-use Rattle.rb_shared.specs.View.{View, known_logs}
-use Rattle.rb_shared.proofs.Placed.{one_order_is_legal}
-use Rattle.rb_shared.proofs.Runs.{each_has}
-use Rattle.shared_run.specs.Run.{Run, Sunk, IsRun, IsThread, Knows, IsTold, IsOver, IsMeant, Stands, WasMade, AreBegun, refused_at, all_refused}
+use Rattle.rb_shared.specs.Threads.{AllGathered}
+use Rattle.rb_shared.specs.View.{known_logs}
+use Rattle.shared_run.specs.Run.{Run, Sunk, Knows, IsOver, Stands}
 use Rattle.turn_store.specs.Holding.{Holder, with_front, front_holder}
-use Rattle.turn_store.specs.Turns.{Never, At, Claims, ShowsRun, Free, Taken, Kept}
-use Rattle.turn_store.specs.Fronts.{ShowsAll, ShowsNow, SinkClosed}
-use Rattle.shared_run.proofs.Events.{once_ends}
-use Rattle.shared_run.proofs.Knowing.{all_told}
+use Rattle.shared_run.specs.Closing.{ShowsRun, SinkClosed}
+use Rattle.shared_run.proofs.Closing.{all_ended, shows_all, sink_closed}
+use Rattle.turn_store.specs.Turns.{Never, At, Claims, Free, Taken, Kept}
+use Rattle.turn_store.specs.Fronts.{ShowsNow}
 use Rattle.turn_store.proofs.Keeps.{each_set, each_snoc, apart_set}
 use Rattle.turn_store.proofs.Passing.{turn_views}
-
--- ---- the history of a run
-
-log_there : (es : List Event) (t i : ℕ) (refusals : List (List Refusal)) → i < length refusals → slice_get (placed_logs es t refusals) i ≡ Some (placed_log es (t + i) (refused_at refusals i))
-log_there es t i [] lt = absurd (omega arith)
-log_there es t zero (rs ∷ more) lt = let n : t ≡ t + 0 = omega arith in ap (λ u. Some (placed_log es u rs)) n
-log_there es t (suc i) (rs ∷ more) lt = let n : suc t + i ≡ t + suc i = omega arith in log_there es (suc t) i more (omega (arith, lt)) ∙ ap (λ u. Some (placed_log es u (refused_at more i))) n
-
-log_first : (es : List Event) (i : ℕ) (refusals : List (List Refusal)) → i < length refusals → slice_get (placed_logs es 0 refusals) i ≡ Some (placed_log es i (refused_at refusals i))
-log_first es i refusals lt = let n : 0 + i ≡ i = omega arith in log_there es 0 i refusals lt ∙ ap (λ u. Some (placed_log es u (refused_at refusals i))) n
-
-log_beyond : (es : List Event) (t i : ℕ) (refusals : List (List Refusal)) (p : Placed) → slice_get (placed_logs es t refusals) i ≡ Some p → i < length refusals
-log_beyond es t i [] p e = absurd (cc)
-log_beyond es t zero (rs ∷ more) p e = omega arith
-log_beyond es t (suc i) (rs ∷ more) p e = let lt = log_beyond es (suc t) i more p e in omega (arith, lt)
-
-refusals_are : (es : List Event) (t : ℕ) (refusals : List (List Refusal)) → flat_map (λ (p : Placed). p.log.refusals) (placed_logs es t refusals) ≡ all_refused refusals
-refusals_are es t [] = refl
-refusals_are es t (rs ∷ more) = ap (λ l. rs ++ l) (refusals_are es (suc t) more)
-
-silent : (c : Call) → is_read c ≡ true → printed c ≡ []
-silent (On r act) e = refl
-silent (Start id body values) e = refl
-silent (Gather r) e = refl
-silent (Print bytes) e = absurd (let h : false ≡ true = e in cc)
-silent (End how) e = refl
-
-read_of : (a b : Bool) → (not a || not b) ≡ false → a ≡ true
-read_of true b e = refl
-read_of false b e = absurd (let h : true ≡ false = e in cc)
-
-prints_first : (b : Bool) (e : Event) (es : List Event) → is_event e.entry ≡ b → prints (events_in es) ≡ prints es → prints (cond b (e ∷ events_in es) (events_in es)) ≡ prints (e ∷ es)
-prints_first true e es is more = ap (λ l. printed e.entry.call ++ l) more
-prints_first false e es is more = more ∙ sym (ap (λ l. l ++ prints es) (silent e.entry.call (read_of (is_read e.entry.call) (moves_none e.entry.moved) is)))
-
-prints_same : (es : List Event) → prints (events_in es) ≡ prints es
-prints_same [] = refl
-prints_same (e ∷ es) = prints_first (is_event e.entry) e es refl (prints_same es)
-
-begun_at : (front F behind es : List Event) (e : Event) → AreBegun F es → es ≡ front ++ e ∷ behind → IsBegun (F ++ front) e
-begun_at [] F behind [] e b h = absurd (cc)
-begun_at [] F behind (x ∷ es) e (b, bs) h = let same : x ≡ e = cc in subst (IsBegun (F ++ [])) same (subst (λ l. IsBegun l x) (sym (append-nil F)) b)
-begun_at (y ∷ front) F behind [] e b h = absurd (cc)
-begun_at (y ∷ front) F behind (x ∷ es) e (b, bs) h =
-    let same : x ≡ y = cc in let rest : es ≡ front ++ e ∷ behind = cc in
-    subst (λ l. IsBegun l e) (append_assoc F (y ∷ []) front) (subst (λ q. IsBegun ((F ++ q ∷ []) ++ front) e) same (begun_at front (F ++ x ∷ []) behind es e bs rest))
-
--- ---- all logs are known
-
--- an ended log of the thread is among those that the pass knows
-module _ (slots : ℕ) (run : Run) (v : View) (r : IsRun slots run) (k : Knows slots run v) (main : v.thread ≡ 0) (over : v.ended ≡ true) (gathered : AllGathered (known_logs v)) where
-  -- such a log is the log of its thread
-  told_is : (t : ThreadLog) → Has (known_logs v) t → IsTold run t
-  told_is t h = each_has (IsTold run) (known_logs v) t (all_told slots run v k) h
-
-  known_below : (n t : ℕ) → t < n → IsThread run t → HasEnded (known_logs v) t
-  known_below zero t lt is = absurd (omega arith)
-  known_below (suc n) zero lt is = (record { thread = v.thread; log = v.log; ended = v.ended }, inl refl, main, over)
-  known_below (suc n) (suc t) lt is = of_maker (r.made (suc t) (omega arith) is) (λ u l w. known_below n u l w)
-    where
-      of_maker : WasMade run.events (suc t) → ((u : ℕ) → u < n → IsThread run u → HasEnded (known_logs v) u) → HasEnded (known_logs v) (suc t)
-      of_maker m rec =
-          let below = m.2 in
-          let x = rec m.0 (omega (arith, below, lt)) (omega (arith, below, is)) in
-          let p = (told_is x.0 x.1).1 x.3 in
-          gathered x.0 x.1 x.3 (suc t) m.1 (subst (λ (l : List Entry). Has (started l) (suc t, m.1)) (sym (ap (λ (l : Log). l.entries) p.0 ∙ ap (λ n. by n run.events) x.2)) m.3)
-
-  pub known_all : (t : ℕ) → IsThread run t → HasEnded (known_logs v) t
-  known_all t is = known_below (suc t) t (omega arith) is
-
-  ends_once : (t : ℕ) → IsThread run t → EndsOnce (by t run.events)
-  ends_once t is =
-      let x = known_all t is in
-      let p = (told_is x.0 x.1).1 x.3 in
-      subst EndsOnce (ap (λ (l : Log). l.entries) p.0 ∙ ap (λ n. by n run.events) x.2) p.1
-
-  pub all_ended : (t : ℕ) → IsThread run t → has_end (by t run.events) ≡ true
-  all_ended t is = once_ends (by t run.events) (ends_once t is)
-
-  legal : IsLegal slots (history_of run.events run.refusals)
-  legal = one_order_is_legal slots run.events run.refusals run.store r.leads (r.counted ∙ ap suc (sym r.started)) r.within
-      (λ front behind e h. begun_at front [] behind run.events e r.begun h) ends_once r.unmoved
-
-  shown : Shows (history_of run.events run.refusals) (known_logs v)
-  shown = record {
-    known = λ t h ended.
-        let p = told_is t h in
-        (placed_log run.events t.thread (refused_at run.refusals t.thread), log_first run.events t.thread run.refusals p.0, sym (p.1 ended).0);
-    fronts = λ t h.
-        let p = told_is t h in
-        (placed_log run.events t.thread (refused_at run.refusals t.thread), p.2.0, log_first run.events t.thread run.refusals p.0, p.2.1);
-    all = λ n p e.
-        let x = known_all n (log_beyond run.events 0 n run.refusals p e) in (x.0, x.1, x.2, x.3);
-  }
-
-  pub shows_all : ShowsAll slots (known_logs v) (history_of run.events run.refusals)
-  shows_all = (legal, shown)
-
--- ---- the sink at the close
-
-pub written_of : (Overflows : ℕ → ℕ → Type 0) (begun : Sunk) (run : Run) (sink : Sunk) → Stands Overflows begun run.events run.refusals sink → Written begun.told sink.told (history_of run.events run.refusals)
-written_of Overflows begun run sink s = (
-  s.rest,
-  subst (λ l. (s.rest ≡ []) ⊎ IsFront l s.rest) (sym (refusals_are run.events 0 run.refusals)) s.front,
-  subst (λ l. Adds begun.told sink.told (l ++ s.rest)) (sym (prints_same run.events)) s.told,
-)
-
-pub caused_of : (Overflows : ℕ → ℕ → Type 0) (begun : Sunk) (run : Run) (sink : Sunk) → Stands Overflows begun run.events run.refusals sink → Caused begun.faults sink.faults (history_of run.events run.refusals)
-caused_of Overflows begun run sink s q h failed = s.cause (subst (IsMeant Overflows sink.failed) failed (s.refused q (subst (λ l. Has l q) (refusals_are run.events 0 run.refusals) h)))
-
-pub full_of : (Overflows : ℕ → ℕ → Type 0) (begun : Sunk) (run : Run) (sink : Sunk) → Stands Overflows begun run.events run.refusals sink → AreFull Overflows (history_of run.events run.refusals)
-full_of Overflows begun run sink s q h used wanted words = subst (IsMeant Overflows sink.failed) words (s.refused q (subst (λ l. Has l q) (refusals_are run.events 0 run.refusals) h))
 
 module _ {S : Type 0} (store_of : S → Store) (sink_of : S → Sunk) (slots : ℕ) (begun : Sunk) where
   abbrev Rule : State S Holder → Type 0
@@ -226,9 +107,8 @@ module _ {S : Type 0} (store_of : S → Store) (sink_of : S → Sunk) (slots : �
 
   -- what is known of the sink at the close, of a pass that shows the history
   pub closes_with : (ws : List ℕ) (xs : List S) (id : ℕ) (k k0 : Holder) (y : S) (h : History) → k ≡ with_front k0 h → Final (Seen Rule id k) ws xs → get_elem? xs 0 ≡ some y → k0.live ≡ true
-      → k0.view.thread ≡ 0 → k0.view.ended ≡ true → AllGathered (known_logs k0.view) → SinkClosed begun (sink_of y) h
+      → k0.view.thread ≡ 0 → k0.view.ended ≡ true → AllGathered (known_logs k0.view) → SinkClosed Never begun (sink_of y) h
   closes_with ws xs id k k0 y h same f at live main over gathered =
       let r = final ws xs id k y h f at (ap (λ (x : Holder). x.live) same ∙ live) (ap (λ (x : Holder). x.view.thread) same ∙ main) (ap (λ (x : Holder). x.view.ended) same ∙ over)
       (subst (λ (x : Holder). AllGathered (known_logs x.view)) (sym same) gathered) (ap (λ (x : Holder). x.front) same) in
-      subst (SinkClosed begun (sink_of y)) (sym r.1)
-      (written_of Never begun r.0 (sink_of y) r.2, r.2.rises, caused_of Never begun r.0 (sink_of y) r.2, full_of Never begun r.0 (sink_of y) r.2)
+      subst (SinkClosed Never begun (sink_of y)) (sym r.1) (sink_closed Never begun r.0 (sink_of y) r.2)

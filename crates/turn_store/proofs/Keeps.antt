@@ -18,7 +18,8 @@ use Rattle.rb_shared.specs.View.{View, with_entry, with_refused, started_number}
 use Rattle.shared_run.specs.Standing.{NamesHeld}
 use Rattle.shared_run.specs.Run.{Run, Sunk, SinkDid, SinkRefused, IsThread, Knows, MayEnter, Stands, IsOver, run_after, run_refused}
 use Rattle.turn_store.specs.Holding.{Found, Holder, with_found, released}
-use Rattle.turn_store.specs.Turns.{Never, At, Claims, Apart, ShowsRun, Free, Taken, Kept, Takes, Makes, Refuses, GivesUp, found_in, MayMake, MayRefuse, MayGiveUp}
+use Rattle.shared_run.specs.Closing.{ShowsRun}
+use Rattle.turn_store.specs.Turns.{Never, At, Claims, Apart, Free, Taken, Kept, Takes, Makes, Refuses, GivesUp, found_in, MayMake, MayRefuse, MayGiveUp}
 use Rattle.shared_run.specs.Run.{IsNote}
 use Rattle.shared_run.proofs.Knowing.{knows_on, noted, refusal_grows, refused_knows}
 use Rattle.shared_run.proofs.Enters.{run_on, entry_grows, entry_knows, unended, new_is_past}

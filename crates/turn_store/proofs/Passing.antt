@@ -12,7 +12,8 @@ use Rattle.rb_shared.specs.Store as store
 use Rattle.rb_shared.specs.View.{View}
 use Rattle.shared_run.specs.Run.{Sunk, Knows, Stands}
 use Rattle.turn_store.specs.Holding.{Found, Holder, main_holder, spent_holder, with_view, maker, child, child_of, joined}
-use Rattle.turn_store.specs.Turns.{Never, At, Claims, Apart, ShowsRun, Free, Taken, Kept, Noted}
+use Rattle.shared_run.specs.Closing.{ShowsRun}
+use Rattle.turn_store.specs.Turns.{Never, At, Claims, Apart, Free, Taken, Kept, Noted}
 use Rattle.shared_run.specs.Run.{IsNote}
 use Rattle.shared_run.proofs.Starting.{first_run, first_is_run, first_knows}
 use Rattle.shared_run.proofs.Sinking.{first_stands}

@@ -4,16 +4,16 @@ use mathlib.Core.Option.{some, none}
 use lib.ListN.{get_elem?}
 use Rattle.atomic_table.specs.Table.{State, Me, rest}
 use Rattle.rb_model.specs.declared.value.Ref.{Ref}
-use Rattle.rb_model.specs.Log.{Call, Entry, has_end}
+use Rattle.rb_model.specs.Log.{Call, Entry}
 use Rattle.rb_model.specs.Private.{Item}
 use Rattle.rb_shared.specs.History.{History, by}
 use Rattle.rb_shared.specs.Lists.{Each}
-use Rattle.rb_shared.specs.Placing.{history_of}
 use Rattle.rb_shared.specs.Step.{Steps}
 use Rattle.rb_shared.specs.Store.{Store}
 use Rattle.rb_shared.specs.View.{View, with_entry, with_refused}
 use Rattle.turn_store.specs.Holding.{Found, Holder, with_found, with_view, released}
-use Rattle.shared_run.specs.Run.{Run, Sunk, SinkDid, SinkRefused, IsNote, IsRun, IsThread, Knows, MayEnter, Stands}
+use Rattle.shared_run.specs.Closing.{ShowsRun}
+use Rattle.shared_run.specs.Run.{Run, Sunk, SinkDid, SinkRefused, IsNote, IsRun, Knows, MayEnter, Stands}
 use Rattle.shared_run.specs.Standing.{NamesHeld}
 
 -- no words in use and asked for are more than there are
@@ -33,10 +33,6 @@ Apart holders = (i j n : ℕ) (k l : Holder) → At holders i k → At holders j
 
 abbrev pub KnowAll : ℕ → Run → List Holder → Type 0
 KnowAll slots run holders = (j : ℕ) (k : Holder) → At holders j k → k.live ≡ true → Knows slots run k.view
-
--- a history that is shown is that of the run, whose threads have all ended
-abbrev pub ShowsRun : Run → History → Type 0
-ShowsRun run h = (h ≡ history_of run.events run.refusals) × ((n : ℕ) → IsThread run n → has_end (by n run.events) ≡ true)
 
 abbrev pub ShowAll : Run → List Holder → Type 0
 ShowAll run holders = (j : ℕ) (k : Holder) → At holders j k → (h : History) → k.front ≡ Some h → ShowsRun run h

@@ -4,8 +4,9 @@ ghost use Rattle.std.specs.Prelude.{◌≡◌, ◌≤◌, true};
 ghost use Rattle.rb_shared.specs.Closing.{AreFull, Caused, Written};
 ghost use Rattle.rb_shared.specs.Threads.{AllGathered};
 ghost use Rattle.rb_shared.specs.View.{known_logs};
+ghost use Rattle.shared_run.specs.Closing.{ShowsAll};
 ghost use Rattle.turn_store.specs.Turns.{Never};
-ghost use Rattle.turn_store.specs.Fronts.{ShowsAll, ShowsNow};
+ghost use Rattle.turn_store.specs.Fronts.{ShowsNow};
 ghost use Rattle.turn_store.specs.Passes.{history_in, view_of};
 
 use crate::rule::{Counting, Known, Show, Shown};

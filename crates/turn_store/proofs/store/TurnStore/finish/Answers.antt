@@ -4,7 +4,7 @@ use Rattle.rb_shared.specs.History.{History}
 use Rattle.rb_shared.specs.Threads.{AllGathered}
 use Rattle.rb_shared.specs.View.{known_logs}
 use Rattle.turn_store.specs.Turns.{Never}
-use Rattle.turn_store.specs.Fronts.{ShowsAll, SinkClosed}
+use Rattle.shared_run.specs.Closing.{ShowsAll, SinkClosed}
 use Rattle.turn_store.specs.Holding.{Holder, front_holder}
 use Rattle.turn_store.specs.Passes.{history_in, holder_of}
 use Rattle.turn_store.specs.Slot.{begun_of, sunk_of, things_of}
@@ -27,7 +27,7 @@ history_is : (g : Over) (c : goal.After-into_out g) → history_in c.into_badge-
 history_is g c = ap history_in c.into_badge-front.ensures.2 ∙ (ap (λ m. history_in (m.0 ∷ [])) c.split_seat.ensures.4 ∙ ap (λ m. history_in (front_holder m.0 ∷ [])) c.show.ensures.shows.1)
 
 sink_closed : (g : Over) (c : goal.After-into_out g)
-    → SinkClosed (begun_of g.K.Sink.told g.K.Sink.faults c.args.self.table.shared.key.out.value) (sunk_of g.K.Sink.told g.K.Sink.faults c.take-slot.result) c.show.ensures.shows.0
+    → SinkClosed Never (begun_of g.K.Sink.told g.K.Sink.faults c.args.self.table.shared.key.out.value) (sunk_of g.K.Sink.told g.K.Sink.faults c.take-slot.result) c.show.ensures.shows.0
 sink_closed g c =
     let same = pass_is g c in
     closes_with things_of (sunk_of g.K.Sink.told g.K.Sink.faults) c.args.self.table.shared.key.slots (begun_of g.K.Sink.told g.K.Sink.faults c.args.self.table.shared.key.out.value) _ _ _
