@@ -18,4 +18,4 @@ pub mod Turning
 pub mod Printing
 pub mod Owning
 pub mod Ending
-pub mod Last
+pub mod Closes

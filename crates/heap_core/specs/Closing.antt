@@ -1,5 +1,5 @@
 -- What is shown of the history once all threads have ended.
-use Rattle.std.specs.Prelude.{◌≡◌, ◌<◌, ℕ, ◌+◌, List, [], ◌∷◌, Option, Some, None}
+use Rattle.std.specs.Prelude.{◌≡◌, ◌<◌, ℕ, ◌+◌, List, [], Option, Some, None}
 use Rattle.atomic_table.specs.Table.{Me}
 use Rattle.rb_shared.specs.History.{History}
 use Rattle.rb_shared.specs.View.{known_logs}

@@ -6,7 +6,7 @@ use Rattle.heap_core.specs.Closing.{Overflows, history_in}
 use Rattle.heap_core.specs.Handing.{Handed}
 use Rattle.heap_core.specs.Passes.{holder_of}
 use Rattle.heap_core.specs.View.{Holder, front_holder, maker}
-use Rattle.heap_core.proofs.Last.{closes_with}
+use Rattle.heap_core.proofs.Closes.{closes_with}
 use Rattle.heap_core.proofs.Passing.{front_splits}
 use Rattle.heap_core.proofs.pass.Heap.close.Given.{Over}
 use Rattle.heap_core.proofs.pass.Heap.close.Goals as goal

@@ -1,5 +1,5 @@
 use Rattle.std.proofs.Common.{rules}
-use Rattle.heap_core.proofs.Last.{shows_history}
+use Rattle.heap_core.proofs.Closes.{shows_history}
 use Rattle.heap_core.proofs.pass.Heap.show.Goals as goal
 
 pub load-requires : goal.load-requires

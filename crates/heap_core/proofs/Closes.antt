@@ -1,10 +1,9 @@
 -- The law at the close: all threads have ended, so nobody has the turn, and the history of the run is shown.
-use Rattle.std.proofs.Common.{◌≡◌, ◌<◌, ◌⊎◌, ℕ, ◌+◌, true, false, List, [], ◌∷◌, ◌++◌, set, get_or, Option, Some, refl, sym, ap, ◌∙◌, subst, inl, ⊎_elim, append-nil, arith, true≢false}
+use Rattle.std.proofs.Common.{◌≡◌, ℕ, true, List, [], ◌∷◌, ◌++◌, set, get_or, Some, refl, sym, ap, ◌∙◌, subst, inl, ⊎_elim, append-nil, arith}
 use Rattle.std.proofs.lemmas.List.{get_or-set_same}
 use mathlib.Core.Option.{some, some-injective}
 use lib.ListN.{get_elem?}
 use Rattle.atomic_table.specs.Table.{State, Me, Allows, Seen, Final, keeps}
-use Rattle.rb_model.specs.Log.{Refusal}
 use Rattle.rb_shared.specs.Closing.{AreFull}
 use Rattle.rb_shared.specs.History.{History}
 use Rattle.rb_shared.specs.Lists.{Has}
