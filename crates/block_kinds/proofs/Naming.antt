@@ -9,7 +9,7 @@ use Rattle.typed_location.specs.Laws.{HasOneWord, HasOneIntWord}
 use Rattle.typed_location.specs.declared.general_place.Any.{Any}
 use Rattle.typed_location.specs.declared.general_place.Any.TheVariants as any
 use Rattle.typed_location.specs.Word.{IsSmall, Fits as FitsWord, twos_complement, word_of}
-use Rattle.heap_core.specs.Blocks.{Block, ObjectAt, ChunkAt, MutexAt, TextAt, BoxAt, ShapeAt, LockAt, TheTurn, place_of, size_of, id_of}
+use Rattle.heap_core.specs.Blocks.{Block, ObjectAt, ChunkAt, MutexAt, ThreadAt, TextAt, BoxAt, ShapeAt, LockAt, TheTurn, place_of, size_of, id_of}
 use Rattle.heap_core.specs.Fixed.{fixed_word}
 use Rattle.heap_core.specs.Passes.{FixedIs, Fits}
 use Rattle.heap_core.specs.Room.{OwnIs}
@@ -49,6 +49,7 @@ none_is id e = cc
 pub thing_words : (b : Block) (id : Id) → id_of b ≡ Some id → (2 < size_of b) × (fixed_word b 1 ≡ Some id.thread) × (fixed_word b 2 ≡ Some id.serial)
 thing_words (ObjectAt i at) id e = (omega arith, ap (λ (j : Id). Some j.thread) (some_is i id e), ap (λ (j : Id). Some j.serial) (some_is i id e))
 thing_words (MutexAt i at) id e = (omega arith, ap (λ (j : Id). Some j.thread) (some_is i id e), ap (λ (j : Id). Some j.serial) (some_is i id e))
+thing_words (ThreadAt i number maker at) id e = (omega arith, ap (λ (j : Id). Some j.thread) (some_is i id e), ap (λ (j : Id). Some j.serial) (some_is i id e))
 thing_words (ChunkAt object number at) id e = absurd (none_is id e)
 thing_words (TextAt bytes at) id e = absurd (none_is id e)
 thing_words (BoxAt n at) id e = absurd (none_is id e)

@@ -33,10 +33,10 @@ use Rattle.heap_core.proofs.Holders.{each_set}
 use Rattle.heap_core.proofs.Owes.{whole}
 use Rattle.heap_core.proofs.Printing.{else_same}
 use Rattle.heap_core.proofs.Rooms.{place_inside}
-use Rattle.heap_core.proofs.Seats.{alone_at, seated_plain}
+use Rattle.heap_core.proofs.Seats.{alone_at, no_main, seated_plain}
 use Rattle.heap_core.proofs.Steps.{is_home, change_to}
 use Rattle.heap_core.proofs.Tallies.{tally_end}
-use Rattle.heap_core.proofs.Things.{over_now, over_other, thread_ends}
+use Rattle.heap_core.proofs.Things.{over_now, over_other, thread_ends, thread_was, ungathered_ends}
 use Rattle.heap_core.proofs.Turning.{Had, had, turn_fits, object_not_turn}
 
 -- ---- the table
@@ -109,6 +109,8 @@ seated_end slots z t how lines views s = record {
   long = s.long;
   main = s.main;
   taken = λ i u a. ⊎_elim (λ e. inl e) (λ (p : IsUngathered z u). let y = thread_ends z t how p.0 p.1 in inr (y.0, y.1, y.2 ∙ p.2, y.3 ∙ p.3)) (s.taken i u a);
+  all = λ u p. let y = thread_was z t how p.0 p.1 in s.all u (y.0, y.1, sym y.2 ∙ p.2, sym y.3 ∙ p.3);
+  count = s.count ∙ ap suc (sym (ungathered_ends z t how));
   once = s.once;
   mine = s.mine;
   due = s.due;
@@ -126,8 +128,8 @@ module _ (plan : Plan) (s : State Slot Holder) (r : Kept plan s) (id : ℕ) (k :
   abbrev homes' : Homes
   homes' = set s.homes 0 (some (Some g))
 
-  pub end_kept : (step : ℕ) (how : Ending) → told how ≡ [] → IsBare k → Kept plan (whole (set s.words turn_word 0) homes' (set s.views id (without_turn (with_plain k (plain_entry step (End how))))))
-  end_kept step how nothing bare =
+  pub end_kept : (step : ℕ) (how : Ending) → told how ≡ [] → IsBare k → n ≡ 0 → Kept plan (whole (set s.words turn_word 0) homes' (set s.views id (without_turn (with_plain k (plain_entry step (End how))))))
+  end_kept step how nothing bare main =
       let e : Entry = plain_entry step (End how) in
       let z : Store = r.run.store in
       let z' : Store = map (ended_item n how) z in
@@ -156,12 +158,14 @@ module _ (plan : Plan) (s : State Slot Holder) (r : Kept plan s) (id : ℕ) (k :
         lines = r.lines;
         seated = seated_end plan.slots z n how r.lines (set s.views id k') (seated_plain plan.slots z r.lines s.views id k k' r.seated seat refl refl refl refl);
         charged = let words = counts.0 in let shapes = ap length counts.1 in omega (arith, words, shapes, none_held);
+        starts = omega arith;
         inside_own = λ x c q. absurd q;
         bounded = λ c q. absurd q;
         parted = λ x c d q. absurd q;
         mine = is_home TheTurn;
         own_home = refl;
         receiver = λ y c q is touched. absurd touched;
+        ends = λ c hc _ is. absurd (no_main plan s r c hc (is ∙ ap Some main));
         doing = λ x far. else_same x k far;
         off_turn = λ off. absurd (true≢false off);
         anew = λ c hc mine. subst (Stands (moment plan (whole (set s.words turn_word 0) homes' (set s.views id k')) run' r.lines (r.blocks ++ [])))
@@ -173,6 +177,7 @@ module _ (plan : Plan) (s : State Slot Holder) (r : Kept plan s) (id : ℕ) (k :
                 numbers_over n h.lines ∙ t.handed.0,
                 lines_end r.run run' n h.lines t.handed.1 (over_now r.run.events n e refl) (λ u ne. over_other r.run.events n e u ne) (λ u lt. lt),
                 stands_silent Any plan.begun r.run.events r.run.refusals n e h.sink t.handed.2 refl,
+                t.handed.3,
               );
               nobody = each_set (λ j u. u.live ≡ true → HasNone u) s.views id k' (λ _. busy_set turn_word Idle k.doing) (λ j u ne a. t.others j u ne a);
             });
@@ -187,23 +192,23 @@ module _ (plan : Plan) (s : State Slot Holder) (r : Kept plan s) (id : ℕ) (k :
 
 -- ---- the step
 
-ends_at : (plan : Plan) (count id : ℕ) (k : Holder) (h : Handed) (step : ℕ) (how : Ending) → k.live ≡ true → HasTurn k h true → told how ≡ [] → IsBare k
+ends_at : (plan : Plan) (count id : ℕ) (k : Holder) (h : Handed) (step : ℕ) (how : Ending) → k.live ≡ true → HasTurn k h true → told how ≡ [] → IsBare k → k.view.thread ≡ 0
     → Allows (Kept plan) count id (k, (0, Some (ended_by k.view.thread h)) ∷ []) turn_word (λ _. 0) (λ _. MakesInTurn (plain_entry step (End how)) (k, (0, Some (ended_by k.view.thread h)) ∷ []))
-ends_at plan count id k h step how live has nothing bare s r size seat small = (
+ends_at plan count id k h step how live has nothing bare main s r size seat small = (
   without_turn (with_plain k (plain_entry step (End how))),
   gives,
   tt,
-  end_kept plan s r id k seat live h (had plan s r id k seat live h true has) step how nothing bare,
+  end_kept plan s r id k seat live h (had plan s r id k seat live h true has) step how nothing bare main,
   refl,
 )
 
 -- the step makes this entry
-pub ends_in_turn : (plan : Plan) (count id : ℕ) (me : Me Slot Holder) (h : Handed) (step : ℕ) (how : Ending) (e : Entry) → e ≡ plain_entry step (End how) → me.1 ≡ (0, Some (ended_by me.0.view.thread h)) ∷ [] → me.0.live ≡ true → HasTurn me.0 h true → told how ≡ [] → IsBare me.0
+pub ends_in_turn : (plan : Plan) (count id : ℕ) (me : Me Slot Holder) (h : Handed) (step : ℕ) (how : Ending) (e : Entry) → e ≡ plain_entry step (End how) → me.1 ≡ (0, Some (ended_by me.0.view.thread h)) ∷ [] → me.0.live ≡ true → HasTurn me.0 h true → told how ≡ [] → IsBare me.0 → me.0.view.thread ≡ 0
     → Allows (Kept plan) count id me turn_word (λ _. 0) (λ _. MakesInTurn e me)
-ends_in_turn plan count id me h step how e is carries live has nothing bare =
+ends_in_turn plan count id me h step how e is carries live has nothing bare main =
     subst (λ (x : Entry). Allows (Kept plan) count id me turn_word (λ _. 0) (λ _. MakesInTurn x me)) (sym is)
     (subst (λ (c : List (ℕ × Slot)). Allows (Kept plan) count id (me.0, c) turn_word (λ _. 0) (λ _. MakesInTurn (plain_entry step (End how)) (me.0, c))) (sym carries)
-    (ends_at plan count id me.0 h step how live has nothing bare))
+    (ends_at plan count id me.0 h step how live has nothing bare main))
 
 -- a plain end, as the law has it
 pub plain_end : (call : Held) → IsPlainEnd call → (how : Ending) × (asked call ≡ End how) × (told how ≡ [])

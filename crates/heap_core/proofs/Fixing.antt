@@ -6,7 +6,7 @@ use Rattle.atomic_table.specs.Table.{Me, Allows, keeps, step}
 use Rattle.atomic_table.proofs.Lists.{set_again}
 use Rattle.shape_core.specs.Path.{Path}
 use Rattle.heap_core.specs.Handing.{Plan, Slot}
-use Rattle.heap_core.specs.Blocks.{Block, ObjectAt, ChunkAt, MutexAt, TextAt, BoxAt, ShapeAt, LockAt, TheTurn, place_of, Inside}
+use Rattle.heap_core.specs.Blocks.{Block, ObjectAt, ChunkAt, MutexAt, ThreadAt, TextAt, BoxAt, ShapeAt, LockAt, TheTurn, place_of, Inside}
 use Rattle.heap_core.specs.Fixed.{fixed_word, edge_of, places_before}
 use Rattle.heap_core.specs.Moment.{Moment, word}
 use Rattle.heap_core.specs.Passes.{FixedLoads, StillLoads}
@@ -37,6 +37,12 @@ fixed_is m (MutexAt id at) zero o s = first_word m at 4 s.tag
 fixed_is m (MutexAt id at) (suc zero) o s = s.made_by
 fixed_is m (MutexAt id at) (suc (suc zero)) o s = s.serial
 fixed_is m (MutexAt id at) (suc (suc (suc i))) o s = tt
+fixed_is m (ThreadAt id number maker at) zero o s = first_word m at 5 s.tag
+fixed_is m (ThreadAt id number maker at) (suc zero) o s = s.made_by
+fixed_is m (ThreadAt id number maker at) (suc (suc zero)) o s = s.serial
+fixed_is m (ThreadAt id number maker at) (suc (suc (suc zero))) o s = s.number_word
+fixed_is m (ThreadAt id number maker at) (suc (suc (suc (suc zero)))) o s = s.maker_word
+fixed_is m (ThreadAt id number maker at) (suc (suc (suc (suc (suc i))))) o s = tt
 fixed_is m (TextAt bytes at) zero o s = first_word m at 6 s.0
 fixed_is m (TextAt bytes at) (suc zero) o s = s.1
 fixed_is m (TextAt bytes at) (suc (suc k)) o s = let hi = o.1 in ap (word m) (let z : at + suc (suc k) ≡ at + 2 + k = omega arith in z) ∙ s.2 k (omega (arith, hi))

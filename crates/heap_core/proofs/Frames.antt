@@ -1,11 +1,11 @@
 -- A step that leaves the words of a block and of its parts, its thing and what is in progress there leaves its rule.
-use Rattle.std.proofs.Common.{◌≡◌, ◌≤◌, ◌<◌, ◌⊎◌, ◌==◌, ◌/◌, ◌%◌, ℕ, zero, suc, ◌+◌, Bool, true, false, cond, List, [], ◌∷◌, Option, Some, None, refl, sym, ap, ◌∙◌, subst, inl, inr, ⊎_elim, arith, eq-eqb, ne_eqb}
+use Rattle.std.proofs.Common.{◌≡◌, ◌≤◌, ◌<◌, ◌⊎◌, ◌==◌, ◌/◌, ◌%◌, ℕ, zero, suc, ◌+◌, Bool, true, false, cond, List, [], ◌∷◌, length, Option, Some, None, refl, sym, ap, ◌∙◌, subst, inl, inr, ⊎_elim, arith, eq-eqb, ne_eqb}
 use Rattle.std.specs.Option.{option_map}
 use mathlib.Core.Logic.{dite}
 use native.Mathlib.Decide.{ℕ_discrete}
 use Rattle.rb_model.specs.declared.value.Id.{Id}
-use Rattle.rb_model.specs.Ends.{End as Ending}
-use Rattle.rb_model.specs.Things.{Field, Mutex}
+use Rattle.rb_model.specs.Ends.{End as Ending, Value, Raised, Steps, Full, Sink, Memory}
+use Rattle.rb_model.specs.Things.{Field, Mutex, Thread, ThreadState}
 use Rattle.rb_model.specs.Values.{Value as Val, Nil, False, True, Int, Sym, Str, To}
 use Rattle.rb_shared.specs.Lists.{Has, Each}
 use Rattle.rb_shared.specs.Step.{ended_thing}
@@ -17,7 +17,7 @@ use Rattle.shared_run.specs.Run.{Sunk, IsThread}
 use Rattle.heap_core.specs.Places.{turn_word}
 use Rattle.heap_core.specs.declared.line.Line.{Line}
 use Rattle.heap_core.specs.Handing.{Handed}
-use Rattle.heap_core.specs.Blocks.{Block, ObjectAt, ChunkAt, MutexAt, TextAt, BoxAt, ShapeAt, LockAt, TheTurn, home_of, id_of, InFamily}
+use Rattle.heap_core.specs.Blocks.{Block, ObjectAt, ChunkAt, MutexAt, ThreadAt, TextAt, BoxAt, ShapeAt, LockAt, TheTurn, home_of, id_of, number_of, InFamily}
 use Rattle.heap_core.specs.Spelling.{Spells, SpellsAt}
 use Rattle.heap_core.specs.View.{Holder, Idle, Locked, busy_at}
 use Rattle.heap_core.specs.Moment.{Moment, At, word, thing_at, size_at, is_over, owner_in}
@@ -25,6 +25,7 @@ use Rattle.heap_core.specs.Locks.{LockStands}
 use Rattle.heap_core.specs.Objects.{ObjectStands, FieldStands, LinksChunk, IsPlace, lock_of, shape_of, chunk_of}
 use Rattle.heap_core.specs.Shapes.{ShapeStands, Leads, LinksChild, LinksSibling}
 use Rattle.heap_core.specs.Mutexes.{MutexStands, owner_of}
+use Rattle.heap_core.specs.Threads.{EndIs, TellsEnd, ThreadStands, state_of, result_of}
 use Rattle.heap_core.specs.Turns.{Sinks, LinesTell, IsHanded, HasTurn, HasNone, TurnStands}
 use Rattle.heap_core.specs.Rule.{Stands}
 
@@ -40,11 +41,13 @@ SameOver m m' = (t : ℕ) → is_over m' t ≡ is_over m t
 abbrev pub EndsNow : Moment → Moment → ℕ → Type 0
 EndsNow m m' t = (is_over m' t ≡ true) × ((u : ℕ) → (u ≡ t → ⊥) → is_over m' u ≡ is_over m u)
 
--- the thing of an id is as it was, or it is what the end of a thread makes of it
-abbrev pub Follows : Moment → Moment → Id → Type 0
-Follows m m' id =
-    ((thing_at m' id ≡ thing_at m id) × SameOver m m')
-    ⊎ ((t : ℕ) × (how : Ending) × (thing_at m' id ≡ option_map (ended_thing t how) (thing_at m id)) × EndsNow m m' t)
+-- the thing of a block is what the end of a thread makes of it, which is not the thread that the block stands for
+abbrev pub FollowsEnd : Moment → Moment → Block → Id → Type 0
+FollowsEnd m m' b id = (t : ℕ) × (how : Ending) × (thing_at m' id ≡ option_map (ended_thing t how) (thing_at m id)) × EndsNow m m' t × (number_of b ≡ Some t → ⊥)
+
+-- or it is as it was
+abbrev pub Follows : Moment → Moment → Block → Id → Type 0
+Follows m m' b id = ((thing_at m' id ≡ thing_at m id) × SameOver m m') ⊎ FollowsEnd m m' b id
 
 -- what is in progress at a place afterwards was in progress there before, at the same live seat
 abbrev pub Stays : Moment → Moment → ℕ → Type 0
@@ -65,7 +68,7 @@ pub record TurnStays (m m' : Moment) : Type 0 where
 pub record Leaves (m m' : Moment) (b : Block) : Type 0 where
   pub words : (i : ℕ) → InFamily m.blocks (home_of b) i → word m' i ≡ word m i
   pub blocks : Among m.blocks m'.blocks
-  pub thing : (id : Id) → id_of b ≡ Some id → Follows m m' id
+  pub thing : (id : Id) → id_of b ≡ Some id → Follows m m' b id
   pub size : (id : Id) → id_of b ≡ Some id → size_at m' id ≡ size_at m id
   pub threads : (t : ℕ) → IsThread m.run t → IsThread m'.run t
   pub stays : Stays m m' (home_of b)
@@ -86,6 +89,26 @@ spells_among bs cs all w (To r) p = (p.0, all p.0 p.1, p.2, p.3)
 pub spells_at_among : (bs cs : List Block) → Among bs cs → (kind : Kind) (w : ℕ) (v : Val) → SpellsAt bs kind w v → SpellsAt cs kind w v
 spells_at_among bs cs all IntLoc w v p = p
 spells_at_among bs cs all AnyLoc w v p = spells_among bs cs all w v p
+
+-- how a thread ended is told by more blocks as well
+pub end_among : (bs cs : List Block) → Among bs cs → (state result : ℕ) (how : Ending) → EndIs bs state result how → EndIs cs state result how
+end_among bs cs all state result (Value v) p = (p.0, spells_among bs cs all result v p.1)
+end_among bs cs all state result (Raised f at) p = p
+end_among bs cs all state result Steps p = p
+end_among bs cs all state result (Full used asked) p = p
+end_among bs cs all state result Sink p = p
+end_among bs cs all state result Memory p = p
+
+pub tells_among : (bs cs : List Block) → Among bs cs → (state result : ℕ) (o : Option Ending) → TellsEnd bs state result o → TellsEnd cs state result o
+tells_among bs cs all state result None p = tt
+tells_among bs cs all state result (Some how) p = end_among bs cs all state result how p
+
+-- two numbers below which there are the same are one
+same_count : (a b : ℕ) → ((n : ℕ) → n < a → n < b) → ((n : ℕ) → n < b → n < a) → a ≡ b
+same_count zero zero up down = refl
+same_count zero (suc b) up down = absurd (let bad = down b (omega arith) in omega (arith, bad))
+same_count (suc a) zero up down = absurd (let bad = up a (omega arith) in omega (arith, bad))
+same_count (suc a) (suc b) up down = let hi = up a (omega arith) in let lo = down b (omega arith) in omega (arith, hi, lo)
 
 -- ---- each kind
 
@@ -145,7 +168,7 @@ module _ (m m' : Moment) where
       path = s.path;
       thing = ⊎_elim
           (λ (f : (thing_at m' id ≡ thing_at m id) × SameOver m m'). f.0 ∙ s.thing)
-          (λ (f : (t : ℕ) × (how : Ending) × (thing_at m' id ≡ option_map (ended_thing t how) (thing_at m id)) × EndsNow m m' t). f.2 ∙ ap (option_map (ended_thing f.0 f.1)) s.thing)
+          (λ (f : FollowsEnd m m' (ObjectAt id at) id). f.2 ∙ ap (option_map (ended_thing f.0 f.1)) s.thing)
           (l.thing id refl);
       size = l.size id refl ∙ s.size;
       names = s.names;
@@ -214,7 +237,7 @@ module _ (m m' : Moment) where
         let owner = mutex_word (at + 3) (omega arith) (omega arith) in record {
           thing = ⊎_elim
               (λ (f : (thing_at m' id ≡ thing_at m id) × SameOver m m'). f.0 ∙ (s.thing ∙ ap (λ o. Some (Mutex o)) (sym (same_owner f.1 (word m (owner_of at))) ∙ ap (owner_in m') (sym owner))))
-              (λ (f : (t : ℕ) × (how : Ending) × (thing_at m' id ≡ option_map (ended_thing t how) (thing_at m id)) × EndsNow m m' t).
+              (λ (f : FollowsEnd m m' (MutexAt id at) id).
               f.2 ∙ (ap (option_map (ended_thing f.0 f.1)) s.thing ∙ ap Some (ended_owner f.0 f.1 f.3 (word m (owner_of at)) ∙ ap (λ n. Mutex (owner_in m' n)) (sym owner))))
               (l.thing id refl);
           tag = mutex_word at (omega arith) (omega arith) ∙ s.tag;
@@ -223,6 +246,36 @@ module _ (m m' : Moment) where
           size = l.size id refl ∙ s.size;
           who = λ t is. l.threads t (s.who t (sym owner ∙ is));
         }
+
+  -- a thread
+  module _ (id : Id) (number maker at : ℕ) (here : Has m.blocks (ThreadAt id number maker at)) (l : Leaves m m' (ThreadAt id number maker at)) where
+    thread_word : (i : ℕ) → at ≤ i → i < at + 8 → word m' i ≡ word m i
+    thread_word i lo hi = l.words i (ThreadAt id number maker at, here, refl, (lo, hi))
+
+    -- the end of another leaves it
+    not_ended : (t : ℕ) (how : Ending) (s : ThreadState) → s.number ≡ number → (Some number ≡ Some t → ⊥) → ended_thing t how (Thread s) ≡ Thread s
+    not_ended t how s is other = ap (λ b. Thread (cond b (record s { end = Some how }) s)) (ne_eqb s.number t (λ e. other (ap Some (sym is ∙ e))))
+
+    pub thread_frame : ThreadStands m id number maker at → ThreadStands m' id number maker at
+    thread_frame s = record {
+      state = s.state;
+      thing = ⊎_elim
+          (λ (f : (thing_at m' id ≡ thing_at m id) × SameOver m m'). f.0 ∙ s.thing)
+          (λ (f : FollowsEnd m m' (ThreadAt id number maker at) id). f.2 ∙ (ap (option_map (ended_thing f.0 f.1)) s.thing ∙ ap Some (not_ended f.0 f.1 s.state s.number_is f.4)))
+          (l.thing id refl);
+      number_is = s.number_is;
+      maker_is = s.maker_is;
+      begun = s.begun;
+      tag = thread_word at (omega arith) (omega arith) ∙ s.tag;
+      made_by = thread_word (at + 1) (omega arith) (omega arith) ∙ s.made_by;
+      serial = thread_word (at + 2) (omega arith) (omega arith) ∙ s.serial;
+      number_word = thread_word (at + 3) (omega arith) (omega arith) ∙ s.number_word;
+      maker_word = thread_word (at + 4) (omega arith) (omega arith) ∙ s.maker_word;
+      size = l.size id refl ∙ s.size;
+      end = subst (λ x. TellsEnd m'.blocks x (word m' (result_of at)) s.state.end) (sym (thread_word (at + 5) (omega arith) (omega arith)))
+          (subst (λ x. TellsEnd m'.blocks (word m (state_of at)) x s.state.end) (sym (thread_word (at + 6) (omega arith) (omega arith)))
+          (tells_among m.blocks m'.blocks l.blocks (word m (state_of at)) (word m (result_of at)) s.state.end s.end));
+    }
 
   -- what the table of threads tells stays so
   pub lines_on : (lines : List (Option Line)) → SameOver m m' → ((t : ℕ) → IsThread m'.run t → IsThread m.run t) → LinesTell m.run lines → LinesTell m'.run lines
@@ -237,7 +290,12 @@ module _ (m m' : Moment) where
     same_turn = l.words turn_word (TheTurn, here, refl, (omega arith, omega arith))
 
     still_handed : (h : Handed) → IsHanded m h → IsHanded m' h
-    still_handed h p = (p.0 ∙ sym (l.turn refl).lines, lines_on h.lines (l.turn refl).over (l.turn refl).threads p.1, (l.turn refl).sinks h.sink p.2)
+    still_handed h p = (
+      p.0 ∙ sym (l.turn refl).lines,
+      lines_on h.lines (l.turn refl).over (l.turn refl).threads p.1,
+      (l.turn refl).sinks h.sink p.2,
+      sym (same_count (length m.run.refusals) (length m'.run.refusals) l.threads (l.turn refl).threads) ∙ p.3,
+    )
 
     still_none : (j : ℕ) (k' : Holder) → At m'.holders j k' → k'.live ≡ true → ((k : Holder) → At m.holders j k → k.live ≡ true → HasNone k) → HasNone k'
     still_none j k' at live before = ⊎_elim
@@ -276,6 +334,7 @@ module _ (m m' : Moment) where
   stands_frame (ChunkAt object number at) here l s =
       links_chunk l.blocks object (suc number) (word m at) (word m' at) (l.words at (ChunkAt object number at, here, refl, (omega arith, omega arith))) s
   stands_frame (MutexAt id at) here l s = mutex_frame id at here l s
+  stands_frame (ThreadAt id number maker at) here l s = thread_frame id number maker at here l s
   stands_frame (TextAt bytes at) here l s = (
     l.words at (TextAt bytes at, here, refl, (omega arith, omega arith)) ∙ s.0,
     l.words (at + 1) (TextAt bytes at, here, refl, (omega arith, omega arith)) ∙ s.1,

@@ -24,7 +24,7 @@ use Rattle.heap_core.specs.Objects.{object_tag, shape_of}
 use Rattle.heap_core.specs.Shapes.{flagged, edge_word, first_child}
 use Rattle.heap_core.specs.Opening.{IsOpening, IsFirst, globals_class, laid_in, first_lines, first_table}
 use Rattle.heap_core.specs.Turns.{Any, LinesTell}
-use Rattle.heap_core.specs.Rule.{Stands, Kept, LiesIn, Below, moment}
+use Rattle.heap_core.specs.Rule.{Stands, Kept, LiesIn, Below, moment, taken_count}
 use Rattle.heap_core.proofs.Holders.{none_shown}
 
 -- ---- the words
@@ -220,6 +220,10 @@ main_line slots zero t e = sym (number 0 t (some-injective (Some 0) (Some t) e))
     number n m h = cc
 main_line slots (suc i) t e = absurd (none_at (slots - 1) i t e)
 
+none_taken : (n : ℕ) → taken_count (lines_none n) ≡ 0
+none_taken zero = refl
+none_taken (suc n) = none_taken n
+
 -- the first table has these lines, and that of the main thread alone
 numbers_first : (slots : ℕ) → numbers (first_table slots) ≡ first_lines slots
 numbers_first slots = ap (λ l. Some 0 ∷ l) (free (slots - 1))
@@ -242,8 +246,8 @@ only_main slots l (inr h) = absurd (none_has (slots - 1) l h)
 
 -- ---- the law
 
-pub starts : (ws : List ℕ) (what : Handed) (p : Plan) → what.lines ≡ first_table p.slots → what.sink ≡ p.begun → p.begun.failed ≡ false → 1 ≤ p.slots → opening_words ≤ p.words → length ws ≡ p.words → IsOpening (λ i. get_or ws i 0) → Kept p (opening ws (Some what ∷ []) (first_holder p))
-starts ws what p lines_are sink_is fine some_slots some_words size o = record {
+pub starts : (ws : List ℕ) (what : Handed) (p : Plan) → what.lines ≡ first_table p.slots → what.sink ≡ p.begun → what.started ≡ 0 → p.begun.failed ≡ false → 1 ≤ p.slots → opening_words ≤ p.words → length ws ≡ p.words → IsOpening (λ i. get_or ws i 0) → Kept p (opening ws (Some what ∷ []) (first_holder p))
+starts ws what p lines_are sink_is none_started fine some_slots some_words size o = record {
   run = first_run;
   blocks = opening_blocks;
   lines = first_lines p.slots;
@@ -254,6 +258,8 @@ starts ws what p lines_are sink_is fine some_slots some_words size o = record {
     long = let z : ℕ = p.slots - 1 in let long : length (lines_none z) ≡ z = length-replicate z None in omega (arith, long, some_slots);
     main = refl;
     taken = λ i t a. inl (main_line p.slots i t a);
+    all = λ t u. absurd u.1;
+    count = ap suc (none_taken (p.slots - 1));
     once = λ i j t a b. first_line p.slots i t a ∙ sym (first_line p.slots j t b);
     mine = λ j k a _. subst (λ (u : Holder). get_elem? (first_lines p.slots) u.line ≡ some (Some u.view.thread)) (only j k a).1 refl;
     due = λ j n k a _ e. absurd (let h : None ≡ Some n = ap (λ (u : Holder). u.view.unsplit) (only j k a).1 ∙ e in cc);
@@ -288,6 +294,7 @@ starts ws what p lines_are sink_is fine some_slots some_words size o = record {
   known = λ j k b a kn. subst (λ (u : Holder). Has u.blocks b) (sym (only j k a).1) kn;
   lie = λ j k a _. subst (λ (u : Holder). Each (LiesIn u.blocks) u.view.known) (only j k a).1 ((ObjectAt globals 0, inl refl, refl, refl), tt);
   own = λ i j k o a h. absurd (empty j k o a h);
+  begun = let z : opening_words + 8 * 1 + 0 ≤ get_or ws used_word 0 + 8 = omega (arith, used) in z;
   used = let z : get_or ws used_word 0 + shape_words * 2 ≡ opening_words + 0 + 14 + 0 = omega (arith, used) in z;
   made = λ shape at h. ⊎_elim
       (λ (x : (shape ≡ root_of globals_class) × (at ≡ first_root)). inl (inl x.0))
@@ -352,7 +359,7 @@ starts ws what p lines_are sink_is fine some_slots some_words size o = record {
           word = o.rest 15 refl;
           what = what;
           home = refl;
-          handed = (ap numbers lines_are ∙ numbers_first p.slots, subst (LinesTell first_run) (sym lines_are) first_tell, subst (runs.Stands Any p.begun [] ([] ∷ [])) (sym sink_is) (sink_stands Any p.begun fine));
+          handed = (ap numbers lines_are ∙ numbers_first p.slots, subst (LinesTell first_run) (sym lines_are) first_tell, subst (runs.Stands Any p.begun [] ([] ∷ [])) (sym sink_is) (sink_stands Any p.begun fine), ap suc (sym none_started));
           nobody = λ j k a _. ap (λ (u : Holder). busy_at turn_word u.doing) (sym (only j k a).1);
         })
         (no_lock tree_lock tree_lock)
@@ -375,4 +382,4 @@ starts ws what p lines_are sink_is fine some_slots some_words size o = record {
 -- the same over a row of slots
 pub starts_from : (ws : List ℕ) (l : List Slot) (what : Handed) (p : Plan) → l ≡ Some what ∷ [] → IsFirst p.begun p.slots what → p.begun.failed ≡ false → 1 ≤ p.slots → opening_words ≤ p.words → length ws ≡ p.words → IsOpening (λ i. get_or ws i 0)
     → Kept p (opening ws l (first_holder p))
-starts_from ws l what p is first fine some_slots some_words size o = subst (λ (x : List Slot). Kept p (opening ws x (first_holder p))) (sym is) (starts ws what p first.1 first.0 fine some_slots some_words size o)
+starts_from ws l what p is first fine some_slots some_words size o = subst (λ (x : List Slot). Kept p (opening ws x (first_holder p))) (sym is) (starts ws what p first.1 first.0 first.2 fine some_slots some_words size o)

@@ -1,5 +1,5 @@
 -- What a step owes to the law. The law is kept where the rule of each block that the step touches is shown anew, and every other block is left.
-use Rattle.std.proofs.Common.{◌≡◌, ◌<◌, ◌⊎◌, ℕ, ◌+◌, ◌*◌, Bool, true, false, List, ◌++◌, length, get_or, Option, Some, refl, sym, ap, ◌∙◌, inl, inr, ⊎_elim}
+use Rattle.std.proofs.Common.{◌≡◌, ◌≤◌, ◌<◌, ◌⊎◌, ℕ, ◌+◌, ◌*◌, Bool, true, false, List, ◌++◌, length, get_or, Option, Some, refl, sym, ap, ◌∙◌, inl, inr, ⊎_elim}
 use Rattle.atomic_table.specs.Table.{State}
 use Rattle.rb_model.specs.declared.value.Id.{Id}
 use Rattle.rb_shared.specs.History.{History}
@@ -10,9 +10,9 @@ use Rattle.shared_run.specs.Closing.{ShowsRun}
 use Rattle.shared_run.specs.Run.{Run, IsRun, IsThread, MayStill, refused_at}
 use Rattle.shared_run.specs.Run as runs
 use Rattle.shared_run.proofs.Events.{has_either}
-use Rattle.heap_core.specs.Places.{opening_words, used_word, turn_word, shape_words}
+use Rattle.heap_core.specs.Places.{opening_words, used_word, turn_word, shape_words, thread_words}
 use Rattle.heap_core.specs.Handing.{Plan, Slot, Homes}
-use Rattle.heap_core.specs.Blocks.{Block, ObjectAt, ChunkAt, MutexAt, TextAt, BoxAt, ShapeAt, LockAt, TheTurn, home_of, id_of, HasHome, InFamily, words_of_shapes}
+use Rattle.heap_core.specs.Blocks.{Block, ObjectAt, ChunkAt, MutexAt, ThreadAt, TextAt, BoxAt, ShapeAt, LockAt, TheTurn, home_of, id_of, HasHome, InFamily, words_of_shapes}
 use Rattle.heap_core.specs.Charges.{budget, tally_of}
 use Rattle.heap_core.specs.View.{Region, Holder, Knows, held}
 use Rattle.heap_core.specs.Moment.{Moment, At, size_at}
@@ -24,6 +24,7 @@ pub home_on : (bs cs : List Block) (b : Block) → HasHome bs b → HasHome (bs 
 home_on bs cs (ChunkAt object number at) h = (h.0, has_front bs cs (ObjectAt h.0 object) h.1)
 home_on bs cs (ObjectAt id at) h = tt
 home_on bs cs (MutexAt id at) h = tt
+home_on bs cs (ThreadAt id number maker at) h = tt
 home_on bs cs (TextAt bytes at) h = tt
 home_on bs cs (BoxAt n at) h = tt
 home_on bs cs (ShapeAt shape at) h = tt
@@ -48,7 +49,7 @@ module _ (plan : Plan) (s : State Slot Holder) (r : Kept plan s) (ws' : List ℕ
     pub laid : Laid ws' views' (r.blocks ++ added)
     -- of every other block the words, the thing and what is in progress are left
     pub words : (i : ℕ) (b : Block) → Has r.blocks b → mine (home_of b) ≡ false → InFamily r.blocks (home_of b) i → get_or ws' i 0 ≡ get_or s.words i 0
-    pub things : (id : Id) (b : Block) → Has r.blocks b → mine (home_of b) ≡ false → id_of b ≡ Some id → Follows (moment plan s r.run r.lines r.blocks) (moment plan (whole ws' hs' views') run lines (r.blocks ++ added)) id
+    pub things : (id : Id) (b : Block) → Has r.blocks b → mine (home_of b) ≡ false → id_of b ≡ Some id → Follows (moment plan s r.run r.lines r.blocks) (moment plan (whole ws' hs' views') run lines (r.blocks ++ added)) b id
     pub sizes : (id : Id) (b : Block) → Has r.blocks b → mine (home_of b) ≡ false → id_of b ≡ Some id → size_at (moment plan (whole ws' hs' views') run lines (r.blocks ++ added)) id ≡ size_at (moment plan s r.run r.lines r.blocks) id
     pub threads : (t : ℕ) → IsThread r.run t → IsThread run t
     pub stays : (b : Block) → Has r.blocks b → mine (home_of b) ≡ false → Stays (moment plan s r.run r.lines r.blocks) (moment plan (whole ws' hs' views') run lines (r.blocks ++ added)) (home_of b)
@@ -63,6 +64,8 @@ module _ (plan : Plan) (s : State Slot Holder) (r : Kept plan s) (ws' : List ℕ
     pub lie : (j : ℕ) (k : Holder) → At views' j k → k.live ≡ true → Each (LiesIn k.blocks) k.view.known
     pub own : (i j : ℕ) (k : Holder) (o : Region) → At views' j k → Has k.own o → i < length o.words → get_or ws' (o.at + i) 0 ≡ get_or o.words i 0
     pub used : get_or ws' used_word 0 + shape_words * length (tally_of plan.slots run.events).shapes ≡ opening_words + budget plan.slots run.events + words_of_shapes (r.blocks ++ added) + owned views'
+    -- a thread that is started took its words
+    pub begun : opening_words + thread_words * length run.refusals + owned views' ≤ get_or ws' used_word 0 + thread_words
     -- a shape that an entry made stays made, one that was ahead is ahead or made, and so are those that come
     pub made_on : (shape : Shape) → Has (tally_of plan.slots r.run.events).shapes shape → Has (tally_of plan.slots run.events).shapes shape
     pub ahead_on : (shape : Shape) (j : ℕ) (k : Holder) → At s.views j k → k.live ≡ true → Has k.shapes shape → IsMade (tally_of plan.slots run.events).shapes views' shape
@@ -113,6 +116,7 @@ module _ (plan : Plan) (s : State Slot Holder) (r : Kept plan s) (ws' : List ℕ
     lie = o.lie;
     own = o.own;
     used = o.used;
+    begun = o.begun;
     made = λ shape at has. ⊎_elim
         (λ (old : Has r.blocks (ShapeAt shape at)). ⊎_elim
         (λ (was : Has (tally_of plan.slots r.run.events).shapes shape). inl (o.made_on shape was))

@@ -207,12 +207,14 @@ module _ (plan : Plan) (s : State Slot Holder) (r : Kept plan s) (id : ℕ) (k :
           lines = r.lines;
           seated = seated_store plan.slots z z' r.lines (set s.views id k') (threads_here z x owner o' stands.thing) (seated_plain plan.slots z r.lines s.views id k k' r.seated seat refl refl refl (no_start t (Some (Mutex owner)) act));
           charged = let words = counts.0 in let shapes = ap length counts.1 in omega (arith, words, shapes, none_held);
+          starts = omega arith;
           inside_own = λ y c q. absurd q;
           bounded = λ c q. absurd q;
           parted = λ y c d q. absurd q;
           mine = is_home (MutexAt x at);
           own_home = eq-eqb at at refl;
           receiver = λ y c hc is touched. ap (is_home (MutexAt x at)) (ap home_of (r.one x c (MutexAt x at) hc here (is ∙ ap Some (sym (same_is thing.id y touched) ∙ same)) refl)) ∙ eq-eqb at at refl;
+          ends = λ c hc q. absurd (true≢false (sym q));
           doing = λ y far. refl;
           off_turn = λ off. (refl, refl, refl, refl, refl);
           anew = λ c hc mine. subst (Stands after) (sym (alone_at plan s r (MutexAt x at) here (λ i place. mutex_not_object x i at place) c hc (eqb-true (home_of c) at mine))) mutex_after;

@@ -73,6 +73,8 @@ module _ (plan : Plan) where
           long = r.seated.long;
           main = r.seated.main;
           taken = r.seated.taken;
+          all = r.seated.all;
+          count = r.seated.count;
           once = r.seated.once;
           mine = each_two (λ j u. u.live ≡ true → get_elem? r.lines u.line ≡ some (Some u.view.thread)) s.views id (maker k) w (r.seated.mine id k at) c.seated (λ j u _ a. r.seated.mine j u a);
           due = λ j m u a. each_two (λ j u. u.live ≡ true → u.view.unsplit ≡ Some m → get_elem? r.lines u.due ≡ some (Some m)) s.views id (maker k) w (λ _ e. absurd (no_unsplit m e)) (λ _ e. absurd (no_unsplit m (sym c.no_due ∙ e))) (λ j u _ a. r.seated.due j m u a) j u a;
@@ -102,6 +104,7 @@ module _ (plan : Plan) where
         lie = each_two (λ j u. u.live ≡ true → Each (LiesIn u.blocks) u.view.known) s.views id (maker k) w (r.lie id k at) c.lie (λ j u _ a. r.lie j u a);
         own = λ x j u o a. each_two (λ j u. Has u.own o → x < length o.words → get_or s.words (o.at + x) 0 ≡ get_or o.words x 0) s.views id (maker k) w (r.own x id k o at) (λ h. absurd (subst (λ os. Has os o) c.own h)) (λ j u _ a. r.own x j u o a) j u a;
         used = let was = r.used in let more = owned_snoc (set s.views id (maker k)) w in let owns = owned_set s.views id k (maker k) at in let blocks = ap words_of_shapes same_blocks in let none_held = c.held in omega (arith, was, more, owns, blocks, none_held);
+        begun = let was = r.begun in let more = owned_snoc (set s.views id (maker k)) w in let owns = owned_set s.views id k (maker k) at in let none_held = c.held in omega (arith, was, more, owns, none_held);
         made_on = λ shape h. h;
         ahead_on = λ shape j u a l h. dite (ℕ_discrete j id)
             (λ same. let q : k ≡ u = some-injective k u (sym at ∙ (ap (get_elem? s.views) (sym same) ∙ a)) in
@@ -172,6 +175,8 @@ module _ (plan : Plan) where
           long = r.seated.long;
           main = r.seated.main;
           taken = r.seated.taken;
+          all = r.seated.all;
+          count = r.seated.count;
           once = r.seated.once;
           mine = each_both (λ j x. x.live ≡ true → get_elem? r.lines x.line ≡ some (Some x.view.thread)) s.views id other (joined k u) spent_holder (r.seated.mine id k at) (λ e. absurd (true≢false (sym e))) (λ j x _ _ a. r.seated.mine j x a);
           due = λ j n x a. each_both (λ j x. x.live ≡ true → x.view.unsplit ≡ Some n → get_elem? r.lines x.due ≡ some (Some n)) s.views id other (joined k u) spent_holder (r.seated.due id n k at) (λ e. absurd (true≢false (sym e))) (λ j x _ _ a. r.seated.due j n x a) j x a;
@@ -209,6 +214,7 @@ module _ (plan : Plan) where
             (λ e. absurd (true≢false (sym e))) (λ j x _ _ a. r.lie j x a);
         own = λ y j x o a. each_both (λ j x. Has x.own o → y < length o.words → get_or s.words (o.at + y) 0 ≡ get_or o.words y 0) s.views id other (joined k u) spent_holder (r.own y id k o at) (λ h. absurd h) (λ j x _ _ a. r.own y j x o a) j x a;
         used = let w = r.used in let one = owned_set s.views id k (joined k u) at in let two = owned_set (set s.views id (joined k u)) other u spent_holder there in let none_own = ap words_in rests.0 in let blocks = ap words_of_shapes same_blocks in omega (arith, w, one, two, none_own, blocks);
+        begun = let w = r.begun in let one = owned_set s.views id k (joined k u) at in let two = owned_set (set s.views id (joined k u)) other u spent_holder there in let none_own = ap words_in rests.0 in omega (arith, w, one, two, none_own);
         made_on = λ shape h. h;
         ahead_on = λ shape j x a l h. dite (ℕ_discrete j other)
             (λ same. let q : u ≡ x = some-injective u x (sym was ∙ (ap (get_elem? s.views) (sym same) ∙ a)) in

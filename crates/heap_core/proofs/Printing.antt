@@ -1,5 +1,5 @@
 -- The turn is given back with the entry of a print, and with a refusal.
-use Rattle.std.proofs.Common.{◌≡◌, ◌<◌, ℕ, ◌+◌, true, false, List, [], ◌∷◌, ◌++◌, length, set, get_or, Option, Some, None, refl, sym, ap, ◌∙◌, subst, inl, inr, ⊎_elim, arith, append-nil, length-set, eq-eqb, eqb-true, true≢false}
+use Rattle.std.proofs.Common.{◌≡◌, ◌<◌, ℕ, suc, ◌+◌, true, false, List, [], ◌∷◌, ◌++◌, length, set, get_or, Option, Some, None, refl, sym, ap, ◌∙◌, subst, inl, inr, ⊎_elim, arith, append-nil, length-set, eq-eqb, eqb-true, true≢false}
 use Rattle.std.proofs.lemmas.List.{get_or-set_same}
 use mathlib.Core.Option.{some}
 use Rattle.atomic_table.specs.Table.{State, Me, Allows, gives}
@@ -23,7 +23,7 @@ use Rattle.heap_core.specs.Charges.{tally_of}
 use Rattle.heap_core.specs.View.{Region, Holder, Idle, Knows, words_in, held, busy_at}
 use Rattle.heap_core.specs.Moment.{Moment, At}
 use Rattle.heap_core.specs.Turns.{Any, LinesTell, HasTurn, HasNone, TurnStands}
-use Rattle.heap_core.specs.Turning.{MakesInTurn, RefusesInTurn, out_as, with_out, with_plain, with_sink_failed, without_turn}
+use Rattle.heap_core.specs.Turning.{MakesInTurn, RefusesInTurn, SameTable, out_as, with_out, with_plain, with_sink_failed, without_turn}
 use Rattle.heap_core.specs.Rule.{Stands, Kept, LiesIn, Below, moment}
 use Rattle.heap_core.proofs.Doings.{busy_set, busy_else}
 use Rattle.heap_core.proofs.Frames.{lines_on}
@@ -43,7 +43,7 @@ use native.Mathlib.Decide.{ℕ_discrete}
 pub else_same : (x : ℕ) (k : Holder) → is_home TheTurn x ≡ false → busy_at x (without_turn k).doing ≡ busy_at x k.doing
 else_same x k far = busy_else turn_word Idle x k.doing (λ is. true≢false (sym (eq-eqb x turn_word is) ∙ far))
 
-module _ (plan : Plan) (s : State Slot Holder) (r : Kept plan s) (id : ℕ) (k : Holder) (seat : At s.views id k) (live : k.live ≡ true) (h g : Handed) (same_lines : g.lines ≡ h.lines) (t : Had plan s r id k seat live h true) where
+module _ (plan : Plan) (s : State Slot Holder) (r : Kept plan s) (id : ℕ) (k : Holder) (seat : At s.views id k) (live : k.live ≡ true) (h g : Handed) (same : SameTable h g) (t : Had plan s r id k seat live h true) where
   abbrev before : Moment
   before = moment plan s r.run r.lines r.blocks
 
@@ -51,13 +51,13 @@ module _ (plan : Plan) (s : State Slot Holder) (r : Kept plan s) (id : ℕ) (k :
   homes' = set s.homes 0 (some (Some g))
 
   -- the turn is free, with what is handed on now
-  free_again : (run : Run) (bs : List Block) (k' : Holder) → k'.doing ≡ (without_turn k).doing → LinesTell run h.lines → runs.Stands Any plan.begun run.events run.refusals g.sink
+  free_again : (run : Run) (bs : List Block) (k' : Holder) → k'.doing ≡ (without_turn k).doing → LinesTell run h.lines → runs.Stands Any plan.begun run.events run.refusals g.sink → length run.refusals ≡ length r.run.refusals
       → TurnStands (moment plan (whole (set s.words turn_word 0) homes' (set s.views id k')) run r.lines bs)
-  free_again run bs k' doing tell sinks = inl record {
+  free_again run bs k' doing tell sinks count = inl record {
     word = get_or-set_same s.words turn_word 0 0 (turn_fits plan s r id k seat live);
     what = g;
     home = ap (λ (hs : Homes). set hs 0 (some (Some g))) t.home;
-    handed = (ap numbers same_lines ∙ t.handed.0, subst (LinesTell run) (sym same_lines) tell, sinks);
+    handed = (ap numbers same.0 ∙ t.handed.0, subst (LinesTell run) (sym same.0) tell, sinks, count ∙ (t.handed.3 ∙ ap suc (sym same.1)));
     nobody = each_set (λ j u. u.live ≡ true → HasNone u) s.views id k' (λ _. ap (busy_at turn_word) doing ∙ busy_set turn_word Idle k.doing) (λ j u ne a. t.others j u ne a);
   }
 
@@ -87,19 +87,22 @@ module _ (plan : Plan) (s : State Slot Holder) (r : Kept plan s) (id : ℕ) (k :
         lines = r.lines;
         seated = seated_plain plan.slots z r.lines s.views id k k' r.seated seat refl refl refl refl;
         charged = let words = counts.0 in let shapes = ap length counts.1 in omega (arith, words, shapes, none_held);
+        starts = omega arith;
         inside_own = λ x c q. absurd q;
         bounded = λ c q. absurd q;
         parted = λ x c d q. absurd q;
         mine = is_home TheTurn;
         own_home = refl;
         receiver = λ y c q is touched. absurd touched;
+        ends = λ c hc q. absurd (true≢false (sym q));
         doing = λ x far. else_same x k far;
         off_turn = λ off. absurd (true≢false off);
         anew = λ c hc mine. subst (Stands (moment plan (whole (set s.words turn_word 0) homes' (set s.views id k')) (run_after r.run k.view.thread e z) r.lines (r.blocks ++ [])))
             (sym (alone_at plan s r TheTurn r.turn object_not_turn c hc (eqb-true (home_of c) turn_word mine)))
             (free_again (run_after r.run k.view.thread e z) (r.blocks ++ []) k' refl
             (lines_on before (moment plan (whole (set s.words turn_word 0) homes' (set s.views id k')) (run_after r.run k.view.thread e z) r.lines (r.blocks ++ [])) h.lines (λ u. over_same r.run.events k.view.thread e refl u) (λ n lt. lt) t.handed.1)
-            (stands_did Any plan.begun r.run.events r.run.refusals k.view.thread e h.sink g.sink t.handed.2 did));
+            (stands_did Any plan.begun r.run.events r.run.refusals k.view.thread e h.sink g.sink t.handed.2 did)
+            refl);
         new = λ c q. absurd q;
         homes = λ c q. absurd q;
         shapes_on = λ shape q. inr q;
@@ -147,7 +150,8 @@ module _ (plan : Plan) (s : State Slot Holder) (r : Kept plan s) (id : ℕ) (k :
             (sym (alone_at plan s r TheTurn r.turn object_not_turn c hc (eqb-true (home_of c) turn_word mine)))
             (free_again run' (r.blocks ++ []) k' refl
             (lines_on before (moment plan (whole (set s.words turn_word 0) homes' (set s.views id k')) run' r.lines (r.blocks ++ [])) h.lines (λ u. refl) (λ n lt. let c = refused_count r.run.refusals v.thread q in omega (arith, lt, c)) t.handed.1)
-            (stands_refused Any plan.begun r.run.events r.run.refusals v.thread q call h.sink g.sink t.handed.2 did (refl, refl) knew.within));
+            (stands_refused Any plan.begun r.run.events r.run.refusals v.thread q call h.sink g.sink t.handed.2 did (refl, refl) knew.within)
+            (refused_count r.run.refusals v.thread q));
         new = λ c n. absurd n;
         one = λ y c d n. absurd n;
         one_shape = λ shape place to n. absurd n;
@@ -157,6 +161,7 @@ module _ (plan : Plan) (s : State Slot Holder) (r : Kept plan s) (id : ℕ) (k :
         own = others_own plan s r homes' id k k' turn_word 0 TheTurn seat live live refl refl r.turn (place_inside TheTurn) (λ x o n lt.
             own_same plan s r homes' id k k' turn_word 0 TheTurn seat live live refl refl r.turn (place_inside TheTurn) (o.at + x) id k seat (o, n, (omega arith, omega (arith, lt))) ∙ r.own x id k o seat n lt);
         used = let was = r.used in let owns = owned_set s.views id k k' seat in let blocks = ap words_of_shapes same_blocks in omega (arith, was, owns, blocks, used);
+        begun = let was = r.begun in let owns = owned_set s.views id k k' seat in let count = refused_count r.run.refusals v.thread q in omega (arith, was, owns, count, used);
         made_on = λ shape n. n;
         ahead_on = ahead_else plan s r homes' id k k' turn_word 0 TheTurn seat live live refl refl r.turn (place_inside TheTurn) (tally_of plan.slots r.run.events).shapes (λ shape n. inr n);
         made_new = λ shape place n. absurd n;
@@ -178,7 +183,7 @@ module _ (plan : Plan) (s : State Slot Holder) (r : Kept plan s) (id : ℕ) (k :
 
 -- ---- the steps
 
-makes_at : (plan : Plan) (count id : ℕ) (k : Holder) (h g : Handed) (step : ℕ) (bytes : List ℕ) → k.live ≡ true → HasTurn k h true → g.lines ≡ h.lines → k.own ≡ [] → k.ahead ≡ 0 → SinkDid (Print bytes) h.sink g.sink
+makes_at : (plan : Plan) (count id : ℕ) (k : Holder) (h g : Handed) (step : ℕ) (bytes : List ℕ) → k.live ≡ true → HasTurn k h true → SameTable h g → k.own ≡ [] → k.ahead ≡ 0 → SinkDid (Print bytes) h.sink g.sink
     → Allows (Kept plan) count id (k, (0, Some g) ∷ []) turn_word (λ _. 0) (λ _. MakesInTurn (plain_entry step (Print bytes)) (k, (0, Some g) ∷ []))
 makes_at plan count id k h g step bytes live has lines own ahead did s r size seat small = (
   without_turn (with_plain k (plain_entry step (Print bytes))),
@@ -189,14 +194,14 @@ makes_at plan count id k h g step bytes live has lines own ahead did s r size se
 )
 
 -- the step makes this entry
-pub makes_in_turn : (plan : Plan) (count id : ℕ) (me : Me Slot Holder) (h g : Handed) (step : ℕ) (bytes : List ℕ) (e : Entry) → e ≡ plain_entry step (Print bytes) → me.1 ≡ (0, Some g) ∷ [] → me.0.live ≡ true → HasTurn me.0 h true → g.lines ≡ h.lines → me.0.own ≡ [] → me.0.ahead ≡ 0
+pub makes_in_turn : (plan : Plan) (count id : ℕ) (me : Me Slot Holder) (h g : Handed) (step : ℕ) (bytes : List ℕ) (e : Entry) → e ≡ plain_entry step (Print bytes) → me.1 ≡ (0, Some g) ∷ [] → me.0.live ≡ true → HasTurn me.0 h true → SameTable h g → me.0.own ≡ [] → me.0.ahead ≡ 0
     → SinkDid (Print bytes) h.sink g.sink → Allows (Kept plan) count id me turn_word (λ _. 0) (λ _. MakesInTurn e me)
 makes_in_turn plan count id me h g step bytes e is carries live has lines own ahead did =
     subst (λ (x : Entry). Allows (Kept plan) count id me turn_word (λ _. 0) (λ _. MakesInTurn x me)) (sym is)
     (subst (λ (c : List (ℕ × Slot)). Allows (Kept plan) count id (me.0, c) turn_word (λ _. 0) (λ _. MakesInTurn (plain_entry step (Print bytes)) (me.0, c))) (sym carries)
     (makes_at plan count id me.0 h g step bytes live has lines own ahead did))
 
-refuses_at : (plan : Plan) (count id : ℕ) (k : Holder) (h g : Handed) (call : Call) (moved : List Item) → k.live ≡ true → HasTurn k h true → g.lines ≡ h.lines → SinkRefused call h.sink g.sink
+refuses_at : (plan : Plan) (count id : ℕ) (k : Holder) (h g : Handed) (call : Call) (moved : List Item) → k.live ≡ true → HasTurn k h true → SameTable h g → SinkRefused call h.sink g.sink
     → Allows (Kept plan) count id (k, (0, Some g) ∷ []) turn_word (λ _. 0) (λ _. RefusesInTurn call moved (k, (0, Some g) ∷ []))
 refuses_at plan count id k h g call moved live has lines did s r size seat small = (
   without_turn (with_sink_failed k call moved),
@@ -207,7 +212,7 @@ refuses_at plan count id k h g call moved live has lines did s r size seat small
 )
 
 -- the step refuses this call
-pub refuses_in_turn : (plan : Plan) (count id : ℕ) (me : Me Slot Holder) (h g : Handed) (call named : Call) (moved : List Item) → named ≡ call → me.1 ≡ (0, Some g) ∷ [] → me.0.live ≡ true → HasTurn me.0 h true → g.lines ≡ h.lines → SinkRefused call h.sink g.sink
+pub refuses_in_turn : (plan : Plan) (count id : ℕ) (me : Me Slot Holder) (h g : Handed) (call named : Call) (moved : List Item) → named ≡ call → me.1 ≡ (0, Some g) ∷ [] → me.0.live ≡ true → HasTurn me.0 h true → SameTable h g → SinkRefused call h.sink g.sink
     → Allows (Kept plan) count id me turn_word (λ _. 0) (λ _. RefusesInTurn named moved me)
 refuses_in_turn plan count id me h g call named moved is carries live has lines did =
     subst (λ (x : Call). Allows (Kept plan) count id me turn_word (λ _. 0) (λ _. RefusesInTurn x moved me)) (sym is)

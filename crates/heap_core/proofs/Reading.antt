@@ -79,6 +79,8 @@ module _ (plan : Plan) (s : State Slot Holder) (r : Kept plan s) (id : ℕ) (k k
           long = r.seated.long;
           main = r.seated.main;
           taken = r.seated.taken;
+          all = r.seated.all;
+          count = r.seated.count;
           once = r.seated.once;
           mine = each_set (λ j u. u.live ≡ true → get_elem? r.lines u.line ≡ some (Some u.view.thread)) s.views id k'
               (λ _. ap (get_elem? r.lines) line ∙ (r.seated.mine id k at live ∙ ap (λ x. some (Some x)) (sym thread_is))) (λ j u _ a. r.seated.mine j u a);
@@ -110,6 +112,7 @@ module _ (plan : Plan) (s : State Slot Holder) (r : Kept plan s) (id : ℕ) (k k
             own_same plan s r s.homes id k k' i n b at live alive line size here inside (o.at + x) id k at (o, was, (omega arith, omega (arith, lt))) ∙ r.own x id k o at was lt);
         used = let was = r.used in let owns = owned_set s.views id k k' at in let words = ap (λ (q : Tally). q.words) counts in let shapes = ap (λ (q : Tally). length q.shapes) counts in let blocks = ap words_of_shapes same_blocks in
             let own = ap words_in c.own in let ahead = c.ahead in omega (arith, was, owns, words, shapes, blocks, own, ahead, used);
+        begun = let was = r.begun in let owns = owned_set s.views id k k' at in let own = ap words_in c.own in let ahead = c.ahead in omega (arith, was, owns, own, ahead, used);
         made_on = λ shape h. subst (λ (q : Tally). Has q.shapes shape) (sym counts) h;
         ahead_on = ahead_else plan s r s.homes id k k' i n b at live alive line size here inside (tally_of plan.slots run.events).shapes (λ shape h. inr (subst (λ l. Has l shape) (sym c.shapes) h));
         made_new = λ shape place h. absurd h;

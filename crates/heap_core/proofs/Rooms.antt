@@ -3,7 +3,7 @@ use Rattle.std.proofs.Common.{◌≡◌, ◌≤◌, ◌<◌, ◌⊎◌, ℕ, ◌
 use Rattle.rb_shared.specs.Lists.{Has}
 use Rattle.shared_run.proofs.Events.{has_either}
 use Rattle.heap_core.specs.Places.{used_word, opening_words}
-use Rattle.heap_core.specs.Blocks.{Block, ObjectAt, ChunkAt, MutexAt, TextAt, BoxAt, ShapeAt, LockAt, TheTurn, place_of, size_of, Inside}
+use Rattle.heap_core.specs.Blocks.{Block, ObjectAt, ChunkAt, MutexAt, ThreadAt, TextAt, BoxAt, ShapeAt, LockAt, TheTurn, place_of, size_of, Inside}
 use Rattle.heap_core.specs.View.{Region, InRegion, Holder, InOwn, spent_holder, maker, joined}
 use Rattle.heap_core.specs.Moment.{At}
 use Rattle.heap_core.specs.Rule.{Laid}
@@ -13,6 +13,7 @@ pub some_size : (b : Block) → 0 < size_of b
 some_size (ObjectAt id at) = omega arith
 some_size (ChunkAt object number at) = omega arith
 some_size (MutexAt id at) = omega arith
+some_size (ThreadAt id number maker at) = omega arith
 some_size (TextAt bytes at) = omega arith
 some_size (BoxAt n at) = omega arith
 some_size (ShapeAt shape at) = omega arith

@@ -1,18 +1,18 @@
 -- One seat takes a step: what of the law speaks of seats stays.
-use Rattle.std.proofs.Common.{◌≡◌, ℕ, true, List, length, set, Option, Some, None, refl, sym, ap, ◌∙◌, subst, inl, inr, ⊎_elim, arith}
+use Rattle.std.proofs.Common.{◌≡◌, ℕ, suc, true, not, List, length, count_by, set, Option, Some, None, refl, sym, ap, ◌∙◌, subst, inl, inr, ⊎_elim, arith}
 use mathlib.Core.Option.{some}
 use lib.ListN.{get_elem?}
 use Rattle.atomic_table.specs.Table.{State}
 use Rattle.rb_model.specs.declared.value.Id.{Id}
 use Rattle.rb_model.specs.declared.value.Ref.{Ref}
-use Rattle.rb_model.specs.Things.{Thing, Object, Mutex}
+use Rattle.rb_model.specs.Things.{Thing, ThreadState, Object, Mutex, Thread}
 use Rattle.rb_shared.specs.Lists.{Has, Each}
 use Rattle.rb_shared.specs.Store.{found, threads}
 use Rattle.rb_shared.specs.View.{View}
 use Rattle.rb_shared.proofs.Runs.{each_more}
 use Rattle.shared_run.specs.Run.{IsNote}
 use Rattle.heap_core.specs.Handing.{Plan, Slot}
-use Rattle.heap_core.specs.Blocks.{Block, ObjectAt, ChunkAt, MutexAt, TextAt, BoxAt, ShapeAt, LockAt, TheTurn, home_of, id_of, place_of, Inside}
+use Rattle.heap_core.specs.Blocks.{Block, ObjectAt, ChunkAt, MutexAt, ThreadAt, TextAt, BoxAt, ShapeAt, LockAt, TheTurn, home_of, id_of, number_of, place_of, Inside}
 use Rattle.heap_core.specs.View.{Holder, Knows}
 use Rattle.heap_core.specs.Moment.{At, owner_in, word}
 use Rattle.heap_core.specs.Mutexes.{owner_of}
@@ -58,6 +58,8 @@ seated_note slots z lines views id k w s at live line due note = record {
   long = s.long;
   main = s.main;
   taken = s.taken;
+  all = s.all;
+  count = s.count;
   once = s.once;
   mine = each_set (λ j u. u.live ≡ true → get_elem? lines u.line ≡ some (Some u.view.thread)) views id w
       (λ l. ap (get_elem? lines) line ∙ (s.mine id k at (sym live ∙ l) ∙ ap (λ t. some (Some t)) (sym (note_thread k.view w.view note)))) (λ j u _ a. s.mine j u a);
@@ -72,6 +74,8 @@ seated_plain slots z lines views id k w s at live line thread nobody = record {
   long = s.long;
   main = s.main;
   taken = s.taken;
+  all = s.all;
+  count = s.count;
   once = s.once;
   mine = each_set (λ j u. u.live ≡ true → get_elem? lines u.line ≡ some (Some u.view.thread)) views id w
       (λ l. ap (get_elem? lines) line ∙ (s.mine id k at (sym live ∙ l) ∙ ap (λ t. some (Some t)) (sym thread))) (λ j u _ a. s.mine j u a);
@@ -85,6 +89,8 @@ seated_store slots z z' lines views same s = record {
   long = s.long;
   main = s.main;
   taken = λ i t a. ⊎_elim (λ e. inl e) (λ (u : IsUngathered z t). inr (u.0, subst (λ l. Has l u.0) (sym same) u.1, u.2, u.3)) (s.taken i t a);
+  all = λ t u. s.all t (u.0, subst (λ l. Has l u.0) same u.1, u.2, u.3);
+  count = s.count ∙ ap (λ (l : List ThreadState). suc (count_by (λ x. not x.gathered) l)) (sym same);
   once = s.once;
   mine = s.mine;
   due = s.due;
@@ -110,12 +116,34 @@ module _ (plan : Plan) (s : State Slot Holder) (r : Kept plan s) where
       by_kind : (b : Block) → id_of b ≡ Some id → Stands (moment plan s r.run r.lines r.blocks) b → (thing : Thing) × (found r.run.store id ≡ Some thing)
       by_kind (ObjectAt x at) is k = (Object k.class k.fields, ap (found r.run.store) (sym (some_is x id is)) ∙ k.thing)
       by_kind (MutexAt x at) is k = (Mutex (owner_in (moment plan s r.run r.lines r.blocks) (word (moment plan s r.run r.lines r.blocks) (owner_of at))), ap (found r.run.store) (sym (some_is x id is)) ∙ k.thing)
+      by_kind (ThreadAt x number maker at) is k = (Thread k.state, ap (found r.run.store) (sym (some_is x id is)) ∙ k.thing)
       by_kind (ChunkAt object number at) is k = absurd (none_is id is)
       by_kind (TextAt bytes at) is k = absurd (none_is id is)
       by_kind (BoxAt n at) is k = absurd (none_is id is)
       by_kind (ShapeAt shape at) is k = absurd (none_is id is)
       by_kind (LockAt at) is k = absurd (none_is id is)
       by_kind TheTurn is k = absurd (none_is id is)
+
+  -- no block stands for the main thread
+  pub no_main : (b : Block) → Has r.blocks b → number_of b ≡ Some 0 → ⊥
+  no_main b here is = by_kind b is (r.each b here)
+    where
+      none_is : (n : ℕ) → None ≡ Some n → ⊥
+      none_is n e = cc
+
+      number : (n m : ℕ) → Some n ≡ Some m → n ≡ m
+      number n m e = cc
+
+      by_kind : (b : Block) → number_of b ≡ Some 0 → Stands (moment plan s r.run r.lines r.blocks) b → ⊥
+      by_kind (ThreadAt x n maker at) is k = let some = k.begun in let none_left = number n 0 is in omega (arith, some, none_left)
+      by_kind (ObjectAt x at) is k = none_is 0 is
+      by_kind (ChunkAt object n at) is k = none_is 0 is
+      by_kind (MutexAt x at) is k = none_is 0 is
+      by_kind (TextAt bytes at) is k = none_is 0 is
+      by_kind (BoxAt n at) is k = none_is 0 is
+      by_kind (ShapeAt shape at) is k = none_is 0 is
+      by_kind (LockAt at) is k = none_is 0 is
+      by_kind TheTurn is k = none_is 0 is
 
   -- no seat claims a number that no thread has
   pub nobody_claims : (n : ℕ) → n ≡ length r.run.refusals → (j : ℕ) (u : Holder) → At s.views j u → Claims u n → ⊥
@@ -136,6 +164,8 @@ module _ (plan : Plan) (s : State Slot Holder) (r : Kept plan s) where
       absurd (no_object home.0 object (r.laid.apart (place_of b) (ObjectAt home.0 object) b home.1 here (subst (λ y. Inside y (ObjectAt home.0 object)) is (place_inside (ObjectAt home.0 object))) (place_inside b)))
   alone_at b here no_object (ObjectAt x place) hc is = r.laid.apart (place_of b) (ObjectAt x place) b hc here (subst (λ y. Inside y (ObjectAt x place)) is (place_inside (ObjectAt x place))) (place_inside b)
   alone_at b here no_object (MutexAt x place) hc is = r.laid.apart (place_of b) (MutexAt x place) b hc here (subst (λ y. Inside y (MutexAt x place)) is (place_inside (MutexAt x place))) (place_inside b)
+  alone_at b here no_object (ThreadAt x number maker place) hc is =
+      r.laid.apart (place_of b) (ThreadAt x number maker place) b hc here (subst (λ y. Inside y (ThreadAt x number maker place)) is (place_inside (ThreadAt x number maker place))) (place_inside b)
   alone_at b here no_object (TextAt bytes place) hc is = r.laid.apart (place_of b) (TextAt bytes place) b hc here (subst (λ y. Inside y (TextAt bytes place)) is (place_inside (TextAt bytes place))) (place_inside b)
   alone_at b here no_object (BoxAt n place) hc is = r.laid.apart (place_of b) (BoxAt n place) b hc here (subst (λ y. Inside y (BoxAt n place)) is (place_inside (BoxAt n place))) (place_inside b)
   alone_at b here no_object (ShapeAt shape place) hc is = r.laid.apart (place_of b) (ShapeAt shape place) b hc here (subst (λ y. Inside y (ShapeAt shape place)) is (place_inside (ShapeAt shape place))) (place_inside b)

@@ -1,14 +1,15 @@
 -- One step of one seat on one block keeps the law, where it keeps the rule of that block and of those that it touches: a quiet step, one that
 -- publishes words ahead of their entry, and one that makes an entry.
-use Rattle.std.proofs.Common.{◌≡◌, ◌≤◌, ◌<◌, ◌⊎◌, ◌==◌, ℕ, ◌+◌, ◌-◌, ◌*◌, Bool, true, false, List, [], ◌++◌, length, set, get_or, Option, Some, None, refl, sym, ap, ◌∙◌, subst, inl, inr, ⊎_elim, arith, le_refl, length-set, get_or-set_other, eq-eqb, eqb-true, true≢false}
+use Rattle.std.proofs.Common.{◌≡◌, ◌≤◌, ◌<◌, ◌⊎◌, ◌==◌, ℕ, ◌+◌, ◌-◌, ◌*◌, Bool, true, false, List, [], ◌∷◌, ◌++◌, length, set, get_or, Option, Some, None, refl, sym, ap, ◌∙◌, subst, inl, inr, ⊎_elim, arith, le_refl, length-append, length-set, get_or-set_other, eq-eqb, eqb-true, true≢false}
 use Rattle.std.specs.Option.{option_map}
 use Rattle.atomic_table.specs.Table.{State}
 use Rattle.rb_model.specs.declared.value.Id.{Id}
 use Rattle.rb_model.specs.declared.value.Ref.{Ref}
-use Rattle.rb_model.specs.Log.{Call, On, Start, Gather, Print, End, Entry, is_end, printed}
+use Rattle.rb_model.specs.Log.{Call, On, Start, Gather, Print, End, Entry, Refusal, is_end, printed}
 use Rattle.rb_model.specs.Started.{started_by}
 use Rattle.rb_model.specs.Things.{Thing}
 use Rattle.rb_shared.specs.History.{History}
+use Rattle.rb_model.specs.Values.{Reference}
 use Rattle.rb_shared.specs.Lists.{Has, Each}
 use Rattle.rb_shared.specs.Step.{Steps, store_behind, ended_thing}
 use Rattle.rb_shared.specs.Store.{Store, found}
@@ -25,9 +26,9 @@ use Rattle.shared_run.proofs.Knowing.{noted, knows_on}
 use Rattle.shared_run.proofs.Points.{point_entry}
 use Rattle.shared_run.proofs.Enters.{run_on, entry_grows, entry_knows, unended, new_is_past}
 use Rattle.shared_run.proofs.Sinking.{stands_silent}
-use Rattle.heap_core.specs.Places.{used_word, turn_word, shape_words}
+use Rattle.heap_core.specs.Places.{used_word, turn_word, shape_words, thread_words}
 use Rattle.heap_core.specs.Handing.{Plan, Slot, Homes}
-use Rattle.heap_core.specs.Blocks.{Block, ShapeAt, place_of, size_of, home_of, id_of, HasHome, Inside, InFamily, words_of_shapes}
+use Rattle.heap_core.specs.Blocks.{Block, ShapeAt, place_of, size_of, home_of, id_of, number_of, HasHome, Inside, InFamily, words_of_shapes}
 use Rattle.heap_core.specs.Charges.{budget, tally_of}
 use Rattle.heap_core.specs.View.{Region, InRegion, words_in, Holder, Busy, InOwn, Knows, held, busy_at}
 use Rattle.heap_core.specs.Moment.{Moment, At}
@@ -45,6 +46,11 @@ use Rattle.heap_core.proofs.Tallies.{made_after}
 use Rattle.heap_core.proofs.Owes.{whole, owes_kept}
 use Rattle.heap_core.proofs.Rooms.{laid_step}
 use Rattle.heap_core.proofs.Seats.{note_thread, note_ended, note_known, note_claims, seated_note, lies_more, there, nobody_claims}
+
+-- where a thread is started there is one list of refusals more
+opened_most : (rs : List (List Refusal)) (ps : List (ℕ × Reference)) → length (opened rs ps) ≤ length rs + length ps
+opened_most rs [] = omega arith
+opened_most rs (p ∷ ps) = let l = length-append rs ([] ∷ []) in omega (arith, l)
 
 -- a region is a part of one of these, with its words
 abbrev pub PartOf : List Region → Region → Type 0
@@ -194,6 +200,7 @@ module _ (plan : Plan) (s : State Slot Holder) (r : Kept plan s) (hs' : Homes) (
             ∙ (own_same (part.0.at + (o.at - part.0.at + x)) id k at (part.0, part.1, (omega arith, omega (arith, lt, from, to)))
             ∙ (r.own (o.at - part.0.at + x) id k part.0 at part.1 (omega (arith, lt, from, to)) ∙ sym (part.4 x lt))));
         used = let was = r.used in let owns = owned_set s.views id k k' at in let counted = q.counted in let more = shapes_append r.blocks added in omega (arith, was, owns, counted, more, used);
+        begun = let was = r.begun in let owns = owned_set s.views id k k' at in let counted = q.counted in omega (arith, was, owns, counted, used);
         made_on = λ shape h. h;
         ahead_on = ahead_else (tally_of plan.slots r.run.events).shapes (λ shape h. inr (q.shapes_on shape h));
         made_new = λ shape place h. ahead_new (tally_of plan.slots r.run.events).shapes shape (inr (q.shapes_new shape place h));
@@ -222,6 +229,8 @@ module _ (plan : Plan) (s : State Slot Holder) (r : Kept plan s) (hs' : Homes) (
     pub seated : Seated plan.slots z lines views'
     pub charged : budget plan.slots r.run.events + held k + shape_words * length (tally_of plan.slots (run_after r.run k.view.thread e z).events).shapes
         ≡ budget plan.slots (run_after r.run k.view.thread e z).events + words_of_shapes added + shape_words * length (tally_of plan.slots r.run.events).shapes
+    -- a thread that is started takes its words
+    pub starts : thread_words * length (started_by e.call e.reply) ≤ held k
     -- the words that come were own
     pub inside_own : (x : ℕ) (c : Block) → Has added c → Inside x c → InOwn x k
     pub bounded : (c : Block) → Has added c → EndsIn k.own (place_of c + size_of c)
@@ -230,6 +239,8 @@ module _ (plan : Plan) (s : State Slot Holder) (r : Kept plan s) (hs' : Homes) (
     pub mine : ℕ → Bool
     pub own_home : mine (home_of b) ≡ true
     pub receiver : (y : Id) (c : Block) → Has r.blocks c → id_of c ≡ Some y → Touches e.call y → mine (home_of c) ≡ true
+    -- and that of the thread that ends
+    pub ends : (c : Block) → Has r.blocks c → is_end e.call ≡ true → number_of c ≡ Some k.view.thread → mine (home_of c) ≡ true
     pub doing : (x : ℕ) → mine x ≡ false → busy_at x k'.doing ≡ busy_at x k.doing
     -- where the turn is not shown anew, the slot and the lines are left, and the call neither prints, nor ends its thread or starts another
     pub off_turn : mine turn_word ≡ false → (hs' ≡ s.homes) × (lines ≡ r.lines) × (printed e.call ≡ []) × (is_end e.call ≡ false) × (started_by e.call e.reply ≡ [])
@@ -251,7 +262,7 @@ module _ (plan : Plan) (s : State Slot Holder) (r : Kept plan s) (hs' : Homes) (
     run' = run_after r.run t e z
 
     -- another thing is as it was, or the thread ends
-    follows : (y : Id) (d : Block) → Has r.blocks d → c.mine (home_of d) ≡ false → id_of d ≡ Some y → Follows (moment plan s r.run r.lines r.blocks) (after run' c.lines (r.blocks ++ added)) y
+    follows : (y : Id) (d : Block) → Has r.blocks d → c.mine (home_of d) ≡ false → id_of d ≡ Some y → Follows (moment plan s r.run r.lines r.blocks) (after run' c.lines (r.blocks ++ added)) d y
     follows y d hd not_mine is = by_call e.call refl
       where
         far : Touches e.call y → ⊥
@@ -260,13 +271,13 @@ module _ (plan : Plan) (s : State Slot Holder) (r : Kept plan s) (hs' : Homes) (
         was : (thing : Thing) × (found r.run.store y ≡ Some thing)
         was = there plan s r d y hd is
 
-        goes_on : is_end e.call ≡ false → Follows (moment plan s r.run r.lines r.blocks) (after run' c.lines (r.blocks ++ added)) y
+        goes_on : is_end e.call ≡ false → Follows (moment plan s r.run r.lines r.blocks) (after run' c.lines (r.blocks ++ added)) d y
         goes_on going = inl (
           ap (λ x. found x y) c.steps.store_is ∙ (found_behind plan.slots (r.run.store ++ e.moved) t e.call y was.0 (found_more r.run.store e.moved y was.0 was.1) far going ∙ sym was.1),
           λ u. over_same r.run.events t e going u,
         )
 
-        by_call : (x : Call) → e.call ≡ x → Follows (moment plan s r.run r.lines r.blocks) (after run' c.lines (r.blocks ++ added)) y
+        by_call : (x : Call) → e.call ≡ x → Follows (moment plan s r.run r.lines r.blocks) (after run' c.lines (r.blocks ++ added)) d y
         by_call (End how) same = inr (
           t,
           how,
@@ -274,6 +285,7 @@ module _ (plan : Plan) (s : State Slot Holder) (r : Kept plan s) (hs' : Homes) (
               ∙ (ap (λ x. found (store_behind plan.slots (r.run.store ++ e.moved) t x) y) same
               ∙ (found_at_end plan.slots (r.run.store ++ e.moved) t how y ∙ ap (option_map (ended_thing t how)) (found_more r.run.store e.moved y was.0 was.1 ∙ sym was.1))),
           (over_now r.run.events t e (ap is_end same), λ u ne. over_other r.run.events t e u ne),
+          λ own. true≢false (sym (c.ends d hd (ap is_end same) own) ∙ not_mine),
         )
         by_call (On thing act) same = goes_on (ap is_end same)
         by_call (Start new body values) same = goes_on (ap is_end same)
@@ -340,6 +352,8 @@ module _ (plan : Plan) (s : State Slot Holder) (r : Kept plan s) (hs' : Homes) (
           lie = each_set (λ j u. u.live ≡ true → Each (LiesIn u.blocks) u.view.known) s.views id k' (λ _. c.lie) (λ j u _ a. r.lie j u a);
           own = others_own (λ x o h. absurd (none_own o h));
           used = let was = r.used in let owns = owned_set s.views id k k' at in let charged = c.charged in let more = shapes_append r.blocks added in let none_ahead = c.ahead in omega (arith, was, owns, charged, more, used, count, none_ahead);
+          begun = let was = r.begun in let owns = owned_set s.views id k k' at in let none_ahead = c.ahead in let starts = c.starts in let few = opened_most r.run.refusals (started_by e.call e.reply) in
+              omega (arith, was, owns, none_ahead, starts, few, used, count);
           made_on = λ shape h. made_after plan.slots r.run.events t e shape h;
           ahead_on = ahead_else (tally_of plan.slots run'.events).shapes c.shapes_on;
           made_new = λ shape place h. ahead_new (tally_of plan.slots run'.events).shapes shape (c.shapes_new shape place h);

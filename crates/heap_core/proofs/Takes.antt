@@ -152,6 +152,8 @@ module _ (plan : Plan) (s : State Slot Holder) (r : Kept plan s) (id : ℕ) (k k
           long = r.seated.long;
           main = r.seated.main;
           taken = r.seated.taken;
+          all = r.seated.all;
+          count = r.seated.count;
           once = r.seated.once;
           mine = each_set (λ j u. u.live ≡ true → get_elem? r.lines u.line ≡ some (Some u.view.thread)) s.views id k'
               (λ _. ap (get_elem? r.lines) o.line ∙ (r.seated.mine id k at live ∙ ap (λ t. some (Some t)) (sym o.thread))) (λ j u _ a. r.seated.mine j u a);
@@ -185,6 +187,7 @@ module _ (plan : Plan) (s : State Slot Holder) (r : Kept plan s) (id : ℕ) (k k
         own = λ x j u p a. each_set (λ j u. Has u.own p → x < length p.words → get_or ws' (p.at + x) 0 ≡ get_or p.words x 0) s.views id k' (o.owns x p)
             (λ j u ne a h lt. o.others_same (p.at + x) j u ne a (p, h, (omega arith, omega (arith, lt))) ∙ r.own x j u p a h lt) j u a;
         used = let was = r.used in let owns = owned_set s.views id k k' at in let blocks = ap words_of_shapes same_blocks in let counted = o.counted in let ahead = o.ahead in omega (arith, was, owns, blocks, counted, ahead);
+        begun = let was = r.begun in let owns = owned_set s.views id k k' at in let counted = o.counted in let ahead = o.ahead in let count = o.count in omega (arith, was, owns, counted, ahead, count);
         made_on = λ shape h. h;
         ahead_on = λ shape j u a l h. dite (ℕ_discrete j id)
             (λ is. let same : k ≡ u = some-injective k u (sym at ∙ (ap (get_elem? s.views) (sym is) ∙ a)) in

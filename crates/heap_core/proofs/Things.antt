@@ -1,6 +1,7 @@
 -- What an entry leaves of the things and sizes that it does not touch.
-use Rattle.std.proofs.Common.{◌≡◌, ◌⊎◌, ◌==◌, ◌||◌, ℕ, Bool, true, false, cond, List, [], ◌∷◌, ◌++◌, map, Option, Some, None, is_some, refl, sym, ap, ◌∙◌, inl, inr, true≢false}
+use Rattle.std.proofs.Common.{◌≡◌, ◌⊎◌, ◌==◌, ◌||◌, ◌+◌, ℕ, Bool, true, false, not, cond, count_by, List, [], ◌∷◌, ◌++◌, map, Option, Some, None, is_some, refl, sym, ap, ◌∙◌, inl, inr, true≢false}
 use Rattle.std.specs.Option.{option_map}
+use Rattle.std.proofs.lemmas.List.Sums.{sum_by-cons}
 use mathlib.Core.Logic.{dite}
 use native.Mathlib.Decide.{ℕ_discrete}
 use Rattle.rb_model.specs.declared.value.Id.{Id}
@@ -12,7 +13,7 @@ use Rattle.rb_model.specs.Values.{same_id}
 use Rattle.rb_shared.specs.History.{Event, by}
 use Rattle.rb_model.specs.Private.{Item}
 use Rattle.rb_shared.specs.Step.{AreNew, store_behind, with_act, ended_item, ended_thing, new_thread}
-use Rattle.rb_shared.specs.Store.{Store, found, with_thing, thread_in, threads, is_full}
+use Rattle.rb_shared.specs.Store.{Store, found, with_thing, thread_in, threads, ungathered_count, is_full}
 use Rattle.rb_shared.specs.Lists.{Has}
 use Rattle.rb_shared.proofs.Runs.{found_more, has_behind}
 use Rattle.shared_run.specs.Run.{event_of}
@@ -84,6 +85,52 @@ thread_ends (i ∷ z) t how x h = by_thing i.thing (has_either (thread_in i.thin
     by_thing (Object c fs) (inl h) rest = absurd h
     by_thing (Elements vs) (inl h) rest = absurd h
     by_thing (Pairs ps) (inl h) rest = absurd h
+
+-- and each that is there then was there before
+pub thread_was : (z : Store) (t : ℕ) (how : Ending) (y : ThreadState) → Has (threads (map (ended_item t how) z)) y → (x : ThreadState) × Has (threads z) x × (y.number ≡ x.number) × (y.gathered ≡ x.gathered)
+thread_was [] t how y h = absurd h
+thread_was (i ∷ z) t how y h = by_thing i.thing (has_either (thread_in (ended_thing t how i.thing)) (threads (map (ended_item t how) z)) y h) (λ more. thread_was z t how y more)
+  where
+    same : (b : Bool) (s : ThreadState) → ((cond b (record s { end = Some how }) s).number ≡ s.number) × ((cond b (record s { end = Some how }) s).gathered ≡ s.gathered)
+    same true s = (refl, refl)
+    same false s = (refl, refl)
+
+    by_thing : (thing : Thing) → Has (thread_in (ended_thing t how thing)) y ⊎ Has (threads (map (ended_item t how) z)) y → (Has (threads (map (ended_item t how) z)) y → (x : ThreadState) × Has (threads z) x × (y.number ≡ x.number) × (y.gathered ≡ x.gathered))
+        → (x : ThreadState) × Has (thread_in thing ++ threads z) x × (y.number ≡ x.number) × (y.gathered ≡ x.gathered)
+    by_thing thing (inr more) rest = let p = rest more in (p.0, has_behind (thread_in thing) (threads z) p.0 p.1, p.2, p.3)
+    by_thing (Thread s) (inl (inl e)) rest = let p = same (s.number == t) s in (s, inl refl, ap (λ (x : ThreadState). x.number) e ∙ p.0, ap (λ (x : ThreadState). x.gathered) e ∙ p.1)
+    by_thing (Thread s) (inl (inr h)) rest = absurd h
+    by_thing (Mutex None) (inl h) rest = absurd h
+    by_thing (Mutex (Some o)) (inl h) rest = absurd h
+    by_thing (Object c fs) (inl h) rest = absurd h
+    by_thing (Elements vs) (inl h) rest = absurd h
+    by_thing (Pairs ps) (inl h) rest = absurd h
+
+-- as many are not gathered
+count_more : (f : ThreadState → Bool) (x : ThreadState) (xs : List ThreadState) → count_by f (x ∷ xs) ≡ cond (f x) 1 0 + count_by f xs
+count_more f x xs = sum_by-cons (λ y. cond (f y) 1 0) x xs
+
+pub ungathered_ends : (z : Store) (t : ℕ) (how : Ending) → ungathered_count (map (ended_item t how) z) ≡ ungathered_count z
+ungathered_ends [] t how = refl
+ungathered_ends (i ∷ z) t how = by_thing i.thing (ungathered_ends z t how)
+  where
+    left : ThreadState → Bool
+    left s = not s.gathered
+
+    same : (b : Bool) (s : ThreadState) → (cond b (record s { end = Some how }) s).gathered ≡ s.gathered
+    same true s = refl
+    same false s = refl
+
+    by_thing : (thing : Thing) → ungathered_count (map (ended_item t how) z) ≡ ungathered_count z → count_by left (thread_in (ended_thing t how thing) ++ threads (map (ended_item t how) z)) ≡ count_by left (thread_in thing ++ threads z)
+    by_thing (Thread s) more =
+        let s' : ThreadState = cond (s.number == t) (record s { end = Some how }) s in
+        count_more left s' (threads (map (ended_item t how) z)) ∙ (ap (λ b. cond (not b) 1 0 + count_by left (threads (map (ended_item t how) z))) (same (s.number == t) s)
+        ∙ (ap (λ n. cond (not s.gathered) 1 0 + n) more ∙ sym (count_more left s (threads z))))
+    by_thing (Mutex None) more = more
+    by_thing (Mutex (Some o)) more = more
+    by_thing (Object c fs) more = more
+    by_thing (Elements vs) more = more
+    by_thing (Pairs ps) more = more
 
 found_act : (z : Store) (t : ℕ) (a id : Id) (o : Option Thing) (act : Act) → same_id a id ≡ false → found (with_act t z a o act) id ≡ found z id
 found_act z t a id None act off = refl

@@ -3,14 +3,15 @@ use Rattle.std.specs.Prelude.{◌≡◌, ◌≤◌, ◌<◌, ℕ, ◌+◌, ℤ, 
 use Rattle.rb_model.specs.declared.value.Id.{Id}
 use Rattle.rb_shared.specs.Lists.{Has}
 use Rattle.shape_core.specs.Shape.{Shape}
-use Rattle.heap_core.specs.Places.{turn_word, object_words, chunk_words, mutex_words, text_words, box_words, shape_words}
+use Rattle.heap_core.specs.Places.{turn_word, object_words, chunk_words, mutex_words, text_words, box_words, shape_words, thread_words}
 
 -- Each kind of block, with what never changes in it, and last its place. A chunk tells the place of its object, and how many-th it is, from 1
--- on. A lock is a word alone. There is one turn word.
+-- on. A thread tells its number and that of its maker. A lock is a word alone. There is one turn word.
 pub data Block : Type 0 where
   ObjectAt : (id : Id) (at : ℕ) → Block
   ChunkAt : (object number at : ℕ) → Block
   MutexAt : (id : Id) (at : ℕ) → Block
+  ThreadAt : (id : Id) (number maker at : ℕ) → Block
   TextAt : (bytes : List ℕ) (at : ℕ) → Block
   BoxAt : (n : ℤ) (at : ℕ) → Block
   ShapeAt : (shape : Shape) (at : ℕ) → Block
@@ -21,6 +22,7 @@ abbrev pub place_of : Block → ℕ
 place_of (ObjectAt id at) = at
 place_of (ChunkAt object number at) = at
 place_of (MutexAt id at) = at
+place_of (ThreadAt id number maker at) = at
 place_of (TextAt bytes at) = at
 place_of (BoxAt n at) = at
 place_of (ShapeAt shape at) = at
@@ -31,6 +33,7 @@ abbrev pub size_of : Block → ℕ
 size_of (ObjectAt id at) = object_words
 size_of (ChunkAt object number at) = chunk_words
 size_of (MutexAt id at) = mutex_words
+size_of (ThreadAt id number maker at) = thread_words
 size_of (TextAt bytes at) = text_words bytes
 size_of (BoxAt n at) = box_words
 size_of (ShapeAt shape at) = shape_words
@@ -46,7 +49,13 @@ home_of b = place_of b
 abbrev pub id_of : Block → Option Id
 id_of (ObjectAt id at) = Some id
 id_of (MutexAt id at) = Some id
+id_of (ThreadAt id number maker at) = Some id
 id_of b = None
+
+-- the number of the thread that it stands for, if it is one
+abbrev pub number_of : Block → Option ℕ
+number_of (ThreadAt id number maker at) = Some number
+number_of b = None
 
 abbrev pub Inside : ℕ → Block → Type 0
 Inside i b = (place_of b ≤ i) × (i < place_of b + size_of b)

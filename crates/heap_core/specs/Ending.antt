@@ -22,7 +22,7 @@ over_front t (suc i) (l ∷ lines) = over_line t l ∷ over_front t i lines
 
 -- what is handed on when a thread has ended
 abbrev pub ended_by : ℕ → Handed → Handed
-ended_by t h = record { sink = h.sink; lines = over_at t h.lines }
+ended_by t h = record { sink = h.sink; started = h.started; lines = over_at t h.lines }
 
 -- the call is an end that tells no value
 abbrev pub IsPlainEnd : Held → Type 0

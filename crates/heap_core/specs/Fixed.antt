@@ -2,10 +2,11 @@
 use Rattle.std.specs.Prelude.{ℕ, zero, suc, Option, Some, None, [], ◌∷◌, length}
 use Rattle.shape_core.specs.Path.{Path, is_shared, places_of}
 use Rattle.typed_location.specs.Word.{twos_complement}
-use Rattle.heap_core.specs.Blocks.{Block, ObjectAt, MutexAt, TextAt, BoxAt, ShapeAt}
+use Rattle.heap_core.specs.Blocks.{Block, ObjectAt, MutexAt, ThreadAt, TextAt, BoxAt, ShapeAt}
 use Rattle.heap_core.specs.Spelling.{byte_word}
 use Rattle.heap_core.specs.Texts.{text_tag, box_tag}
 use Rattle.heap_core.specs.Mutexes.{mutex_tag}
+use Rattle.heap_core.specs.Threads.{thread_tag}
 use Rattle.heap_core.specs.Shapes.{flagged, edge_word}
 
 -- of a root no edge leads to it, and no place stands before one
@@ -23,6 +24,11 @@ fixed_word (ObjectAt id at) (suc (suc zero)) = Some id.serial
 fixed_word (MutexAt id at) zero = Some mutex_tag
 fixed_word (MutexAt id at) (suc zero) = Some id.thread
 fixed_word (MutexAt id at) (suc (suc zero)) = Some id.serial
+fixed_word (ThreadAt id number maker at) zero = Some thread_tag
+fixed_word (ThreadAt id number maker at) (suc zero) = Some id.thread
+fixed_word (ThreadAt id number maker at) (suc (suc zero)) = Some id.serial
+fixed_word (ThreadAt id number maker at) (suc (suc (suc zero))) = Some number
+fixed_word (ThreadAt id number maker at) (suc (suc (suc (suc zero)))) = Some maker
 fixed_word (TextAt bytes at) zero = Some text_tag
 fixed_word (TextAt bytes at) (suc zero) = Some (length bytes)
 fixed_word (TextAt bytes at) (suc (suc k)) = Some (byte_word bytes k)

@@ -15,10 +15,11 @@ pub record Plan : Type 0 where
   pub slots : ℕ
   pub begun : Sunk
 
--- What is handed on with the turn: what the sink tells now, and the table of threads, which has a line for each slot. A line is free, or that of a
--- thread.
+-- What is handed on with the turn: what the sink tells now, how many threads were started, and the table of threads, which has a line for each slot.
+-- A line is free, or that of a thread.
 pub record Handed : Type 0 where
   pub sink : Sunk
+  pub started : ℕ
   pub lines : List (Option Line)
 
 -- the numbers of the threads that have a line

@@ -11,6 +11,7 @@ pub mod Objects
 pub mod Shapes
 pub mod Texts
 pub mod Mutexes
+pub mod Threads
 pub mod Turns
 pub mod Rule
 pub mod Opening

@@ -40,9 +40,9 @@ first_lines slots = Some 0 ∷ replicate (slots - 1) None
 abbrev pub first_table : ℕ → List (Option Line)
 first_table slots = Some (record { number = 0; over = false }) ∷ replicate (slots - 1) None
 
--- what is handed on first: the sink as it is, and these lines
+-- what is handed on first: the sink as it is, no thread that was started, and these lines
 abbrev pub IsFirst : Sunk → ℕ → Handed → Type 0
-IsFirst sink slots h = (h.sink ≡ sink) × (h.lines ≡ first_table slots)
+IsFirst sink slots h = (h.sink ≡ sink) × (h.lines ≡ first_table slots) × (h.started ≡ 0)
 
 -- the one slot has it
 abbrev pub HoldsFirst : Sunk → ℕ → List Slot → Type 0

@@ -1,5 +1,5 @@
 -- The one law of the heap: there is a run, whose plain steps lead from the opening to the things that the words stand for, block by block.
-use Rattle.std.specs.Prelude.{◌≡◌, ◌≤◌, ◌<◌, ◌⊎◌, ℕ, ◌+◌, ◌*◌, true, false, List, [], ◌∷◌, length, get_or, Option, Some}
+use Rattle.std.specs.Prelude.{◌≡◌, ◌≤◌, ◌<◌, ◌⊎◌, ℕ, suc, ◌+◌, ◌*◌, true, false, List, [], ◌∷◌, length, get_or, Option, Some, None}
 use mathlib.Core.Option.{some}
 use lib.ListN.{get_elem?}
 use Rattle.atomic_table.specs.Table.{State}
@@ -8,15 +8,15 @@ use Rattle.rb_model.specs.declared.value.Ref.{Ref}
 use Rattle.rb_model.specs.Log.{Refusal}
 use Rattle.rb_model.specs.Things.{ThreadState}
 use Rattle.rb_shared.specs.History.{History}
-use Rattle.rb_shared.specs.Store.{Store, threads}
+use Rattle.rb_shared.specs.Store.{Store, threads, ungathered_count}
 use Rattle.rb_shared.specs.Lists.{Has, Each}
 use Rattle.shape_core.specs.Shape.{Shape}
 use Rattle.shared_run.specs.Closing.{ShowsRun}
 use Rattle.shared_run.specs.Run.{Run, IsRun, MayStill, refused_at}
 use Rattle.shared_run.specs.Run as runs
-use Rattle.heap_core.specs.Places.{opening_words, used_word, shape_words}
+use Rattle.heap_core.specs.Places.{opening_words, used_word, shape_words, thread_words}
 use Rattle.heap_core.specs.Handing.{Plan, Slot}
-use Rattle.heap_core.specs.Blocks.{Block, ObjectAt, ChunkAt, MutexAt, TextAt, BoxAt, ShapeAt, LockAt, TheTurn, place_of, size_of, id_of, Inside, HasHome, words_of_shapes}
+use Rattle.heap_core.specs.Blocks.{Block, ObjectAt, ChunkAt, MutexAt, ThreadAt, TextAt, BoxAt, ShapeAt, LockAt, TheTurn, place_of, size_of, id_of, Inside, HasHome, words_of_shapes}
 use Rattle.heap_core.specs.Charges.{budget, tally_of}
 use Rattle.heap_core.specs.View.{Region, InRegion, Holder, InOwn, Knows, held}
 use Rattle.heap_core.specs.Moment.{Moment, At}
@@ -25,6 +25,7 @@ use Rattle.heap_core.specs.Objects.{ObjectStands, ChunkStands}
 use Rattle.heap_core.specs.Shapes.{ShapeStands}
 use Rattle.heap_core.specs.Texts.{TextStands, BoxStands}
 use Rattle.heap_core.specs.Mutexes.{MutexStands}
+use Rattle.heap_core.specs.Threads.{ThreadStands}
 use Rattle.heap_core.specs.Turns.{TurnStands}
 
 -- each kind of block has its rule in a file of its own
@@ -32,6 +33,7 @@ abbrev pub Stands : Moment → Block → Type 0
 Stands m (ObjectAt id at) = ObjectStands m id at
 Stands m (ChunkAt object number at) = ChunkStands m object number at
 Stands m (MutexAt id at) = MutexStands m id at
+Stands m (ThreadAt id number maker at) = ThreadStands m id number maker at
 Stands m (TextAt bytes at) = TextStands m bytes at
 Stands m (BoxAt n at) = BoxStands m n at
 Stands m (ShapeAt shape at) = ShapeStands m shape at
@@ -52,12 +54,20 @@ Apart holders = (i j n : ℕ) (k l : Holder) → At holders i k → At holders j
 abbrev pub IsUngathered : Store → ℕ → Type 0
 IsUngathered z t = (x : ThreadState) × Has (threads z) x × (x.number ≡ t) × (x.gathered ≡ false)
 
+-- how many lines are taken
+abbrev pub taken_count : List (Option ℕ) → ℕ
+taken_count [] = 0
+taken_count (None ∷ lines) = taken_count lines
+taken_count (Some t ∷ lines) = suc (taken_count lines)
+
 -- The table of threads has a line for each slot. The main thread has the first, each other line is free or that of a thread that is not yet
--- gathered, and no thread has two. A pass has the line of its thread, and knows that of the thread whose pass is to be split off it.
+-- gathered. Each such thread has one, and none has two, so as many lines are taken as there are such threads, and that of the main one. A pass has the line of its thread, and knows that of the thread whose pass is to be split off it.
 pub record Seated (slots : ℕ) (z : Store) (lines : List (Option ℕ)) (holders : List Holder) : Type 0 where
   pub long : length lines ≡ slots
   pub main : get_elem? lines 0 ≡ some (Some 0)
   pub taken : (i t : ℕ) → get_elem? lines i ≡ some (Some t) → (t ≡ 0) ⊎ IsUngathered z t
+  pub all : (t : ℕ) → IsUngathered z t → (i : ℕ) × (get_elem? lines i ≡ some (Some t))
+  pub count : taken_count lines ≡ suc (ungathered_count z)
   pub once : (i j t : ℕ) → get_elem? lines i ≡ some (Some t) → get_elem? lines j ≡ some (Some t) → i ≡ j
   pub mine : (j : ℕ) (k : Holder) → At holders j k → k.live ≡ true → get_elem? lines k.line ≡ some (Some k.view.thread)
   pub due : (j n : ℕ) (k : Holder) → At holders j k → k.live ≡ true → k.view.unsplit ≡ Some n → get_elem? lines k.due ≡ some (Some n)
@@ -124,6 +134,8 @@ pub record Kept (plan : Plan) (s : State Slot Holder) : Type 0 where
   -- the own words are what the views say, and every word is the opening's, an entry's or a pass's
   pub own : (i j : ℕ) (k : Holder) (o : Region) → At s.views j k → Has k.own o → i < length o.words → get_or s.words (o.at + i) 0 ≡ get_or o.words i 0
   pub used : get_or s.words used_word 0 + shape_words * length (tally_of plan.slots run.events).shapes ≡ opening_words + budget plan.slots run.events + words_of_shapes blocks + owned s.views
+  -- each thread that was started took its words
+  pub begun : opening_words + thread_words * length run.refusals + owned s.views ≤ get_or s.words used_word 0 + thread_words
   pub made : (shape : Shape) (at : ℕ) → Has blocks (ShapeAt shape at) → IsMade (tally_of plan.slots run.events).shapes s.views shape
   -- what was loaded for a read may still be entered
   pub late : (j : ℕ) (k : Holder) → At s.views j k → k.live ≡ true → Each (MayStill plan.slots run k.view.thread) k.late

@@ -72,13 +72,17 @@ RefusesInTurn call moved m m' = m' ≡ (without_turn (with_sink_failed m.0 call 
 abbrev pub IsBare : Holder → Type 0
 IsBare k = (k.own ≡ []) × (k.ahead ≡ 0)
 
+-- the table of threads is as it was
+abbrev pub SameTable : Handed → Handed → Type 0
+SameTable h g = (g.lines ≡ h.lines) × (g.started ≡ h.started)
+
 -- what was handed on, but for the sink, which took a text
 abbrev pub HasTaken : List ℕ → Holder → Handed → Type 0
-HasTaken bytes k g = (h : Handed) × HasTurn k h false × (g.lines ≡ h.lines) × SinkDid (Print bytes) h.sink g.sink
+HasTaken bytes k g = (h : Handed) × HasTurn k h false × SameTable h g × SinkDid (Print bytes) h.sink g.sink
 
 -- or refused it
 abbrev pub HasFailed : List ℕ → Holder → Handed → Type 0
-HasFailed bytes k g = (h : Handed) × HasTurn k h false × (g.lines ≡ h.lines) × SinkRefused (Print bytes) h.sink g.sink
+HasFailed bytes k g = (h : Handed) × HasTurn k h false × SameTable h g × SinkRefused (Print bytes) h.sink g.sink
 
 -- what a print is answered, and what it leaves of its pass, which has the turn no more: where the sink took it there is its entry, else it is refused
 abbrev pub PrintAnswers : Asking → ℕ → Answer → Holder → Holder → Type 0

@@ -1,5 +1,5 @@
 -- The rule of the turn word. Nobody has the turn, and what is handed on with it lies in the slot; or one pass has both, whose thread goes on.
-use Rattle.std.specs.Prelude.{◌≡◌, ◌≢◌, ◌⊎◌, ℕ, Bool, true, false, List, Option, [], ◌∷◌, None, Some}
+use Rattle.std.specs.Prelude.{◌≡◌, ◌≢◌, ◌⊎◌, ℕ, suc, Bool, true, false, List, length, Option, [], ◌∷◌, None, Some}
 use mathlib.Core.Option.{some, none}
 use Rattle.rb_shared.specs.Lists.{Has}
 use Rattle.shared_run.specs.Run.{Run, Sunk}
@@ -23,9 +23,10 @@ pub record LinesTell (run : Run) (lines : List (Option Line)) : Type 0 where
   pub over : (l : Line) → Has lines (Some l) → l.over ≡ ended_in run l.number
   pub all : (t : ℕ) → runs.IsThread run t → ended_in run t ≡ false → (l : Line) × Has lines (Some l) × (l.number ≡ t)
 
--- what is handed on stands for the run: the lines are those of its threads, and the sink has taken its prints
+-- what is handed on stands for the run: the lines are those of its threads, the sink has taken its prints, and beside the main thread there are those
+-- that were started
 abbrev pub IsHanded : Moment → Handed → Type 0
-IsHanded m h = (numbers h.lines ≡ m.lines) × LinesTell m.run h.lines × Sinks m h.sink
+IsHanded m h = (numbers h.lines ≡ m.lines) × LinesTell m.run h.lines × Sinks m h.sink × (length m.run.refusals ≡ suc h.started)
 
 -- the pass has the turn, with this; the slot is out with its seat, or at home and empty
 abbrev pub HasTurn : Holder → Handed → Bool → Type 0

@@ -20,7 +20,7 @@ use std::marker::Brand;
 use std::mem;
 
 impl<K: Sink> Heap<K> {
-    // The turn is given back with the end of this thread.
+    // The turn is given back with the end of the main thread.
     fn enter_end<J: Making>(
         &self,
         seat: &mut Place<K>,
@@ -33,6 +33,7 @@ impl<K: Sink> Heap<K> {
         requires rests { seat.old.me.1 ≡ [] }
         requires live { seat.old.me.0.live ≡ true }
         requires thread { thread ≡ seat.old.me.0.view.thread }
+        requires main { thread ≡ 0 }
         requires end { IsPlainEnd call.now }
         requires entry { J.entry ≡ plain_entry step (asked call.now) }
         requires bare { IsBare seat.old.me.0 }
@@ -47,10 +48,11 @@ impl<K: Sink> Heap<K> {
         self.table.shared.store::<MakeInTurn<J>>(seat, TURN_WORD, 0);
     }
 
-    /// Ends the thread of a pass with no value, and gives the turn back. The entry of the end is made, and its reply is Done.
+    /// Ends the main thread with no value, and gives the turn back. The entry of the end is made, and its reply is Done.
     pub fn turn_end(&self, pass: &mut HeapPass, turn: Turn<K>, thread: u64, act: &Act)
         requires of { IsOf self.now pass.old }
         requires thread { thread ≡ (holder pass.old).view.thread }
+        requires main { thread ≡ 0 }
         requires end { IsPlainEnd act.now.call.now }
         requires moves_none { items_of act.now.moved.now ≡ [] }
         requires bare { IsBare (holder pass.old) }

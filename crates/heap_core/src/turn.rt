@@ -20,6 +20,8 @@ pub struct Turn<K: Sink> {
     out: K,
     /// Whether the sink has refused a print. Nothing is written from then on.
     failed: bool,
+    /// How many threads were started.
+    started: u64,
     /// A line for each slot: free, or that of a thread.
     lines: Vec<Option<Line>>,
 }
@@ -29,7 +31,7 @@ impl<K: Sink> Model for Turn<K> {
 
     ghost Value = { Handed };
 
-    ghost view = { λ t. record { sink = sunk_of K.told K.faults t.out t.failed; lines = t.lines.items } };
+    ghost view = { λ t. record { sink = sunk_of K.told K.faults t.out t.failed; started = t.started; lines = t.lines.items } };
 }
 
 /// Whether a line is that of this thread, which goes on.
@@ -69,6 +71,7 @@ impl<K: Sink> Turn<K> {
     pub(crate) fn new(alloc: Global, slots: u64, out: K) -> Result<Turn<K>, K>
         requires some { 1 ≤ slots }
         ensures sink { IfOk result (λ turn. turn.sink ≡ sunk_of K.told K.faults out false) }
+        ensures started { IfOk result (λ turn. turn.started ≡ 0) }
         ensures lines { IfOk result (λ turn. turn.lines ≡ first_table slots) }
         ensures back { IfErr result (λ sink. sink ≡ out) }
     {
@@ -82,6 +85,7 @@ impl<K: Sink> Turn<K> {
         Ok(Turn {
             out,
             failed: false,
+            started: 0,
             lines,
         })
     }
@@ -94,6 +98,7 @@ impl<K: Sink> Turn<K> {
         let Turn {
             out,
             failed: _,
+            started: _,
             lines: _,
         } = self;
         out
@@ -132,6 +137,7 @@ impl<K: Sink> Turn<K> {
     /// Writes a text whole. Whether the sink took it.
     pub(crate) fn print(&mut self, text: &[u8]) -> bool
         ensures lines { self.new.lines ≡ self.old.lines }
+        ensures started { self.new.started ≡ self.old.started }
         ensures done { result ≡ true → SinkDid (Print text.now) self.old.sink self.new.sink }
         ensures refused { result ≡ false → SinkRefused (Print text.now) self.old.sink self.new.sink }
     {

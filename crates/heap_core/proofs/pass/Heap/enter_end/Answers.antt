@@ -13,7 +13,7 @@ store-requires g c =
       search rules,
       omega (arith, some_words),
       ends_in_turn _ _ _ _ c.args.turn c.args.step how.0 _ (c.requires.entry ∙ ap (plain_entry c.args.step) how.1)
-          (ended_at c.hand_back.new.seat.me c.args.turn _ c.args.thread _ back.carries c.end.ensures.ended (c.requires.thread ∙ sym back.thread)) back.live back.has how.2 (back.own ∙ c.requires.bare.0, back.ahead ∙ c.requires.bare.1),
+          (ended_at c.hand_back.new.seat.me c.args.turn _ c.args.thread _ back.carries c.end.ensures.ended (c.requires.thread ∙ sym back.thread)) back.live back.has how.2 (back.own ∙ c.requires.bare.0, back.ahead ∙ c.requires.bare.1) (back.thread ∙ (sym c.requires.thread ∙ c.requires.main)),
     )
 
 pub returns-clause-ended : goal.returns-clause-ended

@@ -10,5 +10,5 @@ new-requires g c =
     let laid = c.as_slice.ensures.value ∙ c.in-Ok.ensures.laid in
     let open_words = opened_words c.args.words (omega (arith, least)) in
     let first = c.in_ok-places.ensures.one in
-    starts_from _ _ first.0 _ first.1 (first.2.0 ∙ ap (λ x. sunk_of g.K.Sink.told g.K.Sink.faults x false) (sym c.of.ensures), first.2.1) refl c.requires.some (omega (arith, least)) (ap length laid ∙ open_words.0)
+    starts_from _ _ first.0 _ first.1 (first.2.0 ∙ ap (λ x. sunk_of g.K.Sink.told g.K.Sink.faults x false) (sym c.of.ensures), first.2.1, first.2.2) refl c.requires.some (omega (arith, least)) (ap length laid ∙ open_words.0)
     (subst (λ (ws : List ℕ). IsOpening (λ i. get_or ws i 0)) (sym laid) open_words.1)
