@@ -17,7 +17,7 @@ use Rattle.heap_core.specs.Shapes.{ShapeStands, Leads, IsLink, first_child, next
 use Rattle.heap_core.specs.Links.{IsNth, Joins, LinkStands, IsTree}
 use Rattle.heap_core.specs.Growing.{LeadsUp, LeadsOn, LooksShape, shape_block, Growth, MayLink, MayGrow, blocks_of, with_growth, MakesShape}
 use Rattle.heap_core.specs.Moment.{Moment, At, word}
-use Rattle.heap_core.specs.Rule.{Stands, Kept, moment}
+use Rattle.heap_core.specs.Rule.{Stands, Kept, moment, owned}
 use Rattle.heap_core.specs.Telling.{MayLoad, MayStore}
 use Rattle.heap_core.specs.View.{Region, Holder, Idle, InOwn, Knows, busy_at, held, words_in, with_more}
 use Rattle.heap_core.proofs.Frames.{Among, is_link_on, nth_among, joins_among, stands_frame}
@@ -40,6 +40,8 @@ tree_is plan s r size long = record {
   one_shape = r.one_shape;
   one_at = λ shape other at h g. ap shape_in (r.laid.apart at (ShapeAt shape at) (ShapeAt other at) h g (omega arith, omega arith) (omega arith, omega arith));
   few = λ number at nth. let le = r.few number at nth in let top = r.laid.used_in in omega (arith, le, top, long);
+  deep = λ shape at h. let le = r.deep shape at h in let top = r.laid.used_in in omega (arith, le, top, long);
+  narrow = λ shape at h. (r.each (ShapeAt shape at) h).narrow;
 }
   where
     shape_in : Block → Shape
@@ -56,6 +58,8 @@ tree_among size bs cs to back t = record {
   one_shape = λ shape at end h g. t.one_shape shape at end (back (ShapeAt shape at) h) (back (ShapeAt shape end) g);
   one_at = λ shape other at h g. t.one_at shape other at (back (ShapeAt shape at) h) (back (ShapeAt other at) g);
   few = λ number at nth. t.few number at (nth_among cs bs back number at nth);
+  deep = λ shape at h. t.deep shape at (back (ShapeAt shape at) h);
+  narrow = λ shape at h. t.narrow shape at (back (ShapeAt shape at) h);
 }
 
 -- ---- a word is looked at
@@ -108,7 +112,8 @@ module _ (plan : Plan) (s : State Slot Holder) (r : Kept plan s) (id : ℕ) (k :
     tree = λ has c h t. knows_all c h;
     grows = λ c h. absurd h;
     linked = λ shape place h. absurd h;
-    numbered = λ home link to number h. absurd h;
+    few = λ home link to number h. absurd h;
+    deep = λ shape place h. absurd h;
     shapes_on = λ shape h. h;
     shapes_new = λ shape place h. absurd h;
     homes = λ c h. absurd h;
@@ -270,6 +275,7 @@ module _ (plan : Plan) (s : State Slot Holder) (r : Kept plan s) (id : ℕ) (k :
 
   shape_stands : ShapeStands then g.shape g.to
   shape_stands = record {
+    narrow = c.narrow;
     tag = ap (λ x. get_or words' x 0) (let z : g.to ≡ g.to + 0 = omega arith in z) ∙ laid 0 (omega arith);
     leads = leads_new g.shape.class g.shape.path c.up (laid 1 (omega arith)) (laid 2 (omega arith)) (laid 3 (omega arith));
     count = laid 4 (omega arith);
@@ -294,6 +300,7 @@ module _ (plan : Plan) (s : State Slot Holder) (r : Kept plan s) (id : ℕ) (k :
   shape_again =
       let rule = r.each (ShapeAt before g.home) here in
       let far : (i : ℕ) → i < 5 → get_or words' (g.home + i) 0 ≡ get_or s.words (g.home + i) 0 = λ i lt. other_word (g.home + i) (λ e. far_link i lt e within.2) in record {
+        narrow = rule.narrow;
         tag = ap (λ x. get_or words' x 0) (let z : g.home ≡ g.home + 0 = omega arith in z) ∙ (far 0 (omega arith) ∙ (ap (λ x. get_or s.words x 0) (let z : g.home + 0 ≡ g.home = omega arith in z) ∙ rule.tag));
         leads = leads_again before.class before.path rule.leads (far 1 (omega arith)) (far 2 (omega arith)) (far 3 (omega arith));
         count = far 4 (omega arith) ∙ rule.count;
@@ -336,9 +343,20 @@ module _ (plan : Plan) (s : State Slot Holder) (r : Kept plan s) (id : ℕ) (k :
   held_less : held k ≡ held grown + 7
   held_less = let own = ap words_in c.laid in omega (arith, own, long)
 
-  row_before : (number : ℕ) → MayLink k.blocks before g.shape g.home g.link number → (n : ℕ) × (from : ℕ) × IsNth r.blocks n from × (shape_words * number + held grown ≤ shape_words * n + held k)
-  row_before zero j = (0, first_root, inl (refl, refl), omega (arith, held_less))
-  row_before (suc n) j = (n, g.home, nth_among k.blocks r.blocks (λ b h. r.known id k b seat h) n g.home j.1, omega (arith, held_less))
+  -- the row and the path go on from those that were there
+  abbrev Room : ℕ → Type 0
+  Room number = shape_words * number + owned s.views + held grown ≤ get_or s.words used_word 0 + held k
+
+  none_less : Room 0
+  none_less = let old = r.few 0 first_root (inl (refl, refl)) in omega (arith, old, held_less)
+
+  row_room : (number : ℕ) → MayLink k.blocks before g.shape g.home g.link number → Room number
+  row_room zero j = none_less
+  row_room (suc n) j = let old = r.few n g.home (nth_among k.blocks r.blocks (λ b h. r.known id k b seat h) n g.home j.1) in omega (arith, old, held_less)
+
+  path_room : (class : ℕ) (path : Path) → LeadsUp k.blocks (parent_of (record { class = class; path = path })) parent → Room (length path)
+  path_room class [] up = none_less
+  path_room class (e ∷ path) up = let old = r.deep (record { class = class; path = path }) parent (r.known id k (ShapeAt (record { class = class; path = path }) parent) seat up) in omega (arith, old, held_less)
 
   grow_step : Kept plan state'
   grow_step = quiet_step plan s r s.homes id k grown g.link g.to (ShapeAt before g.home) seat live live refl refl here inside (blocks_of g) record {
@@ -367,7 +385,8 @@ module _ (plan : Plan) (s : State Slot Holder) (r : Kept plan s) (id : ℕ) (k :
     tree = λ has b h t. has_front k.blocks (blocks_of g) b (r.tree id k seat live has b h t);
     grows = λ b h t. (c.has, has_behind k.blocks (blocks_of g) b h);
     linked = λ shape place h. come_each (λ b. IsShape b → (number : ℕ) × IsNth (r.blocks ++ blocks_of g) number (place_of b)) (λ _. (g.number, inr (g.home, g.link, new_link))) (λ x. absurd x) (ShapeAt shape place) h tt;
-    numbered = λ home link to number h. come_each (λ b. AreLink b → (n : ℕ) × (from : ℕ) × IsNth r.blocks n from × (shape_words * number_in b + held grown ≤ shape_words * n + held k)) (λ x. absurd x) (λ _. row_before g.number c.joins) (LinkAt home link to number) h tt;
+    few = λ home link to number h. come_each (λ b. AreLink b → Room (number_in b)) (λ x. absurd x) (λ _. row_room g.number c.joins) (LinkAt home link to number) h tt;
+    deep = λ shape place h. come_each (λ b. IsShape b → Room (length (shape_in b).path)) (λ _. path_room g.shape.class g.shape.path c.up) (λ x. absurd x) (ShapeAt shape place) h tt;
     shapes_on = λ shape h. inr h;
     shapes_new = λ shape place h. come_each (λ b. IsShape b → Has grown.shapes (shape_in b)) (λ _. inl refl) (λ x. absurd x) (ShapeAt shape place) h tt;
     homes = come_each (HasHome (r.blocks ++ blocks_of g)) tt (before, there (ShapeAt before g.home) c.home);

@@ -313,6 +313,10 @@ starts ws what p lines_are sink_is fine some_slots some_words size o = record {
       (λ (first : (number ≡ 0) × (at ≡ first_root)). let n = first.0 in omega (arith, n, used))
       (λ (p : (home : ℕ) × (link : ℕ) × Has opening_blocks (LinkAt home link at number)). let n = only_link p.0 p.1 at number p.2 in omega (arith, n, used))
       nth;
+  deep = λ shape at h. ⊎_elim
+      (λ (x : (shape ≡ root_of globals_class) × (at ≡ first_root)). let n = ap (λ (y : Shape). length y.path) x.0 in omega (arith, n, used))
+      (λ (x : (shape ≡ globals_shape) × (at ≡ first_shared)). let n = ap (λ (y : Shape). length y.path) x.0 in omega (arith, n, used))
+      (first_shapes shape at h);
   homes = first_each (HasHome opening_blocks) tt tt tt tt tt (root_of globals_class, inr (inr (inr (inl refl))));
   known = λ j k b a kn. subst (λ (u : Holder). Has u.blocks b) (sym (only j k a).1) kn;
   lie = λ j k a _. subst (λ (u : Holder). Each (LiesIn u.blocks) u.view.known) (only j k a).1 ((ObjectAt globals 0, inl refl, refl, refl), tt);
@@ -385,6 +389,7 @@ starts ws what p lines_are sink_is fine some_slots some_words size o = record {
         })
         (no_lock tree_lock tree_lock)
         record {
+          narrow = (omega arith, tt);
           tag = o.root;
           leads = (o.rest 18 refl, o.rest 19 refl, o.rest 20 refl);
           count = o.rest 21 refl;
@@ -392,6 +397,7 @@ starts ws what p lines_are sink_is fine some_slots some_words size o = record {
           sibling = inl (o.rest 23 refl);
         }
         record {
+          narrow = (omega arith, (tt, tt));
           tag = o.shared;
           leads = (subst (λ x. Has opening_blocks (ShapeAt (root_of globals_class) x)) (sym o.parent) (inr (inr (inr (inl refl)))), o.edge, o.rest 27 refl);
           count = o.rest 28 refl;

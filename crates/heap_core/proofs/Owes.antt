@@ -40,9 +40,6 @@ module _ (plan : Plan) (s : State Slot Holder) (r : Kept plan s) (views' : List 
       → (j : ℕ) (u : Holder) → At views' j u → u.live ≡ true → HasTree u → (b : Block) → Has (r.blocks ++ []) b → IsOfTree b → Knows u b
   tree_in all j u a l has b h t = all j u a l has b (subst (λ bs. Has bs b) (append-nil r.blocks) h) t
 
-  pub few_in : (used : ℕ) → owned views' + get_or s.words used_word 0 ≤ owned s.views + used → (number at : ℕ) → IsNth (r.blocks ++ []) number at → shape_words * number + owned views' ≤ used
-  few_in used le number at nth = let old = r.few number at (subst (λ bs. IsNth bs number at) (append-nil r.blocks) nth) in omega (arith, old, le)
-
 module _ (plan : Plan) (s : State Slot Holder) (r : Kept plan s) (ws' : List ℕ) (hs' : Homes) (views' : List Holder) where
   -- What is owed where the words and the views are these afterwards.
   pub record Owes : Type 0 where
@@ -69,7 +66,10 @@ module _ (plan : Plan) (s : State Slot Holder) (r : Kept plan s) (ws' : List ℕ
     pub one : (id : Id) (b c : Block) → Has added b → Has (r.blocks ++ added) c → id_of b ≡ Some id → id_of c ≡ Some id → b ≡ c
     pub tree : (j : ℕ) (k : Holder) → At views' j k → k.live ≡ true → HasTree k → (b : Block) → Has (r.blocks ++ added) b → IsOfTree b → Knows k b
     pub linked : (shape : Shape) (at : ℕ) → Has added (ShapeAt shape at) → (number : ℕ) × IsNth (r.blocks ++ added) number at
-    pub few : (number at : ℕ) → IsNth (r.blocks ++ added) number at → shape_words * number + owned views' ≤ get_or ws' used_word 0
+    -- the words that nobody owns grow no fewer, and there is room for a row and a path that come
+    pub spare : owned views' + get_or s.words used_word 0 ≤ owned s.views + get_or ws' used_word 0
+    pub few : (home link to number : ℕ) → Has added (LinkAt home link to number) → shape_words * number + owned views' ≤ get_or ws' used_word 0
+    pub deep : (shape : Shape) (at : ℕ) → Has added (ShapeAt shape at) → shape_words * length shape.path + owned views' ≤ get_or ws' used_word 0
     pub one_shape : (shape : Shape) (at to : ℕ) → Has added (ShapeAt shape at) → Has (r.blocks ++ added) (ShapeAt shape to) → at ≡ to
     pub homes : (b : Block) → Has added b → HasHome (r.blocks ++ added) b
     pub known : (j : ℕ) (k : Holder) (b : Block) → At views' j k → Knows k b → Has (r.blocks ++ added) b
@@ -127,7 +127,17 @@ module _ (plan : Plan) (s : State Slot Holder) (r : Kept plan s) (ws' : List ℕ
         (λ (old : Has r.blocks (ShapeAt shape at)). let n = r.linked shape at old in (n.0, nth_among r.blocks (r.blocks ++ o.added) (λ c h. has_front r.blocks o.added c h) n.0 at n.1))
         (λ (new : Has o.added (ShapeAt shape at)). o.linked shape at new)
         (has_either r.blocks o.added (ShapeAt shape at) has);
-    few = o.few;
+    few = λ number at nth. ⊎_elim
+        (λ (first : (number ≡ 0) × (at ≡ first_root)). let old = r.few number at (inl first) in let spare = o.spare in omega (arith, old, spare))
+        (λ (p : (home : ℕ) × (link : ℕ) × Has (r.blocks ++ o.added) (LinkAt home link at number)). ⊎_elim
+        (λ (was : Has r.blocks (LinkAt p.0 p.1 at number)). let old = r.few number at (inr (p.0, p.1, was)) in let spare = o.spare in omega (arith, old, spare))
+        (λ (new : Has o.added (LinkAt p.0 p.1 at number)). o.few p.0 p.1 at number new)
+        (has_either r.blocks o.added (LinkAt p.0 p.1 at number) p.2))
+        nth;
+    deep = λ shape at has. ⊎_elim
+        (λ (was : Has r.blocks (ShapeAt shape at)). let old = r.deep shape at was in let spare = o.spare in omega (arith, old, spare))
+        (λ (new : Has o.added (ShapeAt shape at)). o.deep shape at new)
+        (has_either r.blocks o.added (ShapeAt shape at) has);
     homes = λ b has. ⊎_elim (λ (old : Has r.blocks b). home_on r.blocks o.added b (r.homes b old)) (λ (new : Has o.added b). o.homes b new) (has_either r.blocks o.added b has);
     known = o.known;
     lie = o.lie;

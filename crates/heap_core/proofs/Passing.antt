@@ -19,7 +19,7 @@ use Rattle.heap_core.specs.View.{words_in, Holder, Idle, Locked, Turned, Knows, 
 use Rattle.heap_core.specs.Moment.{At}
 use Rattle.heap_core.specs.Rule.{Claims, Apart, Seated, LiesIn, Kept, owned}
 use Rattle.heap_core.proofs.Holders.{at_within, each_two, each_both, apart_set, keeps_set, owned_set, owned_snoc}
-use Rattle.heap_core.proofs.Owes.{owes_kept, tree_in, few_in}
+use Rattle.heap_core.proofs.Owes.{owes_kept, tree_in}
 use Rattle.heap_core.proofs.Rooms.{laid_split, laid_join}
 use Rattle.heap_core.proofs.Seats.{lies_more}
 
@@ -103,7 +103,9 @@ module _ (plan : Plan) where
             tree = tree_in plan s r (set s.views id (maker k) ++ child_of (Some n) k ∷ []) (each_two (λ j u. u.live ≡ true → HasTree u → (c : Block) → Has r.blocks c → IsOfTree c → Knows u c) s.views id (maker k) (child_of (Some n) k)
                 (r.tree id k at) (λ _ has. absurd (idle_locked has)) (λ j u _ a. r.tree j u a));
             linked = λ shape place h. absurd h;
-            few = few_in plan s r (set s.views id (maker k) ++ child_of (Some n) k ∷ []) (get_or s.words used_word 0) (let more = owned_snoc (set s.views id (maker k)) (child_of (Some n) k) in let owns = owned_set s.views id k (maker k) at in omega (arith, more, owns));
+            spare = let more = owned_snoc (set s.views id (maker k)) (child_of (Some n) k) in let owns = owned_set s.views id k (maker k) at in omega (arith, more, owns);
+            few = λ home link to number h. absurd h;
+            deep = λ shape place h. absurd h;
             one_shape = λ shape place to h. absurd h;
             homes = λ b h. absurd h;
             known = λ j u b a. each_two (λ j u. Knows u b → Has (r.blocks ++ []) b) s.views id (maker k) (child_of (Some n) k) (λ kn. subst (λ bs. Has bs b) (sym same_blocks) (r.known id k b at kn)) (λ kn. subst (λ bs. Has bs b) (sym same_blocks) (r.known id k b at kn))
@@ -170,7 +172,9 @@ module _ (plan : Plan) where
         tree = tree_in plan s r (set (set s.views id (joined k u)) other spent_holder) (each_both (λ j x. x.live ≡ true → HasTree x → (c : Block) → Has r.blocks c → IsOfTree c → Knows x c) s.views id other (joined k u) spent_holder
             (λ _ has c h t. has_front k.blocks u.blocks c (r.tree id k at live has c h t)) (λ e. absurd (true≢false (sym e))) (λ j x _ _ a. r.tree j x a));
         linked = λ shape place h. absurd h;
-        few = few_in plan s r (set (set s.views id (joined k u)) other spent_holder) (get_or s.words used_word 0) (let one = owned_set s.views id k (joined k u) at in let two = owned_set (set s.views id (joined k u)) other u spent_holder there in let none_own = ap words_in rests.0 in omega (arith, one, two, none_own));
+        spare = let one = owned_set s.views id k (joined k u) at in let two = owned_set (set s.views id (joined k u)) other u spent_holder there in let none_own = ap words_in rests.0 in omega (arith, one, two, none_own);
+        few = λ home link to number h. absurd h;
+        deep = λ shape place h. absurd h;
         one_shape = λ shape place to h. absurd h;
         homes = λ b h. absurd h;
         known = λ j x b a. each_both (λ j x. Knows x b → Has (r.blocks ++ []) b) s.views id other (joined k u) spent_holder

@@ -28,7 +28,7 @@ use Rattle.heap_core.proofs.Doings.{busy_set, busy_else}
 use Rattle.heap_core.proofs.Frames.{lines_on}
 use Rattle.heap_core.proofs.Things.{over_same}
 use Rattle.heap_core.proofs.Holders.{each_set, apart_set, owned_set}
-use Rattle.heap_core.proofs.Owes.{whole, owes_kept, tree_in, few_in}
+use Rattle.heap_core.proofs.Owes.{whole, owes_kept, tree_in}
 use Rattle.heap_core.proofs.Rooms.{place_inside, laid_quiet}
 use Rattle.heap_core.proofs.Seats.{alone_at, seated_plain}
 use Rattle.heap_core.proofs.Steps.{is_home, tree_stays, change_to, used_same, family_same, stays_else, others_own, own_same, ahead_else}
@@ -150,7 +150,9 @@ module _ (plan : Plan) (s : State Slot Holder) (r : Kept plan s) (id : ℕ) (k :
         one = λ y c d n. absurd n;
         tree = tree_in plan s r (set s.views id k') (each_set (λ j u. u.live ≡ true → HasTree u → (c : Block) → Has r.blocks c → IsOfTree c → Knows u c) s.views id k' (λ _. tree_stays s r id k k' seat live (λ c q. q) (else_same tree_lock k refl)) (λ j u _ a. r.tree j u a));
         linked = λ shape place h. absurd h;
-        few = few_in plan s r (set s.views id k') (get_or (set s.words turn_word 0) used_word 0) (let owns = owned_set s.views id k k' seat in omega (arith, owns, used));
+        spare = let owns = owned_set s.views id k k' seat in omega (arith, owns, used);
+        few = λ home link to number h. absurd h;
+        deep = λ shape place h. absurd h;
         one_shape = λ shape place to n. absurd n;
         homes = λ c n. absurd n;
         known = λ j u d a. each_set (λ j u. Knows u d → Has (r.blocks ++ []) d) s.views id k' (λ kn. subst (λ bs. Has bs d) (sym same_blocks) (r.known id k d seat kn)) (λ j u _ a kn. subst (λ bs. Has bs d) (sym same_blocks) (r.known j u d a kn)) j u a;

@@ -27,7 +27,7 @@ use Rattle.heap_core.specs.Moment.{At}
 use Rattle.heap_core.specs.Turns.{Any}
 use Rattle.heap_core.specs.Rule.{Stands, LiesIn, Kept, Below}
 use Rattle.heap_core.proofs.Holders.{each_set, apart_set, keeps_set, owned_set}
-use Rattle.heap_core.proofs.Owes.{whole, owes_kept, tree_in, few_in}
+use Rattle.heap_core.proofs.Owes.{whole, owes_kept, tree_in}
 use Rattle.heap_core.proofs.Rooms.{laid_quiet}
 use Rattle.heap_core.proofs.Steps.{ahead_else, is_home, after, used_same, family_same, stays_else, others_own, own_same}
 use Rattle.heap_core.proofs.Tallies.{tally_read}
@@ -102,7 +102,9 @@ module _ (plan : Plan) (s : State Slot Holder) (r : Kept plan s) (id : ℕ) (k k
         one = λ y d f h. absurd h;
         tree = tree_in plan s r (set s.views id k') (each_set (λ j u. u.live ≡ true → HasTree u → (c : Block) → Has r.blocks c → IsOfTree c → Knows u c) s.views id k' (λ _. c.tree) (λ j u _ a. r.tree j u a));
         linked = λ shape place h. absurd h;
-        few = few_in plan s r (set s.views id k') (get_or (set s.words i n) used_word 0) (let owns = owned_set s.views id k k' at in let own = ap words_in c.own in let ahead = c.ahead in omega (arith, owns, own, ahead, used));
+        spare = let owns = owned_set s.views id k k' at in let own = ap words_in c.own in let ahead = c.ahead in omega (arith, owns, own, ahead, used);
+        few = λ home link to number h. absurd h;
+        deep = λ shape place h. absurd h;
         one_shape = λ shape place to h. absurd h;
         homes = λ b h. absurd h;
         known = λ j u d a. each_set (λ j u. Knows u d → Has (r.blocks ++ []) d) s.views id k' (λ kn. subst (λ bs. Has bs d) (sym same_blocks) (c.knows_in d kn)) (λ j u _ a kn. subst (λ bs. Has bs d) (sym same_blocks) (r.known j u d a kn)) j u a;

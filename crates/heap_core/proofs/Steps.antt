@@ -119,18 +119,6 @@ module _ (plan : Plan) (s : State Slot Holder) (r : Kept plan s) (hs' : Homes) (
       (λ _ has c h t. ⊎_elim (λ (was : Has r.blocks c). old has c was t) (λ (come : Has added c). new c come t) (has_either r.blocks added c h))
       (λ j u ne a l has c h t. ⊎_elim (λ (was : Has r.blocks c). r.tree j u a l has c was t) (λ (come : Has added c). absurd (nobody j u ne a l has c come t)) (has_either r.blocks added c h))
 
-  -- no row is longer than there is room for, where the pass owns no more than before
-  pub few_set : (added : List Block)
-      → ((number place : ℕ) → (home : ℕ) × (link : ℕ) × Has added (LinkAt home link place number) → shape_words * number + owned views' ≤ get_or ws' used_word 0)
-      → held k' ≤ held k → get_or ws' used_word 0 ≡ get_or s.words used_word 0
-      → (number place : ℕ) → IsNth (r.blocks ++ added) number place → shape_words * number + owned views' ≤ get_or ws' used_word 0
-  few_set added new less used number place (inl first) =
-      let old = r.few number place (inl first) in let owns = owned_set s.views id k k' at in omega (arith, old, owns, less, used)
-  few_set added new less used number place (inr p) = ⊎_elim
-      (λ (was : Has r.blocks (LinkAt p.0 p.1 place number)). let old = r.few number place (inr (p.0, p.1, was)) in let owns = owned_set s.views id k k' at in omega (arith, old, owns, less, used))
-      (λ (come : Has added (LinkAt p.0 p.1 place number)). new number place (p.0, p.1, come))
-      (has_either r.blocks added (LinkAt p.0 p.1 place number) p.2)
-
   -- a shape that is ahead in some view stays so, where the own ones are ahead or made
   pub ahead_else : (made : List Shape) → ((shape : Shape) → Has k.shapes shape → Has made shape ⊎ Has k'.shapes shape) → (shape : Shape) (j : ℕ) (u : Holder) → At s.views j u → u.live ≡ true → Has u.shapes shape → IsMade made views' shape
   ahead_else made own shape j u a l h = dite (ℕ_discrete j id)
@@ -142,6 +130,10 @@ module _ (plan : Plan) (s : State Slot Holder) (r : Kept plan s) (hs' : Homes) (
   ahead_new made shape m = ⊎_elim (λ (h : Has made shape). inl h) (λ (h : Has k'.shapes shape). inr (id, k', mine_there, alive, h)) m
 
   -- ---- a quiet step, and one that publishes ahead: no entry is made
+
+  -- there is room for so many shapes
+  abbrev pub HasRoom : ℕ → Type 0
+  HasRoom number = shape_words * number + owned s.views + held k' ≤ get_or s.words used_word 0 + held k
 
   -- What a step owes that makes no entry. It may publish own words.
   pub record Quiet (added : List Block) : Type 0 where
@@ -165,11 +157,12 @@ module _ (plan : Plan) (s : State Slot Holder) (r : Kept plan s) (hs' : Homes) (
     pub anew : (c : Block) → Has r.blocks c → home_of c ≡ home_of b → Stands (after r.run r.lines (r.blocks ++ added)) c
     pub new : (c : Block) → Has added c → Stands (after r.run r.lines (r.blocks ++ added)) c
     pub no_thing : (c : Block) → Has added c → id_of c ≡ None
-    -- The pass that has the lock of the tree knows the whole tree. None but that one adds to it, and what is linked is so from a row of this heap, for words of its own.
+    -- the pass that has the lock of the tree knows the whole tree, and none but that one adds to it
     pub tree : HasTree k' → (c : Block) → Has r.blocks c → IsOfTree c → Knows k' c
     pub grows : (c : Block) → Has added c → IsOfTree c → HasTree k × Knows k' c
     pub linked : (shape : Shape) (place : ℕ) → Has added (ShapeAt shape place) → (number : ℕ) × IsNth (r.blocks ++ added) number place
-    pub numbered : (home link to number : ℕ) → Has added (LinkAt home link to number) → (before : ℕ) × (from : ℕ) × IsNth r.blocks before from × (shape_words * number + held k' ≤ shape_words * before + held k)
+    pub few : (home link to number : ℕ) → Has added (LinkAt home link to number) → HasRoom number
+    pub deep : (shape : Shape) (place : ℕ) → Has added (ShapeAt shape place) → HasRoom (length shape.path)
     pub shapes_on : (shape : Shape) → Has k.shapes shape → Has k'.shapes shape
     pub shapes_new : (shape : Shape) (place : ℕ) → Has added (ShapeAt shape place) → Has k'.shapes shape
     pub homes : (c : Block) → Has added c → HasHome (r.blocks ++ added) c
@@ -214,7 +207,9 @@ module _ (plan : Plan) (s : State Slot Holder) (r : Kept plan s) (hs' : Homes) (
         one = λ y c d hc hd ic id. absurd (let none_is = q.no_thing c hc in let h : None ≡ Some y = sym none_is ∙ ic in cc);
         tree = tree_set added q.tree (λ c h t. (q.grows c h t).1) (λ j u ne a l has c h t. ne (sole_holder j id u k a at l live has (q.grows c h t).0));
         linked = q.linked;
-        few = few_set added (λ number place h. let w = q.numbered h.0 h.1 place number h.2 in let old = r.few w.0 w.1 w.2 in let owns = owned_set s.views id k k' at in let le = w.3 in omega (arith, old, owns, le, used)) (let c = q.counted in omega (arith, c)) used;
+        spare = let owns = owned_set s.views id k k' at in let c = q.counted in omega (arith, owns, c, used);
+        few = λ home link to number h. let owns = owned_set s.views id k k' at in let le = q.few home link to number h in omega (arith, owns, le, used);
+        deep = λ shape place h. let owns = owned_set s.views id k k' at in let le = q.deep shape place h in omega (arith, owns, le, used);
         one_shape = q.one_shape;
         homes = q.homes;
         known = λ j u c a. each_set (λ j u. Knows u c → Has (r.blocks ++ added) c) s.views id k' (q.knows_in c) (λ j u _ a kn. has_front r.blocks added c (r.known j u c a kn)) j u a;
@@ -369,7 +364,9 @@ module _ (plan : Plan) (s : State Slot Holder) (r : Kept plan s) (hs' : Homes) (
               (has_either r.blocks added f hf);
           tree = tree_set added c.tree (λ d h t. absurd (c.no_tree d h t)) (λ j u ne a l has d h t. c.no_tree d h t);
           linked = λ shape place h. absurd (c.no_tree (ShapeAt shape place) h tt);
-          few = few_set added (λ number place h. absurd (c.no_tree (LinkAt h.0 h.1 place number) h.2 tt)) (let none_ahead = c.ahead in omega (arith, none_ahead, count)) used;
+          spare = let owns = owned_set s.views id k k' at in let none_ahead = c.ahead in omega (arith, owns, none_ahead, count, used);
+          few = λ home link to number h. absurd (c.no_tree (LinkAt home link to number) h tt);
+          deep = λ shape place h. absurd (c.no_tree (ShapeAt shape place) h tt);
           one_shape = λ shape place to h. absurd (c.no_tree (ShapeAt shape place) h tt);
           homes = c.homes;
           known = λ j u d a. each_set (λ j u. Knows u d → Has (r.blocks ++ added) d) s.views id k' (c.knows_in d) (λ j u _ a kn. has_front r.blocks added d (r.known j u d a kn)) j u a;

@@ -29,7 +29,7 @@ use Rattle.heap_core.specs.Turns.{Any}
 use Rattle.heap_core.specs.Rule.{Below, LiesIn, Kept}
 use Rattle.heap_core.specs.Room.{Asking, refusing, AreUsed, Looks, Takes, OwnLoads, OwnStores}
 use Rattle.heap_core.proofs.Holders.{at_within, each_set, apart_set, keeps_set, owned_set}
-use Rattle.heap_core.proofs.Owes.{whole, owes_kept, tree_in, few_in}
+use Rattle.heap_core.proofs.Owes.{whole, owes_kept, tree_in}
 use Rattle.heap_core.proofs.Rooms.{laid_step}
 
 abbrev pair_in : Option (ℕ × ℕ) → ℕ × ℕ
@@ -174,7 +174,9 @@ module _ (plan : Plan) (s : State Slot Holder) (r : Kept plan s) (id : ℕ) (k k
         one = λ y b c h. absurd h;
         tree = tree_in plan s r (set s.views id k') (each_set (λ j u. u.live ≡ true → HasTree u → (c : Block) → Has r.blocks c → IsOfTree c → Knows u c) s.views id k' (λ _. λ has c h t. subst (λ bs. Has bs c) (sym o.blocks) (r.tree id k at live (ap (busy_at tree_lock) (sym o.doing) ∙ has) c h t)) (λ j u _ a. r.tree j u a));
         linked = λ shape place h. absurd h;
-        few = few_in plan s r (set s.views id k') (get_or ws' used_word 0) (let owns = owned_set s.views id k k' at in let counted = o.counted in let ahead = o.ahead in omega (arith, owns, counted, ahead));
+        spare = let owns = owned_set s.views id k k' at in let counted = o.counted in let ahead = o.ahead in omega (arith, owns, counted, ahead);
+        few = λ home link to number h. absurd h;
+        deep = λ shape place h. absurd h;
         one_shape = λ shape place to h. absurd h;
         homes = λ b h. absurd h;
         known = λ j u b a. each_set (λ j u. Knows u b → Has (r.blocks ++ []) b) s.views id k' (λ kn. subst (λ bs. Has bs b) (sym same_blocks) (r.known id k b at (subst (λ bs. Has bs b) o.blocks kn)))

@@ -6,7 +6,7 @@ use Rattle.shape_core.specs.Shape.{Shape}
 use Rattle.heap_core.specs.Places.{shape_words}
 use Rattle.heap_core.specs.Blocks.{Block, ShapeAt, LinkAt, IsOfTree}
 use Rattle.heap_core.specs.Fixed.{edge_of, places_before}
-use Rattle.heap_core.specs.Shapes.{flagged, first_child, next_sibling, parent_of}
+use Rattle.heap_core.specs.Shapes.{IsNarrow, flagged, first_child, next_sibling, parent_of}
 use Rattle.heap_core.specs.Links.{IsNth, IsTree}
 use Rattle.heap_core.specs.View.{Holder, HasTree, Knows, with_more, with_shape}
 
@@ -67,6 +67,7 @@ pub record MayGrow (k : Holder) (before : Shape) (parent : ℕ) (g : Growth) : T
   pub ends : (from to number : ℕ) → Knows k (LinkAt from g.link to number) → ⊥
   pub missing : (at : ℕ) → Knows k (ShapeAt g.shape at) → ⊥
   pub up : LeadsUp k.blocks (parent_of g.shape) parent
+  pub narrow : IsNarrow g.shape
   pub laid : k.own ≡ record { at = g.to; words = shape_block g.shape parent ++ g.left } ∷ []
 
 -- what comes, and the pass afterwards

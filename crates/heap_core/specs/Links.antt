@@ -1,10 +1,10 @@
 -- The rule of a link, and how links make a tree of all shapes: roots and the children of a shape stand in rows, each linked from the one before.
-use Rattle.std.specs.Prelude.{◌≡◌, ◌≢◌, ◌≤◌, ◌⊎◌, ℕ, zero, suc, ◌*◌, List, Some}
+use Rattle.std.specs.Prelude.{◌≡◌, ◌≢◌, ◌≤◌, ◌⊎◌, ℕ, zero, suc, ◌*◌, List, length, Some}
 use Rattle.rb_shared.specs.Lists.{Has}
 use Rattle.shape_core.specs.Shape.{Shape, root_of}
 use Rattle.heap_core.specs.Places.{first_root, shape_words}
 use Rattle.heap_core.specs.Blocks.{Block, ShapeAt, LinkAt}
-use Rattle.heap_core.specs.Shapes.{first_child, next_sibling, parent_of}
+use Rattle.heap_core.specs.Shapes.{IsNarrow, first_child, next_sibling, parent_of}
 use Rattle.heap_core.specs.Moment.{Moment, word}
 
 -- the shape at this place is the number-th of its row: the first root, or one to which a link leads
@@ -32,5 +32,7 @@ pub record IsTree (size : ℕ) (bs : List Block) : Type 0 where
   pub one_end : (home home' link to to' n n' : ℕ) → Has bs (LinkAt home link to n) → Has bs (LinkAt home' link to' n') → to ≡ to'
   pub one_shape : (shape : Shape) (at to : ℕ) → Has bs (ShapeAt shape at) → Has bs (ShapeAt shape to) → at ≡ to
   pub one_at : (shape other : Shape) (at : ℕ) → Has bs (ShapeAt shape at) → Has bs (ShapeAt other at) → shape ≡ other
-  -- a row is no longer than there is room for shapes
+  -- a row or path is no longer than there is room for shapes, and classes and names have 32 bits
   pub few : (number at : ℕ) → IsNth bs number at → shape_words * number ≤ size
+  pub deep : (shape : Shape) (at : ℕ) → Has bs (ShapeAt shape at) → shape_words * length shape.path ≤ size
+  pub narrow : (shape : Shape) (at : ℕ) → Has bs (ShapeAt shape at) → IsNarrow shape

@@ -1,6 +1,6 @@
 -- The rule of a shape: what never changes in it, and where its links lead.
-use Rattle.std.specs.Prelude.{◌≡◌, ◌⊎◌, ℕ, ◌+◌, Bool, true, false, List, [], ◌∷◌, Option, Some, None}
-use Rattle.rb_shared.specs.Lists.{Has}
+use Rattle.std.specs.Prelude.{◌≡◌, ◌<◌, ◌⊎◌, ℕ, ◌+◌, ◌^◌, Bool, true, false, List, [], ◌∷◌, Option, Some, None}
+use Rattle.rb_shared.specs.Lists.{Has, Each}
 use Rattle.shape_core.specs.declared.edge.Edge.{Edge}
 use Rattle.shape_core.specs.declared.edge.Edge.TheVariants.{Add, Widen, Share}
 use Rattle.shape_core.specs.declared.edge.Kind.TheVariants.{IntLoc, AnyLoc}
@@ -23,6 +23,15 @@ edge_word (Add name IntLoc) = tagged 1 name.0
 edge_word (Add name AnyLoc) = tagged 2 name.0
 edge_word (Widen name) = tagged 3 name.0
 edge_word Share = 4
+
+-- the class and each name have 32 bits
+abbrev pub IsNarrowEdge : Edge → Type 0
+IsNarrowEdge (Add name kind) = name.0 < 2 ^ 32
+IsNarrowEdge (Widen name) = name.0 < 2 ^ 32
+IsNarrowEdge Share = Unit {0}
+
+abbrev pub IsNarrow : Shape → Type 0
+IsNarrow shape = (shape.class < 2 ^ 32) × Each IsNarrowEdge shape.path
 
 -- parent, edge and place: none of a root; of another, the shape before the edge, and the first place that this has not
 abbrev pub Leads : Moment → ℕ → Path → ℕ → Type 0
@@ -51,6 +60,7 @@ parent_of shape = parent_on shape.class shape.path
 
 -- The rule of a shape.
 pub record ShapeStands (m : Moment) (shape : Shape) (at : ℕ) : Type 0 where
+  pub narrow : IsNarrow shape
   pub tag : word m at ≡ flagged shape.class (is_shared shape.path)
   pub leads : Leads m shape.class shape.path at
   pub count : word m (at + 4) ≡ places_of shape.path
