@@ -9,7 +9,7 @@ use Rattle.typed_location.specs.Laws.{HasOneWord, HasOneIntWord}
 use Rattle.typed_location.specs.declared.general_place.Any.{Any}
 use Rattle.typed_location.specs.declared.general_place.Any.TheVariants as any
 use Rattle.typed_location.specs.Word.{IsSmall, Fits as FitsWord, twos_complement, word_of}
-use Rattle.heap_core.specs.Blocks.{Block, ObjectAt, ChunkAt, MutexAt, ThreadAt, TextAt, BoxAt, ShapeAt, LockAt, TheTurn, place_of, size_of, id_of}
+use Rattle.heap_core.specs.Blocks.{Block, ObjectAt, ChunkAt, MutexAt, ThreadAt, TextAt, BoxAt, ShapeAt, LockAt, TheTurn, place_of, size_of, id_of, LinkAt}
 use Rattle.heap_core.specs.Fixed.{fixed_word}
 use Rattle.heap_core.specs.Passes.{FixedIs, Fits}
 use Rattle.heap_core.specs.Room.{OwnIs}
@@ -56,6 +56,7 @@ thing_words (BoxAt n at) id e = absurd (none_is id e)
 thing_words (ShapeAt shape at) id e = absurd (none_is id e)
 thing_words (LockAt at) id e = absurd (none_is id e)
 thing_words TheTurn id e = absurd (none_is id e)
+thing_words (LinkAt home link to number) id e = absurd (none_is id e)
 
 -- ---- the word that names a value
 

@@ -1,5 +1,5 @@
 -- The law at the close: all threads have ended, so nobody has the turn, and the history of the run is shown.
-use Rattle.std.proofs.Common.{◌≡◌, ℕ, true, List, [], ◌∷◌, ◌++◌, set, get_or, Some, refl, sym, ap, ◌∙◌, subst, inl, ⊎_elim, append-nil, arith}
+use Rattle.std.proofs.Common.{◌≡◌, ℕ, true, List, [], ◌∷◌, ◌++◌, length, set, get_or, Some, refl, sym, ap, ◌∙◌, subst, inl, ⊎_elim, append-nil, arith}
 use Rattle.std.proofs.lemmas.List.{get_or-set_same}
 use mathlib.Core.Option.{some, some-injective}
 use lib.ListN.{get_elem?}
@@ -13,7 +13,7 @@ use Rattle.rb_shared.specs.View.{known_logs}
 use Rattle.shared_run.specs.Closing.{ShowsRun, ShowsAll, SinkClosed}
 use Rattle.shared_run.proofs.Closing.{all_ended, open_hides, refusals_have, shows_all, sink_closed}
 use Rattle.heap_core.specs.Places.{turn_word, used_word}
-use Rattle.heap_core.specs.Handing.{Plan, Handed, Slot}
+use Rattle.heap_core.specs.Handing.{Plan, Handed, Slot, Homes}
 use Rattle.heap_core.specs.Blocks.{TheTurn}
 use Rattle.heap_core.specs.View.{Holder, maker, with_front}
 use Rattle.heap_core.specs.Moment.{At}
@@ -24,8 +24,8 @@ use Rattle.heap_core.proofs.Holders.{each_set}
 use Rattle.heap_core.proofs.Owes.{whole}
 use Rattle.heap_core.proofs.Rooms.{place_inside}
 use Rattle.heap_core.proofs.Seats.{alone_at, note_same}
-use Rattle.heap_core.proofs.Steps.{whole_part, quiet_step}
-use Rattle.heap_core.proofs.Turning.{object_not_turn, turn_fits}
+use Rattle.heap_core.proofs.Steps.{whole_part, tree_stays, quiet_step}
+use Rattle.heap_core.proofs.Turning.{turn_fits}
 
 shown_is : (g h : History) → Some g ≡ Some h → g ≡ h
 shown_is g h e = cc
@@ -61,7 +61,7 @@ module _ (plan : Plan) (s : State Slot Holder) (r : Kept plan s) (id : ℕ) (k :
         parted = λ x c d h. absurd h;
         doing = λ x far. refl;
         slot = λ off. refl;
-        anew = λ c hc is. subst (Stands (moment plan (whole (set s.words turn_word n) s.homes (set s.views id w)) r.run r.lines (r.blocks ++ []))) (sym (alone_at plan s r TheTurn r.turn object_not_turn c hc is)) (inl record {
+        anew = λ c hc is. subst (Stands (moment plan (whole (set s.words turn_word n) s.homes (set s.views id w)) r.run r.lines (r.blocks ++ []))) (sym (alone_at plan s r TheTurn r.turn tt (λ h. h) c hc is)) (inl record {
           word = get_or-set_same s.words turn_word n 0 (turn_fits plan s r id k seat live) ∙ f.word;
           what = f.what;
           home = f.home;
@@ -70,6 +70,11 @@ module _ (plan : Plan) (s : State Slot Holder) (r : Kept plan s) (id : ℕ) (k :
         });
         new = λ c h. absurd h;
         no_thing = λ c h. absurd h;
+        tree = tree_stays s r id k w seat live (λ c h. h) refl;
+        grows = λ c h. absurd h;
+        linked = λ shape place h. absurd h;
+        few = λ home link to number h. absurd h;
+        deep = λ shape place h. absurd h;
         shapes_on = λ shape h. h;
         shows = λ h e. (sym (shown_is history h e), all_over.1);
         shapes_new = λ shape place h. absurd h;
@@ -89,7 +94,7 @@ module _ (plan : Plan) (s : State Slot Holder) (r : Kept plan s) (id : ℕ) (k :
     where
       full : AreFull (Overflows k.size) history
       full q h used wanted words =
-          let below = refusals_have (Below (get_or s.words used_word 0) (Rattle.std.specs.Prelude.length s.words)) r.run r.refused q h used wanted words in
+          let below = refusals_have (Below (get_or s.words used_word 0) (length s.words)) r.run r.refused q h used wanted words in
           let over = below.1 in
           let size = r.laid.size id k seat live in
           omega (arith, over, size)
@@ -103,6 +108,12 @@ shows_history plan count id me live main over gathered s r size seat small = (
   front_kept plan s r id me.0 seat live main over gathered,
   (history plan s r id me.0 seat live main over gathered, refl, legal_now plan s r id me.0 seat live main over gathered),
 )
+
+-- there is one slot
+pub one_slot : (plan : Plan) (ws : List ℕ) (xs : List Slot) (id : ℕ) (k k0 : Holder) (h : History) → k ≡ maker (with_front k0 h) → Final (Seen (Kept plan) id k) ws xs → k0.live ≡ true → k0.view.thread ≡ 0 → k0.view.ended ≡ true → AllGathered (known_logs k0.view) → length xs ≡ 1
+one_slot plan ws xs id k k0 h same f live main over gathered =
+    let free = free_at_last plan f.0 f.1.0 id (maker (with_front k0 h)) (subst (At f.0.views id) same f.1.1) live main over gathered in
+    sym f.3 ∙ ap (λ (hs : Homes). length hs) free.home
 
 -- what the slot has at the close, of the seat from which the front was split
 pub closes_with : (plan : Plan) (ws : List ℕ) (xs : List Slot) (id : ℕ) (k k0 : Holder) (y : Slot) (h : History) (words : ℕ) → k ≡ maker (with_front k0 h) → Final (Seen (Kept plan) id k) ws xs → get_elem? xs 0 ≡ some y

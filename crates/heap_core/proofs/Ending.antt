@@ -19,7 +19,7 @@ use Rattle.shared_run.specs.Standing.{Fits}
 use Rattle.shared_run.specs.Run.{Run, IsThread, run_after}
 use Rattle.shared_run.proofs.Sinking.{stands_silent}
 use Rattle.heap_core.specs.declared.line.Line.{Line}
-use Rattle.heap_core.specs.Places.{turn_word}
+use Rattle.heap_core.specs.Places.{turn_word, tree_lock}
 use Rattle.heap_core.specs.Handing.{Plan, Handed, Slot, Homes, numbers}
 use Rattle.heap_core.specs.Blocks.{TheTurn, home_of}
 use Rattle.heap_core.specs.Ending.{IsPlainEnd, over_line, over_at, over_front, ended_by}
@@ -34,10 +34,10 @@ use Rattle.heap_core.proofs.Owes.{whole}
 use Rattle.heap_core.proofs.Printing.{else_same}
 use Rattle.heap_core.proofs.Rooms.{place_inside}
 use Rattle.heap_core.proofs.Seats.{alone_at, no_main, seated_plain}
-use Rattle.heap_core.proofs.Steps.{is_home, change_to}
+use Rattle.heap_core.proofs.Steps.{is_home, change_to, tree_stays}
 use Rattle.heap_core.proofs.Tallies.{tally_end}
 use Rattle.heap_core.proofs.Things.{over_now, over_other, thread_ends, thread_was, ungathered_ends}
-use Rattle.heap_core.proofs.Turning.{Had, had, turn_fits, object_not_turn}
+use Rattle.heap_core.proofs.Turning.{Had, had, turn_fits}
 
 -- ---- the table
 
@@ -169,7 +169,7 @@ module _ (plan : Plan) (s : State Slot Holder) (r : Kept plan s) (id : ℕ) (k :
         doing = λ x far. else_same x k far;
         off_turn = λ off. absurd (true≢false off);
         anew = λ c hc mine. subst (Stands (moment plan (whole (set s.words turn_word 0) homes' (set s.views id k')) run' r.lines (r.blocks ++ [])))
-            (sym (alone_at plan s r TheTurn r.turn object_not_turn c hc (eqb-true (home_of c) turn_word mine))) (inl record {
+            (sym (alone_at plan s r TheTurn r.turn tt (λ h. h) c hc (eqb-true (home_of c) turn_word mine))) (inl record {
               word = get_or-set_same s.words turn_word 0 0 (turn_fits plan s r id k seat live);
               what = g;
               home = ap (λ (hs : Homes). set hs 0 (some (Some g))) t.home;
@@ -183,11 +183,11 @@ module _ (plan : Plan) (s : State Slot Holder) (r : Kept plan s) (id : ℕ) (k :
             });
         new = λ c q. absurd q;
         homes = λ c q. absurd q;
+        no_tree = λ c q. absurd q;
+        tree = tree_stays s r id k k' seat live (λ c q. q) (else_same tree_lock k refl);
         shapes_on = λ shape q. inr q;
-        shapes_new = λ shape place q. absurd q;
         fresh = λ y c q. absurd q;
         one = λ y c d q. absurd q;
-        one_shape = λ shape place to q. absurd q;
       }
 
 -- ---- the step

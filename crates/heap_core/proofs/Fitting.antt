@@ -30,7 +30,7 @@ first_fits p room = record {
   size = refl;
   opening = omega (arith, room);
   own = λ o h. absurd h;
-  blocks = λ b h. first_each (λ b. place_of b + size_of b ≤ p.words) (omega (arith, room)) (omega (arith, room)) (omega (arith, room)) (omega (arith, room)) (omega (arith, room)) b h;
+  blocks = λ b h. first_each (λ b. place_of b + size_of b ≤ p.words) (omega (arith, room)) (omega (arith, room)) (omega (arith, room)) (omega (arith, room)) (omega (arith, room)) (omega (arith, room)) b h;
 }
 
 pub maker_fits : (k : Holder) (words : ℕ) → Fits k words → Fits (maker k) words

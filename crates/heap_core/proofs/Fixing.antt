@@ -6,7 +6,7 @@ use Rattle.atomic_table.specs.Table.{Me, Allows, keeps, step}
 use Rattle.atomic_table.proofs.Lists.{set_again}
 use Rattle.shape_core.specs.Path.{Path}
 use Rattle.heap_core.specs.Handing.{Plan, Slot}
-use Rattle.heap_core.specs.Blocks.{Block, ObjectAt, ChunkAt, MutexAt, ThreadAt, TextAt, BoxAt, ShapeAt, LockAt, TheTurn, place_of, Inside}
+use Rattle.heap_core.specs.Blocks.{Block, ObjectAt, ChunkAt, MutexAt, ThreadAt, TextAt, BoxAt, ShapeAt, LockAt, TheTurn, place_of, Inside, LinkAt}
 use Rattle.heap_core.specs.Fixed.{fixed_word, edge_of, places_before}
 use Rattle.heap_core.specs.Moment.{Moment, word}
 use Rattle.heap_core.specs.Passes.{FixedLoads, StillLoads}
@@ -57,6 +57,7 @@ fixed_is m (ShapeAt shape at) (suc (suc (suc (suc zero)))) o s = s.count
 fixed_is m (ShapeAt shape at) (suc (suc (suc (suc (suc i))))) o s = tt
 fixed_is m (LockAt at) i o s = tt
 fixed_is m TheTurn i o s = tt
+fixed_is m (LinkAt home link to number) i o s = tt
 
 pub fixed_loads : (plan : Plan) (count id i : ℕ) (me : Me Slot Holder) → Allows (Kept plan) count id me i (λ n. n) (FixedLoads (step count i 0 0 none) me)
 fixed_loads plan count id i me s r size at small = (

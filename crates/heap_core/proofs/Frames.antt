@@ -12,18 +12,19 @@ use Rattle.rb_shared.specs.Step.{ended_thing}
 use Rattle.shape_core.specs.declared.edge.Kind.{Kind}
 use Rattle.shape_core.specs.declared.edge.Kind.TheVariants.{IntLoc, AnyLoc}
 use Rattle.shape_core.specs.Path.{Path}
-use Rattle.shape_core.specs.Shape.{Shape, child_of}
+use Rattle.shape_core.specs.Shape.{Shape}
 use Rattle.shared_run.specs.Run.{Sunk, IsThread}
 use Rattle.heap_core.specs.Places.{turn_word}
 use Rattle.heap_core.specs.declared.line.Line.{Line}
 use Rattle.heap_core.specs.Handing.{Handed}
-use Rattle.heap_core.specs.Blocks.{Block, ObjectAt, ChunkAt, MutexAt, ThreadAt, TextAt, BoxAt, ShapeAt, LockAt, TheTurn, home_of, id_of, number_of, InFamily}
+use Rattle.heap_core.specs.Blocks.{Block, ObjectAt, ChunkAt, MutexAt, ThreadAt, TextAt, BoxAt, ShapeAt, LockAt, TheTurn, home_of, id_of, number_of, InFamily, LinkAt}
 use Rattle.heap_core.specs.Spelling.{Spells, SpellsAt}
 use Rattle.heap_core.specs.View.{Holder, Idle, Locked, busy_at}
 use Rattle.heap_core.specs.Moment.{Moment, At, word, thing_at, size_at, is_over, owner_in}
 use Rattle.heap_core.specs.Locks.{LockStands}
 use Rattle.heap_core.specs.Objects.{ObjectStands, FieldStands, LinksChunk, IsPlace, lock_of, shape_of, chunk_of}
-use Rattle.heap_core.specs.Shapes.{ShapeStands, Leads, LinksChild, LinksSibling}
+use Rattle.heap_core.specs.Shapes.{ShapeStands, Leads, IsLink}
+use Rattle.heap_core.specs.Links.{IsNth, Joins}
 use Rattle.heap_core.specs.Mutexes.{MutexStands, owner_of}
 use Rattle.heap_core.specs.Threads.{EndIs, TellsEnd, ThreadStands, state_of, result_of}
 use Rattle.heap_core.specs.Turns.{Sinks, LinesTell, IsHanded, HasTurn, HasNone, TurnStands}
@@ -110,6 +111,21 @@ same_count zero (suc b) up down = absurd (let bad = down b (omega arith) in omeg
 same_count (suc a) zero up down = absurd (let bad = up a (omega arith) in omega (arith, bad))
 same_count (suc a) (suc b) up down = let hi = up a (omega arith) in let lo = down b (omega arith) in omega (arith, hi, lo)
 
+-- ---- links
+
+pub nth_among : (bs cs : List Block) → Among bs cs → (number at : ℕ) → IsNth bs number at → IsNth cs number at
+nth_among bs cs all number at (inl p) = inl p
+nth_among bs cs all number at (inr p) = inr (p.0, p.1, all (LinkAt p.0 p.1 at number) p.2)
+
+pub joins_among : (bs cs : List Block) → Among bs cs → (home link to number : ℕ) → Joins bs home link to number → Joins cs home link to number
+joins_among bs cs all home link to zero j = let q = j.1 in (j.0, (q.0, q.1, all (ShapeAt q.0 home) q.2, all (ShapeAt q.1 to) q.3, q.4))
+joins_among bs cs all home link to (suc n) j = let q = j.2 in (j.0, nth_among bs cs all n home j.1, (q.0, q.1, all (ShapeAt q.0 home) q.2, all (ShapeAt q.1 to) q.3, q.4))
+
+-- the link word is one of the shape at its home
+pub joins_home : (bs : List Block) (home link to number : ℕ) → Joins bs home link to number → (shape : Shape) × Has bs (ShapeAt shape home) × (home ≤ link) × (link < home + 7)
+joins_home bs home link to zero j = let e = j.0 in (j.1.0, j.1.2, omega (arith, e), omega (arith, e))
+joins_home bs home link to (suc n) j = let e = j.0 in (j.2.0, j.2.2, omega (arith, e), omega (arith, e))
+
 -- ---- each kind
 
 module _ (m m' : Moment) where
@@ -130,13 +146,9 @@ module _ (m m' : Moment) where
   links_chunk all at number w w' same (inl e) = inl (same ∙ e)
   links_chunk all at number w w' same (inr h) = inr (subst (λ (x : ℕ). Has m'.blocks (ChunkAt at number x)) (sym same) (all (ChunkAt at number w) h))
 
-  links_child : Among m.blocks m'.blocks → (shape : Shape) (w w' : ℕ) → w' ≡ w → LinksChild m.blocks shape w → LinksChild m'.blocks shape w'
-  links_child all shape w w' same (inl e) = inl (same ∙ e)
-  links_child all shape w w' same (inr p) = inr (p.0, subst (λ (x : ℕ). Has m'.blocks (ShapeAt (child_of shape p.0) x)) (sym same) (all (ShapeAt (child_of shape p.0) w) p.1))
-
-  links_sibling : Among m.blocks m'.blocks → (shape : Shape) (w w' : ℕ) → w' ≡ w → LinksSibling m.blocks shape w → LinksSibling m'.blocks shape w'
-  links_sibling all shape w w' same (inl e) = inl (same ∙ e)
-  links_sibling all shape w w' same (inr p) = inr (p.0, p.1, subst (λ (x : ℕ). Has m'.blocks (ShapeAt p.0 x)) (sym same) (all (ShapeAt p.0 w) p.2))
+  pub is_link_on : Among m.blocks m'.blocks → (home link w w' : ℕ) → w' ≡ w → IsLink m.blocks home link w → IsLink m'.blocks home link w'
+  is_link_on all home link w w' same (inl e) = inl (same ∙ e)
+  is_link_on all home link w w' same (inr p) = inr (p.0, subst (λ (x : ℕ). Has m'.blocks (LinkAt home link x p.0)) (sym same) (all (LinkAt home link w p.0) p.1))
 
   -- an object
   module _ (id : Id) (at : ℕ) (here : Has m.blocks (ObjectAt id at)) (l : Leaves m m' (ObjectAt id at)) where
@@ -198,11 +210,12 @@ module _ (m m' : Moment) where
 
     pub shape_frame : ShapeStands m shape at → ShapeStands m' shape at
     shape_frame s = record {
+      narrow = s.narrow;
       tag = shape_word at (omega arith) (omega arith) ∙ s.tag;
       leads = leads_on shape.class shape.path s.leads;
       count = shape_word (at + 4) (omega arith) (omega arith) ∙ s.count;
-      child = links_child l.blocks shape (word m (at + 5)) (word m' (at + 5)) (shape_word (at + 5) (omega arith) (omega arith)) s.child;
-      sibling = links_sibling l.blocks shape (word m (at + 6)) (word m' (at + 6)) (shape_word (at + 6) (omega arith) (omega arith)) s.sibling;
+      child = is_link_on l.blocks at (at + 5) (word m (at + 5)) (word m' (at + 5)) (shape_word (at + 5) (omega arith) (omega arith)) s.child;
+      sibling = is_link_on l.blocks at (at + 6) (word m (at + 6)) (word m' (at + 6)) (shape_word (at + 6) (omega arith) (omega arith)) s.sibling;
     }
 
   -- a mutex
@@ -347,3 +360,9 @@ module _ (m m' : Moment) where
   stands_frame (ShapeAt shape at) here l s = shape_frame shape at here l s
   stands_frame (LockAt at) here l s = lock_frame at at (l.words at (LockAt at, here, refl, (omega arith, omega arith))) l.stays s
   stands_frame TheTurn here l s = turn_frame here l s
+  stands_frame (LinkAt home link to number) here l s =
+      let at = joins_home m.blocks home link to number s.2 in (
+        l.words link (ShapeAt at.0 home, at.1, refl, (at.2, at.3)) ∙ s.0,
+        s.1,
+        joins_among m.blocks m'.blocks l.blocks home link to number s.2,
+      )

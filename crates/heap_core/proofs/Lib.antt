@@ -13,7 +13,9 @@ pub mod Passing
 pub mod Fitting
 pub mod Fixing
 pub mod Doings
+pub mod Learning
 pub mod Locking
+pub mod Growing
 pub mod Turning
 pub mod Printing
 pub mod Owning

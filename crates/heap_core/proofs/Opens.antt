@@ -7,6 +7,7 @@ use Rattle.atomic_table.specs.Table.{opening}
 use Rattle.rb_model.specs.declared.value.Id.{Id}
 use Rattle.rb_shared.specs.Lists.{Has, Each}
 use Rattle.rb_shared.specs.Store.{globals}
+use Rattle.rb_shared.proofs.Runs.{each_has}
 use Rattle.shape_core.specs.declared.edge.Edge.TheVariants.{Share}
 use Rattle.shape_core.specs.Shape.{Shape, root_of}
 use Rattle.shared_run.specs.Run as runs
@@ -15,7 +16,7 @@ use Rattle.shared_run.proofs.Sinking.{first_stands as sink_stands}
 use Rattle.heap_core.specs.Places.{opening_words, used_word, turn_word, first_root, first_shared, tree_lock, shape_words}
 use Rattle.heap_core.specs.declared.line.Line.{Line}
 use Rattle.heap_core.specs.Handing.{Plan, Handed, Slot, numbers}
-use Rattle.heap_core.specs.Blocks.{Block, ObjectAt, ShapeAt, LockAt, TheTurn, place_of, size_of, id_of, HasHome, Inside}
+use Rattle.heap_core.specs.Blocks.{Block, ObjectAt, ShapeAt, LockAt, TheTurn, LinkAt, place_of, size_of, id_of, HasHome, Inside}
 use Rattle.heap_core.specs.Charges.{globals_shape}
 use Rattle.heap_core.specs.View.{Region, Holder, Idle, Locked, InOwn, opening_blocks, first_holder, busy_at}
 use Rattle.heap_core.specs.Moment.{Moment, At}
@@ -151,36 +152,41 @@ opened_words n fit =
 
 -- ---- the blocks
 
-pub first_each : (P : Block → Type 0) → P (ObjectAt globals 0) → P TheTurn → P (LockAt tree_lock) → P (ShapeAt (root_of globals_class) first_root) → P (ShapeAt globals_shape first_shared) → (b : Block) → Has opening_blocks b → P b
-first_each P object turn lock root shared b (inl e) = subst P (sym e) object
-first_each P object turn lock root shared b (inr (inl e)) = subst P (sym e) turn
-first_each P object turn lock root shared b (inr (inr (inl e))) = subst P (sym e) lock
-first_each P object turn lock root shared b (inr (inr (inr (inl e)))) = subst P (sym e) root
-first_each P object turn lock root shared b (inr (inr (inr (inr (inl e))))) = subst P (sym e) shared
-first_each P object turn lock root shared b (inr (inr (inr (inr (inr h))))) = absurd h
+pub first_each : (P : Block → Type 0) → P (ObjectAt globals 0) → P TheTurn → P (LockAt tree_lock) → P (ShapeAt (root_of globals_class) first_root) → P (ShapeAt globals_shape first_shared) → P (LinkAt first_root (first_root + 5) first_shared 0)
+    → (b : Block) → Has opening_blocks b → P b
+first_each P object turn lock root shared link b (inl e) = subst P (sym e) object
+first_each P object turn lock root shared link b (inr (inl e)) = subst P (sym e) turn
+first_each P object turn lock root shared link b (inr (inr (inl e))) = subst P (sym e) lock
+first_each P object turn lock root shared link b (inr (inr (inr (inl e)))) = subst P (sym e) root
+first_each P object turn lock root shared link b (inr (inr (inr (inr (inl e))))) = subst P (sym e) shared
+first_each P object turn lock root shared link b (inr (inr (inr (inr (inr (inl e)))))) = subst P (sym e) link
+first_each P object turn lock root shared link b (inr (inr (inr (inr (inr (inr h)))))) = absurd h
 
 -- blocks that follow one another share no word
 abbrev Ordered : List Block → Type 0
 Ordered [] = Unit {0}
-Ordered (b ∷ bs) = Each (λ c. place_of b + size_of b ≤ place_of c) bs × Ordered bs
+Ordered (b ∷ bs) = Each (λ c. (place_of b + size_of b ≤ place_of c) ⊎ (size_of c ≡ 0)) bs × Ordered bs
 
 ordered_apart : (bs : List Block) → Ordered bs → (i : ℕ) (b c : Block) → Has bs b → Has bs c → Inside i b → Inside i c → b ≡ c
 ordered_apart [] o i b c h g ib ic = absurd h
 ordered_apart (x ∷ xs) o i b c (inl p) (inl q) ib ic = p ∙ sym q
 ordered_apart (x ∷ xs) o i b c (inl p) (inr q) ib ic =
-    let behind = Rattle.rb_shared.proofs.Runs.each_has (λ c. place_of x + size_of x ≤ place_of c) xs c o.0 q in
-    let hi = ib.1 in let lo = ic.0 in let pp = ap place_of p in let ps = ap size_of p in absurd (omega (arith, behind, hi, lo, pp, ps))
+    let hi = ib.1 in let lo = ic.0 in let far = ic.1 in let pp = ap place_of p in let ps = ap size_of p in
+    absurd (⊎_elim (λ (behind : place_of x + size_of x ≤ place_of c). omega (arith, behind, hi, lo, pp, ps)) (λ (none : size_of c ≡ 0). omega (arith, none, lo, far)) (each_has (λ c. (place_of x + size_of x ≤ place_of c) ⊎ (size_of c ≡ 0)) xs c o.0 q))
 ordered_apart (x ∷ xs) o i b c (inr p) (inl q) ib ic =
-    let behind = Rattle.rb_shared.proofs.Runs.each_has (λ c. place_of x + size_of x ≤ place_of c) xs b o.0 p in
-    let hi = ic.1 in let lo = ib.0 in let pp = ap place_of q in let ps = ap size_of q in absurd (omega (arith, behind, hi, lo, pp, ps))
+    let hi = ic.1 in let lo = ib.0 in let far = ib.1 in let pp = ap place_of q in let ps = ap size_of q in
+    absurd (⊎_elim (λ (behind : place_of x + size_of x ≤ place_of b). omega (arith, behind, hi, lo, pp, ps)) (λ (none : size_of b ≡ 0). omega (arith, none, lo, far)) (each_has (λ c. (place_of x + size_of x ≤ place_of c) ⊎ (size_of c ≡ 0)) xs b o.0 p))
 ordered_apart (x ∷ xs) o i b c (inr p) (inr q) ib ic = ordered_apart xs o.1 i b c p q ib ic
 
 first_ordered : Ordered opening_blocks
-first_ordered = ((omega arith, (omega arith, (omega arith, (omega arith, tt)))), ((omega arith, (omega arith, (omega arith, tt))), ((omega arith, (omega arith, tt)), ((omega arith, tt), (tt, tt)))))
+first_ordered = (
+  (inl (omega arith), (inl (omega arith), (inl (omega arith), (inl (omega arith), (inr refl, tt))))),
+  ((inl (omega arith), (inl (omega arith), (inl (omega arith), (inr refl, tt)))), ((inl (omega arith), (inl (omega arith), (inr refl, tt))), ((inl (omega arith), (inr refl, tt)), ((inr refl, tt), (tt, tt))))),
+)
 
 -- one of them is a thing
 only_object : (b : Block) → Has opening_blocks b → (id : Id) → id_of b ≡ Some id → b ≡ ObjectAt globals 0
-only_object b h id is = first_each (λ b. id_of b ≡ Some id → b ≡ ObjectAt globals 0) (λ _. refl) (λ e. absurd (gone e)) (λ e. absurd (gone e)) (λ e. absurd (gone e)) (λ e. absurd (gone e)) b h is
+only_object b h id is = first_each (λ b. id_of b ≡ Some id → b ≡ ObjectAt globals 0) (λ _. refl) (λ e. absurd (gone e)) (λ e. absurd (gone e)) (λ e. absurd (gone e)) (λ e. absurd (gone e)) (λ e. absurd (gone e)) b h is
   where
     gone : ◌≡◌ {A = Option Id} None (Some id) → ⊥
     gone e = cc
@@ -196,7 +202,19 @@ first_shapes shape at (inr (inl e)) = absurd (cc)
 first_shapes shape at (inr (inr (inl e))) = absurd (cc)
 first_shapes shape at (inr (inr (inr (inl e)))) = inl (ap shape_in e, ap place_of e)
 first_shapes shape at (inr (inr (inr (inr (inl e))))) = inr (ap shape_in e, ap place_of e)
-first_shapes shape at (inr (inr (inr (inr (inr h))))) = absurd h
+first_shapes shape at (inr (inr (inr (inr (inr (inl e)))))) = absurd (cc)
+first_shapes shape at (inr (inr (inr (inr (inr (inr h)))))) = absurd h
+
+-- the one link is that to the first child of the first root
+first_link : Has opening_blocks (LinkAt first_root (first_root + 5) first_shared 0)
+first_link = inr (inr (inr (inr (inr (inl refl)))))
+
+abbrev number_in : Block → ℕ
+number_in (LinkAt home link to number) = number
+number_in b = 0
+
+only_link : (home link to number : ℕ) → Has opening_blocks (LinkAt home link to number) → number ≡ 0
+only_link home link to number h = first_each (λ b. number_in b ≡ 0) refl refl refl refl refl refl (LinkAt home link to number) h
 
 two_shapes : (shape : Shape) → shape ≡ root_of globals_class → shape ≡ globals_shape → ⊥
 two_shapes shape p q = let h : [] ≡ Share ∷ [] = ap (λ (x : Shape). x.path) (sym p ∙ q) in cc
@@ -270,7 +288,8 @@ starts ws what p lines_are sink_is none_started fine some_slots some_words size 
     alone = λ i j l k u a b own _. absurd (nobody i j k a own);
     blocks_in = λ b h. first_each (λ b. (place_of b + size_of b ≤ get_or ws used_word 0) × (Inside used_word b → ⊥))
         (omega (arith, used), λ i. let hi = i.1 in omega (arith, hi)) (omega (arith, used), λ i. let lo = i.0 in omega (arith, lo)) (omega (arith, used), λ i. let lo = i.0 in omega (arith, lo))
-        (omega (arith, used), λ i. let lo = i.0 in omega (arith, lo)) (omega (arith, used), λ i. let lo = i.0 in omega (arith, lo)) b h;
+        (omega (arith, used), λ i. let lo = i.0 in omega (arith, lo)) (omega (arith, used), λ i. let lo = i.0 in omega (arith, lo))
+        (omega (arith, used), λ i. let lo = i.0 in let hi = i.1 in omega (arith, lo, hi)) b h;
     single = λ i j k o p a h. absurd (empty j k o a h);
     own_in = λ j k o a h. absurd (empty j k o a h);
     opening_in = omega (arith, used);
@@ -290,7 +309,22 @@ starts ws what p lines_are sink_is none_started fine some_slots some_words size 
       (first_shapes shape to ht))
       (first_shapes shape at ha);
   turn = inr (inl refl);
-  homes = first_each (HasHome opening_blocks) tt tt tt tt tt;
+  lock = inr (inr (inl refl));
+  tree = λ j k a _ _ b h _. subst (λ (u : Holder). Has u.blocks b) (only j k a).1 h;
+  root = inr (inr (inr (inl refl)));
+  linked = λ shape at h. ⊎_elim
+      (λ (x : (shape ≡ root_of globals_class) × (at ≡ first_root)). (0, inl (refl, x.1)))
+      (λ (x : (shape ≡ globals_shape) × (at ≡ first_shared)). (0, inr (first_root, first_root + 5, subst (λ to. Has opening_blocks (LinkAt first_root (first_root + 5) to 0)) (sym x.1) first_link)))
+      (first_shapes shape at h);
+  few = λ number at nth. ⊎_elim
+      (λ (first : (number ≡ 0) × (at ≡ first_root)). let n = first.0 in omega (arith, n, used))
+      (λ (p : (home : ℕ) × (link : ℕ) × Has opening_blocks (LinkAt home link at number)). let n = only_link p.0 p.1 at number p.2 in omega (arith, n, used))
+      nth;
+  deep = λ shape at h. ⊎_elim
+      (λ (x : (shape ≡ root_of globals_class) × (at ≡ first_root)). let n = ap (λ (y : Shape). length y.path) x.0 in omega (arith, n, used))
+      (λ (x : (shape ≡ globals_shape) × (at ≡ first_shared)). let n = ap (λ (y : Shape). length y.path) x.0 in omega (arith, n, used))
+      (first_shapes shape at h);
+  homes = first_each (HasHome opening_blocks) tt tt tt tt tt (root_of globals_class, inr (inr (inr (inl refl))));
   known = λ j k b a kn. subst (λ (u : Holder). Has u.blocks b) (sym (only j k a).1) kn;
   lie = λ j k a _. subst (λ (u : Holder). Each (LiesIn u.blocks) u.view.known) (only j k a).1 ((ObjectAt globals 0, inl refl, refl, refl), tt);
   own = λ i j k o a h. absurd (empty j k o a h);
@@ -364,19 +398,22 @@ starts ws what p lines_are sink_is none_started fine some_slots some_words size 
         })
         (no_lock tree_lock tree_lock)
         record {
+          narrow = (omega arith, tt);
           tag = o.root;
           leads = (o.rest 18 refl, o.rest 19 refl, o.rest 20 refl);
           count = o.rest 21 refl;
-          child = inr (Share, subst (λ x. Has opening_blocks (ShapeAt globals_shape x)) (sym o.child) (inr (inr (inr (inr (inl refl))))));
+          child = inr (0, subst (λ x. Has opening_blocks (LinkAt first_root (first_root + 5) x 0)) (sym o.child) first_link);
           sibling = inl (o.rest 23 refl);
         }
         record {
+          narrow = (omega arith, (tt, tt));
           tag = o.shared;
           leads = (subst (λ x. Has opening_blocks (ShapeAt (root_of globals_class) x)) (sym o.parent) (inr (inr (inr (inl refl)))), o.edge, o.rest 27 refl);
           count = o.rest 28 refl;
           child = inl (o.rest 29 refl);
           sibling = inl (o.rest 30 refl);
         }
+        (o.child, (λ e. omega (arith, e)), (refl, (root_of globals_class, globals_shape, inr (inr (inr (inl refl))), inr (inr (inr (inr (inl refl)))), refl)))
         b h
 
 -- the same over a row of slots

@@ -1,23 +1,24 @@
 -- What a step owes to the law. The law is kept where the rule of each block that the step touches is shown anew, and every other block is left.
-use Rattle.std.proofs.Common.{◌≡◌, ◌≤◌, ◌<◌, ◌⊎◌, ℕ, ◌+◌, ◌*◌, Bool, true, false, List, ◌++◌, length, get_or, Option, Some, refl, sym, ap, ◌∙◌, inl, inr, ⊎_elim}
+use Rattle.std.proofs.Common.{◌≡◌, ◌≤◌, ◌<◌, ◌⊎◌, ℕ, ◌+◌, ◌*◌, Bool, true, false, List, ◌++◌, length, get_or, Option, Some, refl, sym, ap, ◌∙◌, inl, inr, ⊎_elim, [], subst, arith, append-nil}
 use Rattle.atomic_table.specs.Table.{State}
 use Rattle.rb_model.specs.declared.value.Id.{Id}
 use Rattle.rb_shared.specs.History.{History}
 use Rattle.rb_shared.specs.Lists.{Has, Each}
 use Rattle.rb_shared.proofs.Runs.{has_front}
-use Rattle.shape_core.specs.Shape.{Shape}
+use Rattle.shape_core.specs.Shape.{Shape, root_of}
 use Rattle.shared_run.specs.Closing.{ShowsRun}
 use Rattle.shared_run.specs.Run.{Run, IsRun, IsThread, MayStill, refused_at}
 use Rattle.shared_run.specs.Run as runs
 use Rattle.shared_run.proofs.Events.{has_either}
-use Rattle.heap_core.specs.Places.{opening_words, used_word, turn_word, shape_words, thread_words}
+use Rattle.heap_core.specs.Places.{opening_words, used_word, turn_word, shape_words, thread_words, tree_lock, first_root}
 use Rattle.heap_core.specs.Handing.{Plan, Slot, Homes}
-use Rattle.heap_core.specs.Blocks.{Block, ObjectAt, ChunkAt, MutexAt, ThreadAt, TextAt, BoxAt, ShapeAt, LockAt, TheTurn, home_of, id_of, HasHome, InFamily, words_of_shapes}
+use Rattle.heap_core.specs.Blocks.{Block, ObjectAt, ChunkAt, MutexAt, ThreadAt, TextAt, BoxAt, ShapeAt, LockAt, TheTurn, home_of, id_of, HasHome, InFamily, words_of_shapes, LinkAt, IsOfTree}
 use Rattle.heap_core.specs.Charges.{budget, tally_of}
-use Rattle.heap_core.specs.View.{Region, Holder, Knows, held}
+use Rattle.heap_core.specs.Links.{IsNth}
+use Rattle.heap_core.specs.View.{Region, Holder, Knows, HasTree, held}
 use Rattle.heap_core.specs.Moment.{Moment, At, size_at}
 use Rattle.heap_core.specs.Rule.{IsMade, Stands, Apart, Seated, Laid, owned, Below, LiesIn, Kept, moment}
-use Rattle.heap_core.proofs.Frames.{Follows, Stays, TurnStays, Leaves, stands_frame}
+use Rattle.heap_core.proofs.Frames.{Follows, Stays, TurnStays, Leaves, nth_among, stands_frame}
 
 -- a part keeps its home where blocks come
 pub home_on : (bs cs : List Block) (b : Block) → HasHome bs b → HasHome (bs ++ cs) b
@@ -30,9 +31,17 @@ home_on bs cs (BoxAt n at) h = tt
 home_on bs cs (ShapeAt shape at) h = tt
 home_on bs cs (LockAt at) h = tt
 home_on bs cs TheTurn h = tt
+home_on bs cs (LinkAt home link to number) h = (h.0, has_front bs cs (ShapeAt h.0 home) h.1)
 
 abbrev pub whole : List ℕ → Homes → List Holder → State Slot Holder
 whole ws hs vs = record { words = ws; homes = hs; views = vs }
+
+-- ---- what is owed of the tree of shapes where no block comes
+
+module _ (plan : Plan) (s : State Slot Holder) (r : Kept plan s) (views' : List Holder) where
+  pub tree_in : ((j : ℕ) (u : Holder) → At views' j u → u.live ≡ true → HasTree u → (b : Block) → Has r.blocks b → IsOfTree b → Knows u b)
+      → (j : ℕ) (u : Holder) → At views' j u → u.live ≡ true → HasTree u → (b : Block) → Has (r.blocks ++ []) b → IsOfTree b → Knows u b
+  tree_in all j u a l has b h t = all j u a l has b (subst (λ bs. Has bs b) (append-nil r.blocks) h) t
 
 module _ (plan : Plan) (s : State Slot Holder) (r : Kept plan s) (ws' : List ℕ) (hs' : Homes) (views' : List Holder) where
   -- What is owed where the words and the views are these afterwards.
@@ -58,6 +67,12 @@ module _ (plan : Plan) (s : State Slot Holder) (r : Kept plan s) (ws' : List ℕ
     pub anew : (b : Block) → Has r.blocks b → mine (home_of b) ≡ true → Stands (moment plan (whole ws' hs' views') run lines (r.blocks ++ added)) b
     pub new : (b : Block) → Has added b → Stands (moment plan (whole ws' hs' views') run lines (r.blocks ++ added)) b
     pub one : (id : Id) (b c : Block) → Has added b → Has (r.blocks ++ added) c → id_of b ≡ Some id → id_of c ≡ Some id → b ≡ c
+    pub tree : (j : ℕ) (k : Holder) → At views' j k → k.live ≡ true → HasTree k → (b : Block) → Has (r.blocks ++ added) b → IsOfTree b → Knows k b
+    pub linked : (shape : Shape) (at : ℕ) → Has added (ShapeAt shape at) → (number : ℕ) × IsNth (r.blocks ++ added) number at
+    -- the words that nobody owns grow no fewer, and there is room for a row and a path that come
+    pub spare : owned views' + get_or s.words used_word 0 ≤ owned s.views + get_or ws' used_word 0
+    pub few : (home link to number : ℕ) → Has added (LinkAt home link to number) → shape_words * number + owned views' ≤ get_or ws' used_word 0
+    pub deep : (shape : Shape) (at : ℕ) → Has added (ShapeAt shape at) → shape_words * length shape.path + owned views' ≤ get_or ws' used_word 0
     pub one_shape : (shape : Shape) (at to : ℕ) → Has added (ShapeAt shape at) → Has (r.blocks ++ added) (ShapeAt shape to) → at ≡ to
     pub homes : (b : Block) → Has added b → HasHome (r.blocks ++ added) b
     pub known : (j : ℕ) (k : Holder) (b : Block) → At views' j k → Knows k b → Has (r.blocks ++ added) b
@@ -111,6 +126,24 @@ module _ (plan : Plan) (s : State Slot Holder) (r : Kept plan s) (ws' : List ℕ
         (λ (new : Has o.added (ShapeAt shape at)). o.one_shape shape at to new ht)
         (has_either r.blocks o.added (ShapeAt shape at) ha);
     turn = has_front r.blocks o.added TheTurn r.turn;
+    lock = has_front r.blocks o.added (LockAt tree_lock) r.lock;
+    tree = o.tree;
+    root = has_front r.blocks o.added (ShapeAt (root_of 4294967295) first_root) r.root;
+    linked = λ shape at has. ⊎_elim
+        (λ (old : Has r.blocks (ShapeAt shape at)). let n = r.linked shape at old in (n.0, nth_among r.blocks (r.blocks ++ o.added) (λ c h. has_front r.blocks o.added c h) n.0 at n.1))
+        (λ (new : Has o.added (ShapeAt shape at)). o.linked shape at new)
+        (has_either r.blocks o.added (ShapeAt shape at) has);
+    few = λ number at nth. ⊎_elim
+        (λ (first : (number ≡ 0) × (at ≡ first_root)). let old = r.few number at (inl first) in let spare = o.spare in omega (arith, old, spare))
+        (λ (p : (home : ℕ) × (link : ℕ) × Has (r.blocks ++ o.added) (LinkAt home link at number)). ⊎_elim
+        (λ (was : Has r.blocks (LinkAt p.0 p.1 at number)). let old = r.few number at (inr (p.0, p.1, was)) in let spare = o.spare in omega (arith, old, spare))
+        (λ (new : Has o.added (LinkAt p.0 p.1 at number)). o.few p.0 p.1 at number new)
+        (has_either r.blocks o.added (LinkAt p.0 p.1 at number) p.2))
+        nth;
+    deep = λ shape at has. ⊎_elim
+        (λ (was : Has r.blocks (ShapeAt shape at)). let old = r.deep shape at was in let spare = o.spare in omega (arith, old, spare))
+        (λ (new : Has o.added (ShapeAt shape at)). o.deep shape at new)
+        (has_either r.blocks o.added (ShapeAt shape at) has);
     homes = λ b has. ⊎_elim (λ (old : Has r.blocks b). home_on r.blocks o.added b (r.homes b old)) (λ (new : Has o.added b). o.homes b new) (has_either r.blocks o.added b has);
     known = o.known;
     lie = o.lie;

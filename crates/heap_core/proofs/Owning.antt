@@ -27,7 +27,7 @@ use Rattle.rb_model.specs.Doing.{said}
 use Rattle.heap_core.specs.declared.deed.Deed.{Deed}
 use Rattle.heap_core.specs.declared.line.Line.{Line}
 use Rattle.heap_core.specs.Handing.{Plan, Handed, Slot}
-use Rattle.heap_core.specs.Blocks.{Block, ObjectAt, MutexAt, home_of, Inside}
+use Rattle.heap_core.specs.Blocks.{Block, MutexAt, home_of, Inside}
 use Rattle.heap_core.specs.Charges.{tally_of}
 use Rattle.heap_core.specs.Sizes.{size_of_id}
 use Rattle.heap_core.specs.View.{Holder, Knows, held, words_in}
@@ -40,7 +40,7 @@ use Rattle.heap_core.specs.Turning.{IsBare, with_plain}
 use Rattle.heap_core.specs.Turns.{LinesTell, HasTurn}
 use Rattle.heap_core.proofs.Owes.{whole}
 use Rattle.heap_core.proofs.Seats.{alone_at, seated_plain, seated_store, only_block}
-use Rattle.heap_core.proofs.Steps.{is_home, change_to}
+use Rattle.heap_core.proofs.Steps.{is_home, tree_stays, change_to}
 use Rattle.heap_core.proofs.Tallies.{tally_unsized}
 use Rattle.heap_core.proofs.Things.{found_here, over_same, threads_here}
 use Rattle.heap_core.proofs.Turning.{had}
@@ -106,9 +106,6 @@ pub record Fine (t : ℕ) (act : Act) (o : Option ℕ) : Type 0 where
   pub nothing : handed act ≡ []
   pub ready : waits_on t (Mutex o) act ≡ false
   pub behind : (u : ℕ) → owner_behind t act o ≡ Some u → (u ≡ t) ⊎ (o ≡ Some u)
-
-mutex_not_object : (x i : Id) (at place : ℕ) → ObjectAt i place ≡ MutexAt x at → ⊥
-mutex_not_object x i at place e = cc
 
 module _ (plan : Plan) (s : State Slot Holder) (r : Kept plan s) (id : ℕ) (k : Holder) (seat : At s.views id k) (live : k.live ≡ true) (going : k.view.ended ≡ false) (x : Id) (at : ℕ) (here : Has r.blocks (MutexAt x at)) where
   abbrev t : ℕ
@@ -217,14 +214,14 @@ module _ (plan : Plan) (s : State Slot Holder) (r : Kept plan s) (id : ℕ) (k :
           ends = λ c hc q. absurd (true≢false (sym q));
           doing = λ y far. refl;
           off_turn = λ off. (refl, refl, refl, refl, refl);
-          anew = λ c hc mine. subst (Stands after) (sym (alone_at plan s r (MutexAt x at) here (λ i place. mutex_not_object x i at place) c hc (eqb-true (home_of c) at mine))) mutex_after;
+          anew = λ c hc mine. subst (Stands after) (sym (alone_at plan s r (MutexAt x at) here tt (λ h. h) c hc (eqb-true (home_of c) at mine))) mutex_after;
           new = λ c q. absurd q;
           homes = λ c q. absurd q;
+          no_tree = λ c q. absurd q;
+          tree = tree_stays s r id k k' seat live (λ c q. q) refl;
           shapes_on = λ shape q. inr q;
-          shapes_new = λ shape place q. absurd q;
           fresh = λ y c q. absurd q;
           one = λ y c d q. absurd q;
-          one_shape = λ shape place to q. absurd q;
         }
 
 -- ---- the steps

@@ -15,18 +15,21 @@ use Rattle.shared_run.specs.Run as runs
 use Rattle.shared_run.proofs.Events.{has_either}
 use Rattle.shared_run.proofs.Knowing.{maker_knows, newborn_knows, joined_knows}
 use Rattle.heap_core.specs.Handing.{Plan, Handed, Slot}
-use Rattle.heap_core.specs.Places.{turn_word}
-use Rattle.heap_core.specs.Blocks.{Block, home_of, words_of_shapes}
-use Rattle.heap_core.specs.View.{words_in, Holder, Idle, Turned, Knows, AtRest, held, maker, child, child_of, joined, front_holder, spent_holder, busy_at}
+use Rattle.heap_core.specs.Places.{turn_word, used_word, tree_lock}
+use Rattle.heap_core.specs.Blocks.{Block, home_of, words_of_shapes, IsOfTree}
+use Rattle.heap_core.specs.View.{words_in, Holder, Idle, Turned, Knows, AtRest, held, maker, child, child_of, joined, front_holder, spent_holder, busy_at, Locked, HasTree}
 use Rattle.heap_core.specs.Moment.{At}
 use Rattle.heap_core.specs.Rule.{Claims, Apart, Seated, LiesIn, Kept, owned}
 use Rattle.heap_core.proofs.Holders.{at_within, each_two, each_both, none_shown, apart_set, keeps_set, owned_set, owned_snoc}
-use Rattle.heap_core.proofs.Owes.{owes_kept}
+use Rattle.heap_core.proofs.Owes.{owes_kept, tree_in}
 use Rattle.heap_core.proofs.Rooms.{laid_split, laid_join}
 use Rattle.heap_core.proofs.Seats.{lies_more}
 
 idle_turned : (h : Handed) (out : Bool) → Idle ≡ Turned h out → ⊥
 idle_turned h out e = cc
+
+idle_locked : Idle ≡ Locked → ⊥
+idle_locked e = cc
 
 module _ (plan : Plan) where
   -- what was in progress at a place before
@@ -97,6 +100,12 @@ module _ (plan : Plan) where
         anew = λ b hb e. absurd (true≢false (sym e));
         new = λ b h. absurd h;
         one = λ y b d h. absurd h;
+        tree = tree_in plan s r (set s.views id (maker k) ++ w ∷ []) (each_two (λ j u. u.live ≡ true → HasTree u → (b : Block) → Has r.blocks b → IsOfTree b → Knows u b) s.views id (maker k) w
+            (r.tree id k at) (λ _ has. absurd (idle_locked (sym (c.idle tree_lock) ∙ has))) (λ j u _ a. r.tree j u a));
+        linked = λ shape place h. absurd h;
+        spare = let more = owned_snoc (set s.views id (maker k)) w in let owns = owned_set s.views id k (maker k) at in let none_held = c.held in omega (arith, more, owns, none_held);
+        few = λ home link to number h. absurd h;
+        deep = λ shape place h. absurd h;
         one_shape = λ shape place to h. absurd h;
         homes = λ b h. absurd h;
         known = λ j u b a. each_two (λ j u. Knows u b → Has (r.blocks ++ []) b) s.views id (maker k) w (λ kn. subst (λ bs. Has bs b) (sym same_blocks) (r.known id k b at kn)) (λ kn. subst (λ bs. Has bs b) (sym same_blocks) (r.known id k b at (c.known b kn)))
@@ -202,6 +211,12 @@ module _ (plan : Plan) where
         anew = λ b hb e. absurd (true≢false (sym e));
         new = λ b h. absurd h;
         one = λ y b c h. absurd h;
+        tree = tree_in plan s r (set (set s.views id (joined k u)) other spent_holder) (each_both (λ j x. x.live ≡ true → HasTree x → (c : Block) → Has r.blocks c → IsOfTree c → Knows x c) s.views id other (joined k u) spent_holder
+            (λ _ has c h t. has_front k.blocks u.blocks c (r.tree id k at live has c h t)) (λ e. absurd (true≢false (sym e))) (λ j x _ _ a. r.tree j x a));
+        linked = λ shape place h. absurd h;
+        spare = let one = owned_set s.views id k (joined k u) at in let two = owned_set (set s.views id (joined k u)) other u spent_holder there in let none_own = ap words_in rests.0 in omega (arith, one, two, none_own);
+        few = λ home link to number h. absurd h;
+        deep = λ shape place h. absurd h;
         one_shape = λ shape place to h. absurd h;
         homes = λ b h. absurd h;
         known = λ j x b a. each_both (λ j x. Knows x b → Has (r.blocks ++ []) b) s.views id other (joined k u) spent_holder

@@ -16,11 +16,11 @@ use Rattle.shared_run.proofs.Closing.{open_hides}
 use Rattle.shared_run.proofs.Events.{refused_count, refused_own, refused_other}
 use Rattle.shared_run.proofs.Knowing.{knows_on, refusal_grows, refused_knows}
 use Rattle.shared_run.proofs.Sinking.{refused_run, stands_did, stands_refused}
-use Rattle.heap_core.specs.Places.{used_word, turn_word}
+use Rattle.heap_core.specs.Places.{used_word, turn_word, tree_lock}
 use Rattle.heap_core.specs.Handing.{Plan, Handed, Slot, Homes, numbers}
-use Rattle.heap_core.specs.Blocks.{Block, TheTurn, home_of, words_of_shapes}
+use Rattle.heap_core.specs.Blocks.{Block, TheTurn, home_of, IsOfTree, words_of_shapes}
 use Rattle.heap_core.specs.Charges.{tally_of}
-use Rattle.heap_core.specs.View.{Region, Holder, Idle, Knows, words_in, held, busy_at}
+use Rattle.heap_core.specs.View.{Region, Holder, Idle, Knows, HasTree, words_in, held, busy_at}
 use Rattle.heap_core.specs.Moment.{Moment, At}
 use Rattle.heap_core.specs.Turns.{Any, LinesTell, HasTurn, HasNone, TurnStands}
 use Rattle.heap_core.specs.Turning.{MakesInTurn, RefusesInTurn, SameTable, out_as, with_out, with_plain, with_sink_failed, without_turn}
@@ -29,13 +29,13 @@ use Rattle.heap_core.proofs.Doings.{busy_set, busy_else}
 use Rattle.heap_core.proofs.Frames.{lines_on}
 use Rattle.heap_core.proofs.Things.{over_same}
 use Rattle.heap_core.proofs.Holders.{each_set, apart_set, owned_set}
-use Rattle.heap_core.proofs.Owes.{whole, owes_kept}
+use Rattle.heap_core.proofs.Owes.{whole, owes_kept, tree_in}
 use Rattle.heap_core.proofs.Rooms.{place_inside, laid_quiet}
 use Rattle.heap_core.proofs.Seats.{alone_at, seated_plain}
-use Rattle.heap_core.proofs.Steps.{is_home, hidden, change_to, used_same, family_same, stays_else, others_own, own_same, ahead_else}
+use Rattle.heap_core.proofs.Steps.{is_home, hidden, change_to, used_same, family_same, stays_else, others_own, own_same, ahead_else, tree_stays}
 use Rattle.heap_core.proofs.Takes.{late_refused}
 use Rattle.heap_core.proofs.Tallies.{tally_print}
-use Rattle.heap_core.proofs.Turning.{Had, had, busy_again, turn_fits, object_not_turn}
+use Rattle.heap_core.proofs.Turning.{Had, had, busy_again, turn_fits}
 use mathlib.Core.Logic.{dite}
 use native.Mathlib.Decide.{ℕ_discrete}
 
@@ -98,18 +98,18 @@ module _ (plan : Plan) (s : State Slot Holder) (r : Kept plan s) (id : ℕ) (k :
         doing = λ x far. else_same x k far;
         off_turn = λ off. absurd (true≢false off);
         anew = λ c hc mine. subst (Stands (moment plan (whole (set s.words turn_word 0) homes' (set s.views id k')) (run_after r.run k.view.thread e z) r.lines (r.blocks ++ [])))
-            (sym (alone_at plan s r TheTurn r.turn object_not_turn c hc (eqb-true (home_of c) turn_word mine)))
+            (sym (alone_at plan s r TheTurn r.turn tt (λ h. h) c hc (eqb-true (home_of c) turn_word mine)))
             (free_again (run_after r.run k.view.thread e z) (r.blocks ++ []) k' refl
             (lines_on before (moment plan (whole (set s.words turn_word 0) homes' (set s.views id k')) (run_after r.run k.view.thread e z) r.lines (r.blocks ++ [])) h.lines (λ u. over_same r.run.events k.view.thread e refl u) (λ n lt. lt) t.handed.1)
             (stands_did Any plan.begun r.run.events r.run.refusals k.view.thread e h.sink g.sink t.handed.2 did)
             refl);
         new = λ c q. absurd q;
         homes = λ c q. absurd q;
+        no_tree = λ c q. absurd q;
+        tree = tree_stays s r id k k' seat live (λ c q. q) (else_same tree_lock k refl);
         shapes_on = λ shape q. inr q;
-        shapes_new = λ shape place q. absurd q;
         fresh = λ y c q. absurd q;
         one = λ y c d q. absurd q;
-        one_shape = λ shape place to q. absurd q;
       }
 
   -- ---- with a refusal
@@ -147,13 +147,18 @@ module _ (plan : Plan) (s : State Slot Holder) (r : Kept plan s) (id : ℕ) (k :
         stays = stays_else plan s r homes' id k k' turn_word 0 TheTurn seat live live refl refl r.turn (place_inside TheTurn) (is_home TheTurn) run' r.lines [] (λ x far. else_same x k far);
         turn = λ off. absurd (true≢false off);
         anew = λ c hc mine. subst (Stands (moment plan (whole (set s.words turn_word 0) homes' (set s.views id k')) run' r.lines (r.blocks ++ [])))
-            (sym (alone_at plan s r TheTurn r.turn object_not_turn c hc (eqb-true (home_of c) turn_word mine)))
+            (sym (alone_at plan s r TheTurn r.turn tt (λ h. h) c hc (eqb-true (home_of c) turn_word mine)))
             (free_again run' (r.blocks ++ []) k' refl
             (lines_on before (moment plan (whole (set s.words turn_word 0) homes' (set s.views id k')) run' r.lines (r.blocks ++ [])) h.lines (λ u. refl) (λ n lt. let c = refused_count r.run.refusals v.thread q in omega (arith, lt, c)) t.handed.1)
             (stands_refused Any plan.begun r.run.events r.run.refusals v.thread q call h.sink g.sink t.handed.2 did (refl, refl) knew.within)
             (refused_count r.run.refusals v.thread q));
         new = λ c n. absurd n;
         one = λ y c d n. absurd n;
+        tree = tree_in plan s r (set s.views id k') (each_set (λ j u. u.live ≡ true → HasTree u → (c : Block) → Has r.blocks c → IsOfTree c → Knows u c) s.views id k' (λ _. tree_stays s r id k k' seat live (λ c q. q) (else_same tree_lock k refl)) (λ j u _ a. r.tree j u a));
+        linked = λ shape place h. absurd h;
+        spare = let owns = owned_set s.views id k k' seat in omega (arith, owns, used);
+        few = λ home link to number h. absurd h;
+        deep = λ shape place h. absurd h;
         one_shape = λ shape place to n. absurd n;
         homes = λ c n. absurd n;
         known = λ j u d a. each_set (λ j u. Knows u d → Has (r.blocks ++ []) d) s.views id k' (λ kn. subst (λ bs. Has bs d) (sym same_blocks) (r.known id k d seat kn)) (λ j u _ a kn. subst (λ bs. Has bs d) (sym same_blocks) (r.known j u d a kn)) j u a;

@@ -20,15 +20,15 @@ use Rattle.shared_run.proofs.Pointed.{read_not_end, read_run, read_grows, read_k
 use Rattle.shared_run.proofs.Sinking.{stands_read}
 use Rattle.heap_core.specs.Places.{used_word, turn_word}
 use Rattle.heap_core.specs.Handing.{Plan, Slot}
-use Rattle.heap_core.specs.Blocks.{Block, home_of, Inside, words_of_shapes}
+use Rattle.heap_core.specs.Blocks.{Block, home_of, IsOfTree, Inside, words_of_shapes}
 use Rattle.heap_core.specs.Charges.{Tally, tally_of}
 use Rattle.heap_core.specs.Sizes.{size_of_id}
-use Rattle.heap_core.specs.View.{words_in, Holder, Knows, held, busy_at}
+use Rattle.heap_core.specs.View.{words_in, Holder, Knows, HasTree, held, busy_at}
 use Rattle.heap_core.specs.Moment.{At}
 use Rattle.heap_core.specs.Turns.{Any}
 use Rattle.heap_core.specs.Rule.{Stands, LiesIn, Kept, Below}
 use Rattle.heap_core.proofs.Holders.{each_set, apart_set, keeps_set, owned_set}
-use Rattle.heap_core.proofs.Owes.{whole, owes_kept}
+use Rattle.heap_core.proofs.Owes.{whole, owes_kept, tree_in}
 use Rattle.heap_core.proofs.Rooms.{laid_quiet}
 use Rattle.heap_core.proofs.Steps.{ahead_else, hidden, is_home, after, used_same, family_same, stays_else, others_own, own_same}
 use Rattle.heap_core.proofs.Tallies.{tally_read}
@@ -47,6 +47,7 @@ module _ (plan : Plan) (s : State Slot Holder) (r : Kept plan s) (id : ℕ) (k k
     pub shapes : k'.shapes ≡ k.shapes
     pub same_front : k'.front ≡ k.front
     pub knows_in : (c : Block) → Knows k' c → Has r.blocks c
+    pub tree : HasTree k' → (c : Block) → Has r.blocks c → IsOfTree c → Knows k' c
     pub lie : Each (LiesIn k'.blocks) k'.view.known
     pub doing : (x : ℕ) → is_home b x ≡ false → busy_at x k'.doing ≡ busy_at x k.doing
     pub anew : (c : Block) → Has r.blocks c → home_of c ≡ home_of b → Stands (after plan s r s.homes id k k' i n b at live alive line size here inside (run_read r.run front behind k.view.thread e) r.lines r.blocks) c
@@ -103,6 +104,11 @@ module _ (plan : Plan) (s : State Slot Holder) (r : Kept plan s) (id : ℕ) (k k
         anew = λ d hd mine. subst (λ bs. Stands (after plan s r s.homes id k k' i n b at live alive line size here inside run r.lines bs) d) (sym same_blocks) (c.anew d hd (eqb-true (home_of d) (home_of b) mine));
         new = λ d h. absurd h;
         one = λ y d f h. absurd h;
+        tree = tree_in plan s r (set s.views id k') (each_set (λ j u. u.live ≡ true → HasTree u → (c : Block) → Has r.blocks c → IsOfTree c → Knows u c) s.views id k' (λ _. c.tree) (λ j u _ a. r.tree j u a));
+        linked = λ shape place h. absurd h;
+        spare = let owns = owned_set s.views id k k' at in let own = ap words_in c.own in let ahead = c.ahead in omega (arith, owns, own, ahead, used);
+        few = λ home link to number h. absurd h;
+        deep = λ shape place h. absurd h;
         one_shape = λ shape place to h. absurd h;
         homes = λ b h. absurd h;
         known = λ j u d a. each_set (λ j u. Knows u d → Has (r.blocks ++ []) d) s.views id k' (λ kn. subst (λ bs. Has bs d) (sym same_blocks) (c.knows_in d kn)) (λ j u _ a kn. subst (λ bs. Has bs d) (sym same_blocks) (r.known j u d a kn)) j u a;

@@ -3,26 +3,66 @@ use Rattle.std.proofs.Common.{◌≡◌, ◌≤◌, ◌<◌, ◌⊎◌, ℕ, ◌
 use Rattle.rb_shared.specs.Lists.{Has}
 use Rattle.shared_run.proofs.Events.{has_either}
 use Rattle.heap_core.specs.Places.{used_word, opening_words}
-use Rattle.heap_core.specs.Blocks.{Block, ObjectAt, ChunkAt, MutexAt, ThreadAt, TextAt, BoxAt, ShapeAt, LockAt, TheTurn, place_of, size_of, Inside}
+use Rattle.heap_core.specs.Blocks.{Block, ObjectAt, ChunkAt, MutexAt, ThreadAt, TextAt, BoxAt, ShapeAt, LockAt, TheTurn, place_of, size_of, Inside, LinkAt}
 use Rattle.heap_core.specs.View.{Region, InRegion, Holder, InOwn, spent_holder, maker, joined}
 use Rattle.heap_core.specs.Moment.{At}
 use Rattle.heap_core.specs.Rule.{Laid}
 use Rattle.heap_core.proofs.Holders.{each_set, each_two, each_both}
 
-pub some_size : (b : Block) → 0 < size_of b
-some_size (ObjectAt id at) = omega arith
-some_size (ChunkAt object number at) = omega arith
-some_size (MutexAt id at) = omega arith
-some_size (ThreadAt id number maker at) = omega arith
-some_size (TextAt bytes at) = omega arith
-some_size (BoxAt n at) = omega arith
-some_size (ShapeAt shape at) = omega arith
-some_size (LockAt at) = omega arith
-some_size TheTurn = omega arith
+-- all but a link have words
+abbrev pub HasWords : Block → Type 0
+HasWords (LinkAt home link to number) = ⊥
+HasWords b = Unit {0}
 
--- a block has its own first word
-pub place_inside : (b : Block) → Inside (place_of b) b
-place_inside b = let size = some_size b in (omega arith, omega (arith, size))
+pub some_size : (b : Block) → HasWords b → 0 < size_of b
+some_size (ObjectAt id at) h = omega arith
+some_size (ChunkAt object number at) h = omega arith
+some_size (MutexAt id at) h = omega arith
+some_size (ThreadAt id number maker at) h = omega arith
+some_size (TextAt bytes at) h = omega arith
+some_size (BoxAt n at) h = omega arith
+some_size (ShapeAt shape at) h = omega arith
+some_size (LockAt at) h = omega arith
+some_size TheTurn h = omega arith
+some_size (LinkAt home link to number) h = absurd h
+
+-- objects and shapes have parts
+abbrev pub HasParts : Block → Type 0
+HasParts (ObjectAt id at) = Unit {0}
+HasParts (ShapeAt shape at) = Unit {0}
+HasParts b = ⊥
+
+-- a block that has words has its own first word
+pub first_inside : (b : Block) → HasWords b → Inside (place_of b) b
+first_inside b h = let size = some_size b h in (omega arith, omega (arith, size))
+
+pub parts_inside : (b : Block) → HasParts b → Inside (place_of b) b
+parts_inside (ObjectAt id at) h = first_inside (ObjectAt id at) tt
+parts_inside (ShapeAt shape at) h = first_inside (ShapeAt shape at) tt
+parts_inside (ChunkAt object number at) h = absurd h
+parts_inside (MutexAt id at) h = absurd h
+parts_inside (ThreadAt id number maker at) h = absurd h
+parts_inside (TextAt bytes at) h = absurd h
+parts_inside (BoxAt n at) h = absurd h
+parts_inside (LockAt at) h = absurd h
+parts_inside TheTurn h = absurd h
+parts_inside (LinkAt home link to number) h = absurd h
+
+abbrev pub FirstInside : Block → Type 0
+FirstInside (LinkAt home link to number) = Unit {0}
+FirstInside b = Inside (place_of b) b
+
+pub place_inside : (b : Block) → FirstInside b
+place_inside (ObjectAt id at) = first_inside (ObjectAt id at) tt
+place_inside (ChunkAt object number at) = first_inside (ChunkAt object number at) tt
+place_inside (MutexAt id at) = first_inside (MutexAt id at) tt
+place_inside (ThreadAt id number maker at) = first_inside (ThreadAt id number maker at) tt
+place_inside (TextAt bytes at) = first_inside (TextAt bytes at) tt
+place_inside (BoxAt n at) = first_inside (BoxAt n at) tt
+place_inside (ShapeAt shape at) = first_inside (ShapeAt shape at) tt
+place_inside (LockAt at) = first_inside (LockAt at) tt
+place_inside TheTurn = first_inside TheTurn tt
+place_inside (LinkAt home link to number) = tt
 
 pub used_of : List ℕ → ℕ
 used_of ws = get_or ws used_word 0

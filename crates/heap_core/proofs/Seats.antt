@@ -12,13 +12,13 @@ use Rattle.rb_shared.specs.View.{View}
 use Rattle.rb_shared.proofs.Runs.{each_more}
 use Rattle.shared_run.specs.Run.{IsNote}
 use Rattle.heap_core.specs.Handing.{Plan, Slot}
-use Rattle.heap_core.specs.Blocks.{Block, ObjectAt, ChunkAt, MutexAt, ThreadAt, TextAt, BoxAt, ShapeAt, LockAt, TheTurn, home_of, id_of, number_of, place_of, Inside}
+use Rattle.heap_core.specs.Blocks.{Block, ObjectAt, ChunkAt, MutexAt, ThreadAt, TextAt, BoxAt, ShapeAt, LockAt, TheTurn, home_of, id_of, number_of, place_of, Inside, LinkAt}
 use Rattle.heap_core.specs.View.{Holder, Knows}
 use Rattle.heap_core.specs.Moment.{At, owner_in, word}
 use Rattle.heap_core.specs.Mutexes.{owner_of}
 use Rattle.heap_core.specs.Rule.{Stands, Claims, IsUngathered, Seated, LiesIn, Kept, moment}
 use Rattle.heap_core.proofs.Holders.{each_set}
-use Rattle.heap_core.proofs.Rooms.{place_inside}
+use Rattle.heap_core.proofs.Rooms.{HasWords, HasParts, first_inside, parts_inside, place_inside}
 
 -- ---- notes
 
@@ -123,6 +123,7 @@ module _ (plan : Plan) (s : State Slot Holder) (r : Kept plan s) where
       by_kind (ShapeAt shape at) is k = absurd (none_is id is)
       by_kind (LockAt at) is k = absurd (none_is id is)
       by_kind TheTurn is k = absurd (none_is id is)
+      by_kind (LinkAt home link to number) is k = absurd (none_is id is)
 
   -- no block stands for the main thread
   pub no_main : (b : Block) → Has r.blocks b → number_of b ≡ Some 0 → ⊥
@@ -144,6 +145,7 @@ module _ (plan : Plan) (s : State Slot Holder) (r : Kept plan s) where
       by_kind (ShapeAt shape at) is k = none_is 0 is
       by_kind (LockAt at) is k = none_is 0 is
       by_kind TheTurn is k = none_is 0 is
+      by_kind (LinkAt home link to n) is k = none_is 0 is
 
   -- no seat claims a number that no thread has
   pub nobody_claims : (n : ℕ) → n ≡ length r.run.refusals → (j : ℕ) (u : Holder) → At s.views j u → Claims u n → ⊥
@@ -157,17 +159,21 @@ module _ (plan : Plan) (s : State Slot Holder) (r : Kept plan s) where
   pub only_block : (id i : ℕ) (k : Holder) (b c : Block) → At s.views id k → Knows k b → Knows k c → Inside i b → Inside i c → b ≡ c
   only_block id i k b c at kb kc ib ic = r.laid.apart i b c (r.known id k b at kb) (r.known id k c at kc) ib ic
 
-  -- a block that is no object is alone with its place as its home
-  pub alone_at : (b : Block) → Has r.blocks b → ((x : Id) (place : ℕ) → ObjectAt x place ≡ b → ⊥) → (c : Block) → Has r.blocks c → home_of c ≡ place_of b → c ≡ b
-  alone_at b here no_object (ChunkAt object number place) hc is =
-      let home = r.homes (ChunkAt object number place) hc in
-      absurd (no_object home.0 object (r.laid.apart (place_of b) (ObjectAt home.0 object) b home.1 here (subst (λ y. Inside y (ObjectAt home.0 object)) is (place_inside (ObjectAt home.0 object))) (place_inside b)))
-  alone_at b here no_object (ObjectAt x place) hc is = r.laid.apart (place_of b) (ObjectAt x place) b hc here (subst (λ y. Inside y (ObjectAt x place)) is (place_inside (ObjectAt x place))) (place_inside b)
-  alone_at b here no_object (MutexAt x place) hc is = r.laid.apart (place_of b) (MutexAt x place) b hc here (subst (λ y. Inside y (MutexAt x place)) is (place_inside (MutexAt x place))) (place_inside b)
-  alone_at b here no_object (ThreadAt x number maker place) hc is =
-      r.laid.apart (place_of b) (ThreadAt x number maker place) b hc here (subst (λ y. Inside y (ThreadAt x number maker place)) is (place_inside (ThreadAt x number maker place))) (place_inside b)
-  alone_at b here no_object (TextAt bytes place) hc is = r.laid.apart (place_of b) (TextAt bytes place) b hc here (subst (λ y. Inside y (TextAt bytes place)) is (place_inside (TextAt bytes place))) (place_inside b)
-  alone_at b here no_object (BoxAt n place) hc is = r.laid.apart (place_of b) (BoxAt n place) b hc here (subst (λ y. Inside y (BoxAt n place)) is (place_inside (BoxAt n place))) (place_inside b)
-  alone_at b here no_object (ShapeAt shape place) hc is = r.laid.apart (place_of b) (ShapeAt shape place) b hc here (subst (λ y. Inside y (ShapeAt shape place)) is (place_inside (ShapeAt shape place))) (place_inside b)
-  alone_at b here no_object (LockAt place) hc is = r.laid.apart (place_of b) (LockAt place) b hc here (subst (λ y. Inside y (LockAt place)) is (place_inside (LockAt place))) (place_inside b)
-  alone_at b here no_object TheTurn hc is = r.laid.apart (place_of b) TheTurn b hc here (subst (λ y. Inside y TheTurn) is (place_inside TheTurn)) (place_inside b)
+  -- a block that has no parts is not where one is that has
+  not_its_home : (b : Block) → Has r.blocks b → HasWords b → (HasParts b → ⊥) → (x : Block) → Has r.blocks x → HasParts x → place_of x ≡ place_of b → ⊥
+  not_its_home b here words no_parts x hx parts same =
+      no_parts (subst HasParts (r.laid.apart (place_of b) x b hx here (subst (λ y. Inside y x) same (parts_inside x parts)) (first_inside b words)) parts)
+
+  -- a block that has no parts is alone with its place as its home
+  pub alone_at : (b : Block) → Has r.blocks b → HasWords b → (HasParts b → ⊥) → (c : Block) → Has r.blocks c → home_of c ≡ place_of b → c ≡ b
+  alone_at b here words no_parts (ChunkAt object number place) hc is = let home = r.homes (ChunkAt object number place) hc in absurd (not_its_home b here words no_parts (ObjectAt home.0 object) home.1 tt is)
+  alone_at b here words no_parts (LinkAt home link to number) hc is = let at = r.homes (LinkAt home link to number) hc in absurd (not_its_home b here words no_parts (ShapeAt at.0 home) at.1 tt is)
+  alone_at b here words no_parts (ObjectAt x place) hc is = r.laid.apart (place_of b) (ObjectAt x place) b hc here (subst (λ y. Inside y (ObjectAt x place)) is (place_inside (ObjectAt x place))) (first_inside b words)
+  alone_at b here words no_parts (MutexAt x place) hc is = r.laid.apart (place_of b) (MutexAt x place) b hc here (subst (λ y. Inside y (MutexAt x place)) is (place_inside (MutexAt x place))) (first_inside b words)
+  alone_at b here words no_parts (ThreadAt x number maker place) hc is =
+      r.laid.apart (place_of b) (ThreadAt x number maker place) b hc here (subst (λ y. Inside y (ThreadAt x number maker place)) is (place_inside (ThreadAt x number maker place))) (first_inside b words)
+  alone_at b here words no_parts (TextAt bytes place) hc is = r.laid.apart (place_of b) (TextAt bytes place) b hc here (subst (λ y. Inside y (TextAt bytes place)) is (place_inside (TextAt bytes place))) (first_inside b words)
+  alone_at b here words no_parts (BoxAt n place) hc is = r.laid.apart (place_of b) (BoxAt n place) b hc here (subst (λ y. Inside y (BoxAt n place)) is (place_inside (BoxAt n place))) (first_inside b words)
+  alone_at b here words no_parts (ShapeAt shape place) hc is = r.laid.apart (place_of b) (ShapeAt shape place) b hc here (subst (λ y. Inside y (ShapeAt shape place)) is (place_inside (ShapeAt shape place))) (first_inside b words)
+  alone_at b here words no_parts (LockAt place) hc is = r.laid.apart (place_of b) (LockAt place) b hc here (subst (λ y. Inside y (LockAt place)) is (place_inside (LockAt place))) (first_inside b words)
+  alone_at b here words no_parts TheTurn hc is = r.laid.apart (place_of b) TheTurn b hc here (subst (λ y. Inside y TheTurn) is (place_inside TheTurn)) (first_inside b words)

@@ -26,14 +26,15 @@ use Rattle.shared_run.proofs.Knowing.{noted, knows_on}
 use Rattle.shared_run.proofs.Points.{point_entry}
 use Rattle.shared_run.proofs.Enters.{run_on, entry_grows, entry_knows, unended, new_is_past}
 use Rattle.shared_run.proofs.Sinking.{stands_silent}
-use Rattle.heap_core.specs.Places.{used_word, turn_word, shape_words, thread_words}
+use Rattle.heap_core.specs.Places.{used_word, turn_word, shape_words, thread_words, tree_lock}
 use Rattle.heap_core.specs.Handing.{Plan, Slot, Homes}
-use Rattle.heap_core.specs.Blocks.{Block, ShapeAt, place_of, size_of, home_of, id_of, number_of, HasHome, Inside, InFamily, words_of_shapes}
+use Rattle.heap_core.specs.Blocks.{Block, ShapeAt, place_of, size_of, home_of, id_of, number_of, HasHome, Inside, InFamily, words_of_shapes, LockAt, LinkAt, IsOfTree}
+use Rattle.heap_core.specs.Links.{IsNth}
 use Rattle.heap_core.specs.Charges.{budget, tally_of}
-use Rattle.heap_core.specs.View.{Region, InRegion, words_in, Holder, Busy, InOwn, Knows, held, busy_at}
+use Rattle.heap_core.specs.View.{Region, InRegion, words_in, Holder, Busy, InOwn, Knows, HasTree, held, busy_at}
 use Rattle.heap_core.specs.Moment.{Moment, At}
 use Rattle.heap_core.specs.Turns.{Any}
-use Rattle.heap_core.specs.Rule.{IsMade, Stands, Seated, Below, LiesIn, Kept, moment}
+use Rattle.heap_core.specs.Rule.{IsMade, Stands, Seated, Below, LiesIn, Kept, moment, owned}
 use Rattle.heap_core.proofs.Frames.{Follows, Stays}
 use Rattle.heap_core.proofs.Holders.{at_within, each_set, apart_set, keeps_set, owned_set, shapes_append}
 use Rattle.heap_core.proofs.Things.{Touches, found_behind, found_at_end, over_same, over_now, over_other, size_after}
@@ -63,6 +64,15 @@ whole_part os o h = (o, h, le_refl o.at, le_refl (o.at + length o.words), λ x l
 -- one of these reaches so far
 abbrev pub EndsIn : List Region → ℕ → Type 0
 EndsIn os n = (o : Region) × Has os o × (n ≤ o.at + length o.words)
+
+-- the words of the own regions lie below the used words
+pub ends_below : {plan : Plan} (s : State Slot Holder) (r : Kept plan s) (id : ℕ) (k : Holder) → At s.views id k → (n : ℕ) → EndsIn k.own n → n ≤ get_or s.words used_word 0
+ends_below s r id k at n end = let high = (r.laid.own_in id k end.0 at end.1).1 in let le = end.2 in omega (arith, le, high)
+
+-- a step that leaves what the pass knows and who has the lock of the tree leaves that it knows the tree
+pub tree_stays : {plan : Plan} (s : State Slot Holder) (r : Kept plan s) (id : ℕ) (k k' : Holder) → At s.views id k → k.live ≡ true → ((c : Block) → Knows k c → Knows k' c) → busy_at tree_lock k'.doing ≡ busy_at tree_lock k.doing
+    → HasTree k' → (c : Block) → Has r.blocks c → IsOfTree c → Knows k' c
+tree_stays s r id k k' at live more same has c h t = more c (r.tree id k at live (sym same ∙ has) c h t)
 
 -- the same place
 abbrev pub is_home : Block → ℕ → Bool
@@ -106,6 +116,18 @@ module _ (plan : Plan) (s : State Slot Holder) (r : Kept plan s) (hs' : Homes) (
   mine_there : At views' id k'
   mine_there = set_here s.views id k' (at_within s.views id k at)
 
+  -- one pass alone has the lock of the tree
+  pub sole_holder : (j l : ℕ) (u w : Holder) → At s.views j u → At s.views l w → u.live ≡ true → w.live ≡ true → HasTree u → HasTree w → j ≡ l
+  sole_holder j l u w a c alive_u alive_w has also = let rule = r.each (LockAt tree_lock) r.lock in (rule.1 j u a alive_u has).1 ∙ sym (rule.1 l w c alive_w also).1
+
+  -- what comes to the tree, the pass that has its lock adds
+  pub tree_set : (added : List Block) → (HasTree k' → (c : Block) → Has r.blocks c → IsOfTree c → Knows k' c) → ((c : Block) → Has added c → IsOfTree c → Knows k' c)
+      → ((j : ℕ) (u : Holder) → (j ≡ id → ⊥) → At s.views j u → u.live ≡ true → HasTree u → (c : Block) → Has added c → IsOfTree c → ⊥)
+      → (j : ℕ) (u : Holder) → At views' j u → u.live ≡ true → HasTree u → (c : Block) → Has (r.blocks ++ added) c → IsOfTree c → Knows u c
+  tree_set added old new nobody = each_set (λ j u. u.live ≡ true → HasTree u → (c : Block) → Has (r.blocks ++ added) c → IsOfTree c → Knows u c) s.views id k'
+      (λ _ has c h t. ⊎_elim (λ (was : Has r.blocks c). old has c was t) (λ (come : Has added c). new c come t) (has_either r.blocks added c h))
+      (λ j u ne a l has c h t. ⊎_elim (λ (was : Has r.blocks c). r.tree j u a l has c was t) (λ (come : Has added c). absurd (nobody j u ne a l has c come t)) (has_either r.blocks added c h))
+
   -- a shape that is ahead in some view stays so, where the own ones are ahead or made
   pub ahead_else : (made : List Shape) → ((shape : Shape) → Has k.shapes shape → Has made shape ⊎ Has k'.shapes shape) → (shape : Shape) (j : ℕ) (u : Holder) → At s.views j u → u.live ≡ true → Has u.shapes shape → IsMade made views' shape
   ahead_else made own shape j u a l h = dite (ℕ_discrete j id)
@@ -122,6 +144,10 @@ module _ (plan : Plan) (s : State Slot Holder) (r : Kept plan s) (hs' : Homes) (
 
   -- ---- a quiet step, and one that publishes ahead: no entry is made
 
+  -- there is room for so many shapes
+  abbrev pub HasRoom : ℕ → Type 0
+  HasRoom number = shape_words * number + owned s.views + held k' ≤ get_or s.words used_word 0 + held k
+
   -- What a step owes that makes no entry. It may publish own words.
   pub record Quiet (added : List Block) : Type 0 where
     pub note : IsNote k.view k'.view
@@ -134,7 +160,7 @@ module _ (plan : Plan) (s : State Slot Holder) (r : Kept plan s) (hs' : Homes) (
     pub single : (x : ℕ) (o p : Region) → Has k'.own o → Has k'.own p → InRegion x o → InRegion x p → o ≡ p
     pub counted : held k ≡ held k' + words_of_shapes added
     pub was_own : (x : ℕ) (c : Block) → Has added c → Inside x c → InOwn x k × (InOwn x k' → ⊥)
-    pub bounded : (c : Block) → Has added c → EndsIn k.own (place_of c + size_of c)
+    pub bounded : (c : Block) → Has added c → place_of c + size_of c ≤ get_or s.words used_word 0
     pub parted : (x : ℕ) (c d : Block) → Has added c → Has added d → Inside x c → Inside x d → c ≡ d
     -- what is in progress elsewhere goes on
     pub doing : (x : ℕ) → is_home b x ≡ false → busy_at x k'.doing ≡ busy_at x k.doing
@@ -144,6 +170,12 @@ module _ (plan : Plan) (s : State Slot Holder) (r : Kept plan s) (hs' : Homes) (
     pub anew : (c : Block) → Has r.blocks c → home_of c ≡ home_of b → Stands (after r.run r.lines (r.blocks ++ added)) c
     pub new : (c : Block) → Has added c → Stands (after r.run r.lines (r.blocks ++ added)) c
     pub no_thing : (c : Block) → Has added c → id_of c ≡ None
+    -- the pass that has the lock of the tree knows the whole tree, and none but that one adds to it
+    pub tree : HasTree k' → (c : Block) → Has r.blocks c → IsOfTree c → Knows k' c
+    pub grows : (c : Block) → Has added c → IsOfTree c → HasTree k × Knows k' c
+    pub linked : (shape : Shape) (place : ℕ) → Has added (ShapeAt shape place) → (number : ℕ) × IsNth (r.blocks ++ added) number place
+    pub few : (home link to number : ℕ) → Has added (LinkAt home link to number) → HasRoom number
+    pub deep : (shape : Shape) (place : ℕ) → Has added (ShapeAt shape place) → HasRoom (length shape.path)
     pub shapes_on : (shape : Shape) → Has k.shapes shape → Has k'.shapes shape
     pub shows : (h : History) → k'.front ≡ Some h → ShowsRun r.run h
     pub shapes_new : (shape : Shape) (place : ℕ) → Has added (ShapeAt shape place) → Has k'.shapes shape
@@ -170,7 +202,7 @@ module _ (plan : Plan) (s : State Slot Holder) (r : Kept plan s) (hs' : Homes) (
             q.single
             q.was_own
             q.parted
-            (λ c h. let end = q.bounded c h in let high = (r.laid.own_in id k end.0 at end.1).1 in let le = end.2 in omega (arith, le, high, used));
+            (λ c h. let le = q.bounded c h in omega (arith, le, used));
         words = λ x c hc not_mine f. family_same (is_home b) (eq-eqb (home_of b) (home_of b) refl) x c hc not_mine f;
         things = λ y c hc not_mine is. inl (refl, λ t. refl);
         sizes = λ y c hc not_mine is. refl;
@@ -187,6 +219,11 @@ module _ (plan : Plan) (s : State Slot Holder) (r : Kept plan s) (hs' : Homes) (
         anew = λ c hc mine. q.anew c hc (eqb-true (home_of c) (home_of b) mine);
         new = q.new;
         one = λ y c d hc hd ic id. absurd (let none_is = q.no_thing c hc in let h : None ≡ Some y = sym none_is ∙ ic in cc);
+        tree = tree_set added q.tree (λ c h t. (q.grows c h t).1) (λ j u ne a l has c h t. ne (sole_holder j id u k a at l live has (q.grows c h t).0));
+        linked = q.linked;
+        spare = let owns = owned_set s.views id k k' at in let c = q.counted in omega (arith, owns, c, used);
+        few = λ home link to number h. let owns = owned_set s.views id k k' at in let le = q.few home link to number h in omega (arith, owns, le, used);
+        deep = λ shape place h. let owns = owned_set s.views id k k' at in let le = q.deep shape place h in omega (arith, owns, le, used);
         one_shape = q.one_shape;
         homes = q.homes;
         known = λ j u c a. each_set (λ j u. Knows u c → Has (r.blocks ++ added) c) s.views id k' (q.knows_in c) (λ j u _ a kn. has_front r.blocks added c (r.known j u c a kn)) j u a;
@@ -248,11 +285,12 @@ module _ (plan : Plan) (s : State Slot Holder) (r : Kept plan s) (hs' : Homes) (
     pub new : (c : Block) → Has added c → Stands (after (run_after r.run k.view.thread e z) lines (r.blocks ++ added)) c
     -- what comes was not there
     pub homes : (c : Block) → Has added c → HasHome (r.blocks ++ added) c
+    -- which is neither a shape nor a link: these come ahead of their entry
+    pub no_tree : (c : Block) → Has added c → IsOfTree c → ⊥
+    pub tree : HasTree k' → (c : Block) → Has r.blocks c → IsOfTree c → Knows k' c
     pub shapes_on : (shape : Shape) → Has k.shapes shape → Has (tally_of plan.slots (run_after r.run k.view.thread e z).events).shapes shape ⊎ Has k'.shapes shape
-    pub shapes_new : (shape : Shape) (place : ℕ) → Has added (ShapeAt shape place) → Has (tally_of plan.slots (run_after r.run k.view.thread e z).events).shapes shape ⊎ Has k'.shapes shape
     pub fresh : (y : Id) (c : Block) → Has added c → id_of c ≡ Some y → found r.run.store y ≡ None
     pub one : (y : Id) (c d : Block) → Has added c → Has added d → id_of c ≡ Some y → id_of d ≡ Some y → c ≡ d
-    pub one_shape : (shape : Shape) (place to : ℕ) → Has added (ShapeAt shape place) → Has (r.blocks ++ added) (ShapeAt shape to) → place ≡ to
 
   module _ (added : List Block) (e : Entry) (refs : List Ref) (z : Store) (c : Enters added e refs z) where
     abbrev t : ℕ
@@ -346,7 +384,12 @@ module _ (plan : Plan) (s : State Slot Holder) (r : Kept plan s) (hs' : Homes) (
               (λ (old : Has r.blocks f). absurd (let was = there plan s r f y old also in let gone = c.fresh y d hd is in let h : None ≡ Some was.0 = sym gone ∙ was.1 in cc))
               (λ (come : Has added f). c.one y d f hd come is also)
               (has_either r.blocks added f hf);
-          one_shape = c.one_shape;
+          tree = tree_set added c.tree (λ d h t. absurd (c.no_tree d h t)) (λ j u ne a l has d h t. c.no_tree d h t);
+          linked = λ shape place h. absurd (c.no_tree (ShapeAt shape place) h tt);
+          spare = let owns = owned_set s.views id k k' at in let none_ahead = c.ahead in omega (arith, owns, none_ahead, count, used);
+          few = λ home link to number h. absurd (c.no_tree (LinkAt home link to number) h tt);
+          deep = λ shape place h. absurd (c.no_tree (ShapeAt shape place) h tt);
+          one_shape = λ shape place to h. absurd (c.no_tree (ShapeAt shape place) h tt);
           homes = c.homes;
           known = λ j u d a. each_set (λ j u. Knows u d → Has (r.blocks ++ added) d) s.views id k' (c.knows_in d) (λ j u _ a kn. has_front r.blocks added d (r.known j u d a kn)) j u a;
           lie = each_set (λ j u. u.live ≡ true → Each (LiesIn u.blocks) u.view.known) s.views id k' (λ _. c.lie) (λ j u _ a. r.lie j u a);
@@ -356,7 +399,7 @@ module _ (plan : Plan) (s : State Slot Holder) (r : Kept plan s) (hs' : Homes) (
               omega (arith, was, owns, none_ahead, starts, few, used, count);
           made_on = λ shape h. made_after plan.slots r.run.events t e shape h;
           ahead_on = ahead_else (tally_of plan.slots run'.events).shapes c.shapes_on;
-          made_new = λ shape place h. ahead_new (tally_of plan.slots run'.events).shapes shape (c.shapes_new shape place h);
+          made_new = λ shape place h. absurd (c.no_tree (ShapeAt shape place) h tt);
           late = each_set (λ j u. u.live ≡ true → Each (MayStill plan.slots run' u.view.thread) u.late) s.views id k' (λ _. subst (Each (MayStill plan.slots run' k'.view.thread)) (sym c.late) tt)
               (λ j u ne a l. each_more (MayStill plan.slots r.run u.view.thread) (MayStill plan.slots run' u.view.thread)
               (λ f p. (p.0, p.1, point_entry plan.slots r.run (λ y. Steps plan.slots y u.view.thread f y) u.view.thread t e z (λ is. ne (r.apart j id t u k a at (l, inl is) (live, inl refl))) p.2)) u.late (r.late j u a l));

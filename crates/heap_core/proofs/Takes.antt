@@ -22,16 +22,16 @@ use Rattle.rb_shared.specs.Step.{Steps}
 use Rattle.shared_run.proofs.Points.{point_events}
 use Rattle.shared_run.proofs.Knowing.{knows_on, refusal_grows, refused_knows}
 use Rattle.shared_run.proofs.Sinking.{refused_run, stands_full}
-use Rattle.heap_core.specs.Places.{opening_words, used_word, turn_word}
+use Rattle.heap_core.specs.Places.{opening_words, used_word, turn_word, tree_lock}
 use Rattle.heap_core.specs.Handing.{Plan, Slot}
-use Rattle.heap_core.specs.Blocks.{Block, home_of, Inside, words_of_shapes}
-use Rattle.heap_core.specs.View.{busy_at, Region, InRegion, words_in, stored, holds_word, with_region, with_stored, Holder, InOwn, Knows, held, with_full, with_view}
+use Rattle.heap_core.specs.Blocks.{Block, home_of, IsOfTree, Inside, words_of_shapes}
+use Rattle.heap_core.specs.View.{busy_at, Region, InRegion, words_in, stored, holds_word, with_region, with_stored, Holder, InOwn, Knows, HasTree, held, with_full, with_view}
 use Rattle.heap_core.specs.Moment.{At}
 use Rattle.heap_core.specs.Turns.{Any}
 use Rattle.heap_core.specs.Rule.{Below, LiesIn, Kept}
 use Rattle.heap_core.specs.Room.{Asking, refusing, AreUsed, Looks, Takes, OwnLoads, OwnStores}
 use Rattle.heap_core.proofs.Holders.{at_within, each_set, apart_set, keeps_set, owned_set}
-use Rattle.heap_core.proofs.Owes.{whole, owes_kept}
+use Rattle.heap_core.proofs.Owes.{whole, owes_kept, tree_in}
 use Rattle.heap_core.proofs.Rooms.{laid_step}
 
 abbrev pair_in : Option (ℕ × ℕ) → ℕ × ℕ
@@ -178,6 +178,11 @@ module _ (plan : Plan) (s : State Slot Holder) (r : Kept plan s) (id : ℕ) (k k
         anew = λ b hb mine. absurd (true≢false (sym mine));
         new = λ b h. absurd h;
         one = λ y b c h. absurd h;
+        tree = tree_in plan s r (set s.views id k') (each_set (λ j u. u.live ≡ true → HasTree u → (c : Block) → Has r.blocks c → IsOfTree c → Knows u c) s.views id k' (λ _. λ has c h t. subst (λ bs. Has bs c) (sym o.blocks) (r.tree id k at live (ap (busy_at tree_lock) (sym o.doing) ∙ has) c h t)) (λ j u _ a. r.tree j u a));
+        linked = λ shape place h. absurd h;
+        spare = let owns = owned_set s.views id k k' at in let counted = o.counted in let ahead = o.ahead in omega (arith, owns, counted, ahead);
+        few = λ home link to number h. absurd h;
+        deep = λ shape place h. absurd h;
         one_shape = λ shape place to h. absurd h;
         homes = λ b h. absurd h;
         known = λ j u b a. each_set (λ j u. Knows u b → Has (r.blocks ++ []) b) s.views id k' (λ kn. subst (λ bs. Has bs b) (sym same_blocks) (r.known id k b at (subst (λ bs. Has bs b) o.blocks kn)))

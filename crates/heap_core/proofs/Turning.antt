@@ -9,9 +9,9 @@ use lib.ListN.{get_elem?}
 use Rattle.atomic_table.specs.Table.{State, Me, Act, Allows, Valid, keeps, takes, gives, stepped, carried_after}
 use Rattle.atomic_table.proofs.Lists.{set_again, set_here}
 use Rattle.rb_shared.specs.Lists.{Has}
-use Rattle.heap_core.specs.Places.{turn_word}
+use Rattle.heap_core.specs.Places.{turn_word, tree_lock}
 use Rattle.heap_core.specs.Handing.{Plan, Handed, Slot, Homes}
-use Rattle.heap_core.specs.Blocks.{ObjectAt, TheTurn}
+use Rattle.heap_core.specs.Blocks.{TheTurn}
 use Rattle.heap_core.specs.View.{Holder, Busy, Doing, Idle, Turned, busy_at, with_busy}
 use Rattle.heap_core.specs.Moment.{Moment, At}
 use Rattle.heap_core.specs.Turns.{IsHanded, HasTurn, HasNone, Free, Taken, TurnStands, home_while}
@@ -22,10 +22,7 @@ use Rattle.heap_core.proofs.Holders.{at_within, each_set}
 use Rattle.heap_core.proofs.Owes.{whole}
 use Rattle.heap_core.proofs.Rooms.{place_inside}
 use Rattle.heap_core.proofs.Seats.{alone_at, note_same}
-use Rattle.heap_core.proofs.Steps.{whole_part, quiet_step}
-
-pub object_not_turn : (x : Rattle.rb_model.specs.declared.value.Id.Id) (place : ℕ) → ObjectAt x place ≡ TheTurn → ⊥
-object_not_turn x place e = cc
+use Rattle.heap_core.proofs.Steps.{whole_part, tree_stays, quiet_step}
 
 idle_turned : (h : Handed) (out : Bool) → Idle ≡ Turned h out → ⊥
 idle_turned h out e = cc
@@ -60,9 +57,14 @@ module _ (plan : Plan) (s : State Slot Holder) (r : Kept plan s) (id : ℕ) (k :
     parted = λ x c d h. absurd h;
     doing = λ x far. busy_else turn_word busy x k.doing (λ is. true≢false (sym (eq-eqb x turn_word is) ∙ far));
     slot = λ off. absurd (true≢false off);
-    anew = λ c hc is. subst (Stands (moment plan (whole (set s.words turn_word n) hs' (set s.views id (with_busy k turn_word busy))) r.run r.lines (r.blocks ++ []))) (sym (alone_at plan s r TheTurn r.turn object_not_turn c hc is)) stands;
+    anew = λ c hc is. subst (Stands (moment plan (whole (set s.words turn_word n) hs' (set s.views id (with_busy k turn_word busy))) r.run r.lines (r.blocks ++ []))) (sym (alone_at plan s r TheTurn r.turn tt (λ h. h) c hc is)) stands;
     new = λ c h. absurd h;
     no_thing = λ c h. absurd h;
+    tree = tree_stays s r id k (with_busy k turn_word busy) seat live (λ c h. h) (busy_else turn_word busy tree_lock k.doing (λ is. let z : 16 ≡ 15 = is in omega (arith, z)));
+    grows = λ c h. absurd h;
+    linked = λ shape place h. absurd h;
+    few = λ home link to number h. absurd h;
+    deep = λ shape place h. absurd h;
     shapes_on = λ shape h. h;
     shows = λ h e. r.shows id k seat h e;
     shapes_new = λ shape place h. absurd h;

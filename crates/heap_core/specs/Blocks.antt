@@ -6,7 +6,8 @@ use Rattle.shape_core.specs.Shape.{Shape}
 use Rattle.heap_core.specs.Places.{turn_word, object_words, chunk_words, mutex_words, text_words, box_words, shape_words, thread_words}
 
 -- Each kind of block, with what never changes in it, and last its place. A chunk tells the place of its object, and how many-th it is, from 1
--- on. A thread tells its number and that of its maker. A lock is a word alone. There is one turn word.
+-- on. A thread tells its number and that of its maker. A lock is a word alone. There is one turn word. A link has no words of its own: the word
+-- `link` of the shape at `home` leads to the shape at `to`, which is the number-th child of its parent, or the number-th root, from 0 on.
 pub data Block : Type 0 where
   ObjectAt : (id : Id) (at : ℕ) → Block
   ChunkAt : (object number at : ℕ) → Block
@@ -17,6 +18,7 @@ pub data Block : Type 0 where
   ShapeAt : (shape : Shape) (at : ℕ) → Block
   LockAt : (at : ℕ) → Block
   TheTurn : Block
+  LinkAt : (home link to number : ℕ) → Block
 
 abbrev pub place_of : Block → ℕ
 place_of (ObjectAt id at) = at
@@ -28,6 +30,7 @@ place_of (BoxAt n at) = at
 place_of (ShapeAt shape at) = at
 place_of (LockAt at) = at
 place_of TheTurn = turn_word
+place_of (LinkAt home link to number) = link
 
 abbrev pub size_of : Block → ℕ
 size_of (ObjectAt id at) = object_words
@@ -39,10 +42,12 @@ size_of (BoxAt n at) = box_words
 size_of (ShapeAt shape at) = shape_words
 size_of (LockAt at) = 1
 size_of TheTurn = 1
+size_of (LinkAt home link to number) = 0
 
--- the place of the block whose rule speaks of this one's words: its own, or that of the thing that it is a part of
+-- the place of the block whose rule speaks of this one's words: its own, or that of what it is a part of
 abbrev pub home_of : Block → ℕ
 home_of (ChunkAt object number at) = object
+home_of (LinkAt home link to number) = home
 home_of b = place_of b
 
 -- the thing that the block stands for, if it is one
@@ -60,10 +65,17 @@ number_of b = None
 abbrev pub Inside : ℕ → Block → Type 0
 Inside i b = (place_of b ≤ i) × (i < place_of b + size_of b)
 
--- a part has its thing among the blocks
+-- a part has what it is a part of among the blocks
 abbrev pub HasHome : List Block → Block → Type 0
 HasHome bs (ChunkAt object number at) = (id : Id) × Has bs (ObjectAt id object)
+HasHome bs (LinkAt home link to number) = (shape : Shape) × Has bs (ShapeAt shape home)
 HasHome bs b = Unit {0}
+
+-- shapes and links are the tree of shapes
+abbrev pub IsOfTree : Block → Type 0
+IsOfTree (ShapeAt shape at) = Unit {0}
+IsOfTree (LinkAt home link to number) = Unit {0}
+IsOfTree b = ⊥
 
 -- the word is one of those that the rule of the block at this place speaks of
 abbrev pub InFamily : List Block → ℕ → ℕ → Type 0

@@ -9,6 +9,7 @@ pub mod Moment
 pub mod Locks
 pub mod Objects
 pub mod Shapes
+pub mod Links
 pub mod Texts
 pub mod Mutexes
 pub mod Threads
@@ -20,6 +21,7 @@ pub mod Fixed
 pub mod Passes
 pub mod Telling
 pub mod Locking
+pub mod Growing
 pub mod Turning
 pub mod Owning
 pub mod Ending

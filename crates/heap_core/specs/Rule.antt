@@ -10,19 +10,20 @@ use Rattle.rb_model.specs.Things.{ThreadState}
 use Rattle.rb_shared.specs.History.{History}
 use Rattle.rb_shared.specs.Store.{Store, threads, ungathered_count}
 use Rattle.rb_shared.specs.Lists.{Has, Each}
-use Rattle.shape_core.specs.Shape.{Shape}
+use Rattle.shape_core.specs.Shape.{Shape, root_of}
 use Rattle.shared_run.specs.Closing.{ShowsRun}
 use Rattle.shared_run.specs.Run.{Run, IsRun, MayStill, refused_at}
 use Rattle.shared_run.specs.Run as runs
-use Rattle.heap_core.specs.Places.{opening_words, used_word, shape_words, thread_words}
+use Rattle.heap_core.specs.Places.{opening_words, used_word, shape_words, thread_words, tree_lock, first_root}
 use Rattle.heap_core.specs.Handing.{Plan, Slot}
-use Rattle.heap_core.specs.Blocks.{Block, ObjectAt, ChunkAt, MutexAt, ThreadAt, TextAt, BoxAt, ShapeAt, LockAt, TheTurn, place_of, size_of, id_of, Inside, HasHome, words_of_shapes}
+use Rattle.heap_core.specs.Blocks.{Block, ObjectAt, ChunkAt, MutexAt, ThreadAt, TextAt, BoxAt, ShapeAt, LockAt, TheTurn, place_of, size_of, id_of, Inside, HasHome, words_of_shapes, LinkAt, IsOfTree}
 use Rattle.heap_core.specs.Charges.{budget, tally_of}
-use Rattle.heap_core.specs.View.{Region, InRegion, Holder, InOwn, Knows, held}
+use Rattle.heap_core.specs.View.{Region, InRegion, Holder, InOwn, Knows, HasTree, held}
 use Rattle.heap_core.specs.Moment.{Moment, At}
 use Rattle.heap_core.specs.Locks.{LockStands}
 use Rattle.heap_core.specs.Objects.{ObjectStands, ChunkStands}
 use Rattle.heap_core.specs.Shapes.{ShapeStands}
+use Rattle.heap_core.specs.Links.{IsNth, LinkStands}
 use Rattle.heap_core.specs.Texts.{TextStands, BoxStands}
 use Rattle.heap_core.specs.Mutexes.{MutexStands}
 use Rattle.heap_core.specs.Threads.{ThreadStands}
@@ -39,6 +40,7 @@ Stands m (BoxAt n at) = BoxStands m n at
 Stands m (ShapeAt shape at) = ShapeStands m shape at
 Stands m (LockAt at) = LockStands m at at
 Stands m TheTurn = TurnStands m
+Stands m (LinkAt home link to number) = LinkStands m home link to number
 
 -- ---- threads
 
@@ -126,7 +128,15 @@ pub record Kept (plan : Plan) (s : State Slot Holder) : Type 0 where
   pub one_shape : (shape : Shape) (at to : ℕ) → Has blocks (ShapeAt shape at) → Has blocks (ShapeAt shape to) → at ≡ to
   -- there is the turn word
   pub turn : Has blocks TheTurn
-  -- a part has its thing
+  -- and the lock of the tree of shapes; the pass that has it knows the whole tree
+  pub lock : Has blocks (LockAt tree_lock)
+  pub tree : (j : ℕ) (k : Holder) → At s.views j k → k.live ≡ true → HasTree k → (b : Block) → Has blocks b → IsOfTree b → Knows k b
+  -- there is the first root, each shape is the first root or a link leads to it, and no row or path is longer than there is room for shapes
+  pub root : Has blocks (ShapeAt (root_of 4294967295) first_root)
+  pub linked : (shape : Shape) (at : ℕ) → Has blocks (ShapeAt shape at) → (number : ℕ) × IsNth blocks number at
+  pub few : (number at : ℕ) → IsNth blocks number at → shape_words * number + owned s.views ≤ get_or s.words used_word 0
+  pub deep : (shape : Shape) (at : ℕ) → Has blocks (ShapeAt shape at) → shape_words * length shape.path + owned s.views ≤ get_or s.words used_word 0
+  -- a part has what it is a part of
   pub homes : (b : Block) → Has blocks b → HasHome blocks b
   -- what a pass can name is a block, and its references lie where they say
   pub known : (j : ℕ) (k : Holder) (b : Block) → At s.views j k → Knows k b → Has blocks b

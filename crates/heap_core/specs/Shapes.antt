@@ -1,13 +1,13 @@
--- The rule of a shape: what never changes in it, and the links to its first child and its next sibling.
-use Rattle.std.specs.Prelude.{◌≡◌, ◌⊎◌, ℕ, ◌+◌, Bool, true, false, List, [], ◌∷◌}
-use Rattle.rb_shared.specs.Lists.{Has}
+-- The rule of a shape: what never changes in it, and where its links lead.
+use Rattle.std.specs.Prelude.{◌≡◌, ◌<◌, ◌⊎◌, ℕ, ◌+◌, ◌^◌, Bool, true, false, List, [], ◌∷◌, Option, Some, None}
+use Rattle.rb_shared.specs.Lists.{Has, Each}
 use Rattle.shape_core.specs.declared.edge.Edge.{Edge}
 use Rattle.shape_core.specs.declared.edge.Edge.TheVariants.{Add, Widen, Share}
 use Rattle.shape_core.specs.declared.edge.Kind.TheVariants.{IntLoc, AnyLoc}
 use Rattle.shape_core.specs.Path.{Path, places_of, is_shared}
-use Rattle.shape_core.specs.Shape.{Shape, child_of}
+use Rattle.shape_core.specs.Shape.{Shape}
 use Rattle.typed_location.specs.Word.{tagged}
-use Rattle.heap_core.specs.Blocks.{Block, ShapeAt}
+use Rattle.heap_core.specs.Blocks.{Block, ShapeAt, LinkAt}
 use Rattle.heap_core.specs.Moment.{Moment, word}
 
 -- ---- what never changes
@@ -24,6 +24,15 @@ edge_word (Add name AnyLoc) = tagged 2 name.0
 edge_word (Widen name) = tagged 3 name.0
 edge_word Share = 4
 
+-- the class and each name have 32 bits
+abbrev pub IsNarrowEdge : Edge → Type 0
+IsNarrowEdge (Add name kind) = name.0 < 2 ^ 32
+IsNarrowEdge (Widen name) = name.0 < 2 ^ 32
+IsNarrowEdge Share = Unit {0}
+
+abbrev pub IsNarrow : Shape → Type 0
+IsNarrow shape = (shape.class < 2 ^ 32) × Each IsNarrowEdge shape.path
+
 -- parent, edge and place: none of a root; of another, the shape before the edge, and the first place that this has not
 abbrev pub Leads : Moment → ℕ → Path → ℕ → Type 0
 Leads m class [] at = (word m (at + 1) ≡ 0) × (word m (at + 2) ≡ 0) × (word m (at + 3) ≡ 0)
@@ -37,26 +46,23 @@ first_child at = at + 5
 abbrev pub next_sibling : ℕ → ℕ
 next_sibling at = at + 6
 
--- a link is 0, or leads to a child
-abbrev pub LinksChild : List Block → Shape → ℕ → Type 0
-LinksChild bs shape w = (w ≡ 0) ⊎ ((edge : Edge) × Has bs (ShapeAt (child_of shape edge) w))
+-- a link word is 0, or that of a link
+abbrev pub IsLink : List Block → (home link w : ℕ) → Type 0
+IsLink bs home link w = (w ≡ 0) ⊎ ((number : ℕ) × Has bs (LinkAt home link w number))
 
--- roots are siblings, and so are the children of one shape
-abbrev pub SameParent : ℕ → Path → ℕ → Path → Type 0
-SameParent class [] class' [] = Unit {0}
-SameParent class (e ∷ path) class' (f ∷ path') = (class ≡ class') × (path ≡ path')
-SameParent class path class' path' = ⊥
+-- the shape with one edge less, where there is one
+abbrev pub parent_on : ℕ → Path → Option Shape
+parent_on class [] = None
+parent_on class (edge ∷ path) = Some (record { class = class; path = path })
 
-abbrev pub AreSiblings : Shape → Shape → Type 0
-AreSiblings shape other = SameParent shape.class shape.path other.class other.path
-
-abbrev pub LinksSibling : List Block → Shape → ℕ → Type 0
-LinksSibling bs shape w = (w ≡ 0) ⊎ ((other : Shape) × AreSiblings shape other × Has bs (ShapeAt other w))
+abbrev pub parent_of : Shape → Option Shape
+parent_of shape = parent_on shape.class shape.path
 
 -- The rule of a shape.
 pub record ShapeStands (m : Moment) (shape : Shape) (at : ℕ) : Type 0 where
+  pub narrow : IsNarrow shape
   pub tag : word m at ≡ flagged shape.class (is_shared shape.path)
   pub leads : Leads m shape.class shape.path at
   pub count : word m (at + 4) ≡ places_of shape.path
-  pub child : LinksChild m.blocks shape (word m (first_child at))
-  pub sibling : LinksSibling m.blocks shape (word m (next_sibling at))
+  pub child : IsLink m.blocks at (first_child at) (word m (first_child at))
+  pub sibling : IsLink m.blocks at (next_sibling at) (word m (next_sibling at))

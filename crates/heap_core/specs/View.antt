@@ -9,7 +9,7 @@ use Rattle.rb_shared.specs.Store.{globals}
 use Rattle.rb_shared.specs.View.{View, first_view, with_entry, with_refused, split_view, newborn, joined_view}
 use Rattle.heap_core.specs.Places.{tree_lock, first_root, first_shared}
 use Rattle.heap_core.specs.Handing.{Plan, Handed}
-use Rattle.heap_core.specs.Blocks.{Block, ObjectAt, ShapeAt, LockAt, TheTurn}
+use Rattle.heap_core.specs.Blocks.{Block, ObjectAt, ShapeAt, LockAt, TheTurn, LinkAt}
 use Rattle.heap_core.specs.Charges.{globals_shape}
 use Rattle.shape_core.specs.Shape.{Shape, root_of}
 
@@ -58,7 +58,9 @@ pub record Holder : Type 0 where
 
 -- the blocks of the opening
 abbrev pub opening_blocks : List Block
-opening_blocks = ObjectAt globals 0 ∷ TheTurn ∷ LockAt tree_lock ∷ ShapeAt (root_of 4294967295) first_root ∷ ShapeAt globals_shape first_shared ∷ []
+opening_blocks =
+    ObjectAt globals 0 ∷ TheTurn ∷ LockAt tree_lock ∷ ShapeAt (root_of 4294967295) first_root ∷ ShapeAt globals_shape first_shared
+    ∷ LinkAt first_root (first_root + 5) first_shared 0 ∷ []
 
 abbrev pub first_holder : Plan → Holder
 first_holder p = record {
@@ -97,6 +99,10 @@ EndBy os n = (o : Region) → Has os o → o.at + length o.words ≤ n
 abbrev pub InOwn : ℕ → Holder → Type 0
 InOwn i k = (o : Region) × Has k.own o × InRegion i o
 
+-- the pass has the lock of the tree of shapes
+abbrev pub HasTree : Holder → Type 0
+HasTree k = busy_at tree_lock k.doing ≡ Locked
+
 -- how many words a pass owns, or published ahead
 abbrev pub held : Holder → ℕ
 held k = words_in k.own + k.ahead
@@ -122,6 +128,14 @@ with_stored k i x = record k { own = map (stored i x) k.own }
 
 abbrev pub with_busy : Holder → ℕ → Busy → Holder
 with_busy k at b = record k { doing = set_busy (record { at = at; busy = b }) k.doing }
+
+-- blocks are learnt
+abbrev pub with_more : Holder → List Block → Holder
+with_more k bs = record k { blocks = k.blocks ++ bs }
+
+-- A shape is made ahead of its entry: these blocks come, and of its own words these are left.
+abbrev pub with_shape : Holder → List Region → Shape → List Block → Holder
+with_shape k left shape bs = record k { blocks = k.blocks ++ bs; own = left; shapes = shape ∷ k.shapes }
 
 -- the heap had no room for a call
 abbrev pub with_full : Holder → Call → List Item → ℕ → ℕ → Holder

@@ -3,6 +3,7 @@
 ghost use Rattle.std.specs.Prelude.{◌≡◌, true, false};
 ghost use Rattle.heap_core.specs.Blocks.{LockAt};
 ghost use Rattle.heap_core.specs.Heaps.{IsOf, SameHeap, holder};
+ghost use Rattle.heap_core.specs.Locking.{HasLocked};
 ghost use Rattle.heap_core.specs.View.{Idle, Knows, Locked, busy_at, with_busy};
 
 use crate::pass::{Heap, HeapPass};
@@ -30,12 +31,12 @@ impl Tells for GiveLock {
 }
 
 impl<K: Sink> Heap<K> {
-    /// Tries a lock. Whether it is had now.
+    /// Tries a lock. Whether it is had now; then the pass has learnt blocks, those of the tree of shapes where it is the lock of the tree.
     pub fn try_lock(&self, pass: &mut HeapPass, at: u64) -> bool
         requires of { IsOf self.now pass.old }
         requires known { Knows (holder pass.old) (LockAt at) }
         ensures of { SameHeap pass.old pass.new }
-        ensures had { result ≡ true → holder pass.new ≡ with_busy (holder pass.old) at Locked }
+        ensures had { result ≡ true → HasLocked at (holder pass.old) (holder pass.new) }
         ensures not_had { result ≡ false → holder pass.new ≡ holder pass.old }
     {
         self.compare_exchange::<TryLock>(pass, at, 0, 1) == 0
@@ -46,7 +47,7 @@ impl<K: Sink> Heap<K> {
         requires of { IsOf self.now pass.old }
         requires known { Knows (holder pass.old) (LockAt at) }
         ensures of { SameHeap pass.old pass.new }
-        ensures had { holder pass.new ≡ with_busy (holder pass.old) at Locked }
+        ensures had { HasLocked at (holder pass.old) (holder pass.new) }
     {
         let backoff = Backoff::new();
         'tries: for _ in rt.forever() {
