@@ -13,7 +13,7 @@ use Rattle.shared_run.specs.Run as runs
 use Rattle.shared_run.proofs.Events.{has_either}
 use Rattle.shared_run.proofs.Knowing.{maker_knows, newborn_knows, joined_knows}
 use Rattle.heap_core.specs.Handing.{Plan, Handed, Slot}
-use Rattle.heap_core.specs.Places.{used_word, turn_word}
+use Rattle.heap_core.specs.Places.{turn_word}
 use Rattle.heap_core.specs.Blocks.{Block, home_of, IsOfTree, words_of_shapes}
 use Rattle.heap_core.specs.View.{words_in, Holder, Idle, Locked, Turned, Knows, HasTree, AtRest, held, maker, child, child_of, joined, spent_holder, busy_at}
 use Rattle.heap_core.specs.Moment.{At}
@@ -103,6 +103,7 @@ module _ (plan : Plan) where
             tree = tree_in plan s r (set s.views id (maker k) ++ child_of (Some n) k ∷ []) (each_two (λ j u. u.live ≡ true → HasTree u → (c : Block) → Has r.blocks c → IsOfTree c → Knows u c) s.views id (maker k) (child_of (Some n) k)
                 (r.tree id k at) (λ _ has. absurd (idle_locked has)) (λ j u _ a. r.tree j u a));
             linked = λ shape place h. absurd h;
+            once = λ home link to number h. absurd h;
             spare = let more = owned_snoc (set s.views id (maker k)) (child_of (Some n) k) in let owns = owned_set s.views id k (maker k) at in omega (arith, more, owns);
             few = λ home link to number h. absurd h;
             deep = λ shape place h. absurd h;
@@ -172,6 +173,7 @@ module _ (plan : Plan) where
         tree = tree_in plan s r (set (set s.views id (joined k u)) other spent_holder) (each_both (λ j x. x.live ≡ true → HasTree x → (c : Block) → Has r.blocks c → IsOfTree c → Knows x c) s.views id other (joined k u) spent_holder
             (λ _ has c h t. has_front k.blocks u.blocks c (r.tree id k at live has c h t)) (λ e. absurd (true≢false (sym e))) (λ j x _ _ a. r.tree j x a));
         linked = λ shape place h. absurd h;
+        once = λ home link to number h. absurd h;
         spare = let one = owned_set s.views id k (joined k u) at in let two = owned_set (set s.views id (joined k u)) other u spent_holder there in let none_own = ap words_in rests.0 in omega (arith, one, two, none_own);
         few = λ home link to number h. absurd h;
         deep = λ shape place h. absurd h;
