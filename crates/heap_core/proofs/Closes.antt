@@ -73,6 +73,7 @@ module _ (plan : Plan) (s : State Slot Holder) (r : Kept plan s) (id : ℕ) (k :
         tree = tree_stays s r id k w seat live (λ c h. h) refl;
         grows = λ c h. absurd h;
         linked = λ shape place h. absurd h;
+        once = λ home link to number h. absurd h;
         few = λ home link to number h. absurd h;
         deep = λ shape place h. absurd h;
         shapes_on = λ shape h. h;

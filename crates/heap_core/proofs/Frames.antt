@@ -126,6 +126,11 @@ pub joins_home : (bs : List Block) (home link to number : ℕ) → Joins bs home
 joins_home bs home link to zero j = let e = j.0 in (j.1.0, j.1.2, omega (arith, e), omega (arith, e))
 joins_home bs home link to (suc n) j = let e = j.0 in (j.2.0, j.2.2, omega (arith, e), omega (arith, e))
 
+-- and a shape is where it leads
+pub joins_end : (bs : List Block) (home link to number : ℕ) → Joins bs home link to number → (shape : Shape) × Has bs (ShapeAt shape to)
+joins_end bs home link to zero j = (j.1.1, j.1.3)
+joins_end bs home link to (suc n) j = (j.2.1, j.2.3)
+
 -- ---- each kind
 
 module _ (m m' : Moment) where

@@ -1,5 +1,5 @@
 -- Looking at the words of a shape, and making a shape, keep the law.
-use Rattle.std.proofs.Common.{◌≡◌, ◌≤◌, ◌<◌, ◌⊎◌, ◌-◌, ℕ, zero, suc, ◌+◌, ◌*◌, true, List, [], ◌∷◌, ◌++◌, length, set, get_or, None, refl, sym, ap, ◌∙◌, subst, inl, inr, ⊎_elim, arith, append-nil, get_or-set_other}
+use Rattle.std.proofs.Common.{◌≡◌, ◌≤◌, ◌<◌, ◌⊎◌, ◌-◌, ℕ, zero, suc, ◌+◌, ◌*◌, true, List, [], ◌∷◌, ◌++◌, length, set, get_or, Some, None, refl, sym, ap, ◌∙◌, subst, inl, inr, ⊎_elim, arith, append-nil, get_or-set_other}
 use Rattle.std.proofs.lemmas.List.{set-get_or, get_or-set_same}
 use mathlib.Core.Logic.{dite}
 use native.Mathlib.Decide.{ℕ_discrete}
@@ -20,7 +20,7 @@ use Rattle.heap_core.specs.Moment.{Moment, At, word}
 use Rattle.heap_core.specs.Rule.{Stands, Kept, moment, owned}
 use Rattle.heap_core.specs.Telling.{MayLoad, MayStore}
 use Rattle.heap_core.specs.View.{Region, Holder, Idle, InOwn, Knows, busy_at, held, words_in, with_more}
-use Rattle.heap_core.proofs.Frames.{Among, is_link_on, nth_among, joins_among, stands_frame}
+use Rattle.heap_core.proofs.Frames.{Among, is_link_on, nth_among, joins_among, joins_end, stands_frame}
 use Rattle.heap_core.proofs.Holders.{each_set, keeps_set}
 use Rattle.heap_core.proofs.Learning.{fits_more, blocks_fit}
 use Rattle.heap_core.proofs.Owes.{whole}
@@ -35,15 +35,24 @@ pub tree_is : (plan : Plan) (s : State Slot Holder) (r : Kept plan s) (size : �
 tree_is plan s r size long = record {
   root = r.root;
   linked = r.linked;
+  up = λ shape at parent h is. up_of shape.class shape.path at parent (r.each (ShapeAt shape at) h).leads is;
   joins = λ home link to number h. (r.each (LinkAt home link to number) h).2;
   one_end = λ home home' link to to' n n' h g. sym (r.each (LinkAt home link to n) h).0 ∙ (r.each (LinkAt home' link to' n') g).0;
   one_shape = r.one_shape;
   one_at = λ shape other at h g. ap shape_in (r.laid.apart at (ShapeAt shape at) (ShapeAt other at) h g (omega arith, omega arith) (omega arith, omega arith));
+  once = r.once;
   few = λ number at nth. let le = r.few number at nth in let top = r.laid.used_in in omega (arith, le, top, long);
   deep = λ shape at h. let le = r.deep shape at h in let top = r.laid.used_in in omega (arith, le, top, long);
   narrow = λ shape at h. (r.each (ShapeAt shape at) h).narrow;
 }
   where
+    some_is : (a b : Shape) → Some a ≡ Some b → a ≡ b
+    some_is a b e = cc
+
+    up_of : (class : ℕ) (path : Path) (at : ℕ) (parent : Shape) → Leads (moment plan s r.run r.lines r.blocks) class path at → parent_of (record { class = class; path = path }) ≡ Some parent → (to : ℕ) × Has r.blocks (ShapeAt parent to)
+    up_of class [] at parent l is = absurd (let h : None ≡ Some parent = is in cc)
+    up_of class (e ∷ path) at parent l is = (get_or s.words (at + 1) 0, subst (λ x. Has r.blocks (ShapeAt x (get_or s.words (at + 1) 0))) (some_is (record { class = class; path = path }) parent is) l.0)
+
     shape_in : Block → Shape
     shape_in (ShapeAt shape at) = shape
     shape_in b = root_of 0
@@ -53,10 +62,12 @@ tree_among : (size : ℕ) (bs cs : List Block) → Among bs cs → Among cs bs �
 tree_among size bs cs to back t = record {
   root = to (ShapeAt (root_of 4294967295) first_root) t.root;
   linked = λ shape at h. let n = t.linked shape at (back (ShapeAt shape at) h) in (n.0, nth_among bs cs to n.0 at n.1);
+  up = λ shape at parent h is. let p = t.up shape at parent (back (ShapeAt shape at) h) is in (p.0, to (ShapeAt parent p.0) p.1);
   joins = λ home link end number h. joins_among bs cs to home link end number (t.joins home link end number (back (LinkAt home link end number) h));
   one_end = λ home home' link end end' n n' h g. t.one_end home home' link end end' n n' (back (LinkAt home link end n) h) (back (LinkAt home' link end' n') g);
   one_shape = λ shape at end h g. t.one_shape shape at end (back (ShapeAt shape at) h) (back (ShapeAt shape end) g);
   one_at = λ shape other at h g. t.one_at shape other at (back (ShapeAt shape at) h) (back (ShapeAt other at) g);
+  once = λ number other at nth also. t.once number other at (nth_among cs bs back number at nth) (nth_among cs bs back other at also);
   few = λ number at nth. t.few number at (nth_among cs bs back number at nth);
   deep = λ shape at h. t.deep shape at (back (ShapeAt shape at) h);
   narrow = λ shape at h. t.narrow shape at (back (ShapeAt shape at) h);
@@ -112,6 +123,7 @@ module _ (plan : Plan) (s : State Slot Holder) (r : Kept plan s) (id : ℕ) (k :
     tree = λ has c h t. knows_all c h;
     grows = λ c h. absurd h;
     linked = λ shape place h. absurd h;
+    once = λ home link to number h. absurd h;
     few = λ home link to number h. absurd h;
     deep = λ shape place h. absurd h;
     shapes_on = λ shape h. h;
@@ -177,6 +189,10 @@ shape_in b = root_of 0
 abbrev AreLink : Block → Type 0
 AreLink (LinkAt home link to number) = Unit {0}
 AreLink b = ⊥
+
+abbrev to_in : Block → ℕ
+to_in (LinkAt home link to number) = to
+to_in b = 0
 
 abbrev number_in : Block → ℕ
 number_in (LinkAt home link to number) = number
@@ -360,6 +376,16 @@ module _ (plan : Plan) (s : State Slot Holder) (r : Kept plan s) (id : ℕ) (k :
   path_room class [] up = none_less
   path_room class (e ∷ path) up = let old = r.deep (record { class = class; path = path }) parent (r.known id k (ShapeAt (record { class = class; path = path }) parent) seat up) in omega (arith, old, held_less)
 
+  -- no other link leads to it
+  only_number : (other : ℕ) → IsNth (r.blocks ++ blocks_of g) other g.to → g.number ≡ other
+  only_number other (inl first) = let low = (r.laid.own_in id k region seat has_region).0 in let is = first.1 in absurd (omega (arith, low, is))
+  only_number other (inr p) = ⊎_elim
+      (λ (was : Has r.blocks (LinkAt p.0 p.1 g.to other)).
+      let end = joins_end r.blocks p.0 p.1 g.to other (r.each (LinkAt p.0 p.1 g.to other) was).2 in
+      absurd (r.laid.beside g.to id k (ShapeAt end.0 g.to) seat end.1 (region, has_region, (let z : g.to ≤ g.to = omega arith in z, omega (arith, long))) (place_inside (ShapeAt end.0 g.to))))
+      (λ (come : Has (blocks_of g) (LinkAt p.0 p.1 g.to other)). sym (come_each (λ b. AreLink b → number_in b ≡ g.number) (λ x. absurd x) (λ _. refl) (LinkAt p.0 p.1 g.to other) come tt))
+      (has_either r.blocks (blocks_of g) (LinkAt p.0 p.1 g.to other) p.2)
+
   grow_step : Kept plan state'
   grow_step = quiet_step plan s r s.homes id k grown g.link g.to (ShapeAt before g.home) seat live live refl refl here inside (blocks_of g) record {
     note = note_same k.view k.view refl;
@@ -387,6 +413,7 @@ module _ (plan : Plan) (s : State Slot Holder) (r : Kept plan s) (id : ℕ) (k :
     tree = λ has b h t. has_front k.blocks (blocks_of g) b (r.tree id k seat live has b h t);
     grows = λ b h t. (c.has, has_behind k.blocks (blocks_of g) b h);
     linked = λ shape place h. come_each (λ b. IsShape b → (number : ℕ) × IsNth (r.blocks ++ blocks_of g) number (place_of b)) (λ _. (g.number, inr (g.home, g.link, new_link))) (λ x. absurd x) (ShapeAt shape place) h tt;
+    once = λ home link to number h. come_each (λ b. AreLink b → (other : ℕ) → IsNth (r.blocks ++ blocks_of g) other (to_in b) → number_in b ≡ other) (λ x. absurd x) (λ _ other nth. only_number other nth) (LinkAt home link to number) h tt;
     few = λ home link to number h. come_each (λ b. AreLink b → Room (number_in b)) (λ x. absurd x) (λ _. row_room g.number c.joins) (LinkAt home link to number) h tt;
     deep = λ shape place h. come_each (λ b. IsShape b → Room (length (shape_in b).path)) (λ _. path_room g.shape.class g.shape.path c.up) (λ x. absurd x) (ShapeAt shape place) h tt;
     shapes_on = λ shape h. inr h;

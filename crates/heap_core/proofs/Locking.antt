@@ -62,6 +62,7 @@ module _ (plan : Plan) (s : State Slot Holder) (r : Kept plan s) (id : ℕ) (k :
         (λ ne. has_front k.blocks bs c (r.tree id k seat live (sym (busy_else at busy tree_lock k.doing ne) ∙ has) c h t));
     grows = λ c h. absurd h;
     linked = λ shape place h. absurd h;
+    once = λ home link to number h. absurd h;
     few = λ home link to number h. absurd h;
     deep = λ shape place h. absurd h;
     shapes_on = λ shape h. h;

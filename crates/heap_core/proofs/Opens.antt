@@ -23,6 +23,7 @@ use Rattle.heap_core.specs.Moment.{Moment, At}
 use Rattle.heap_core.specs.Locks.{LockStands}
 use Rattle.heap_core.specs.Objects.{object_tag, shape_of}
 use Rattle.heap_core.specs.Shapes.{flagged, edge_word, first_child}
+use Rattle.heap_core.specs.Links.{IsNth}
 use Rattle.heap_core.specs.Opening.{IsOpening, IsFirst, globals_class, laid_in, first_lines, first_table}
 use Rattle.heap_core.specs.Turns.{Any, LinesTell}
 use Rattle.heap_core.specs.Rule.{Stands, Kept, LiesIn, Below, moment, taken_count}
@@ -216,6 +217,11 @@ number_in b = 0
 only_link : (home link to number : ℕ) → Has opening_blocks (LinkAt home link to number) → number ≡ 0
 only_link home link to number h = first_each (λ b. number_in b ≡ 0) refl refl refl refl refl refl (LinkAt home link to number) h
 
+-- each is the first of its row
+first_number : (number at : ℕ) → IsNth opening_blocks number at → number ≡ 0
+first_number number at (inl first) = first.0
+first_number number at (inr p) = only_link p.0 p.1 at number p.2
+
 two_shapes : (shape : Shape) → shape ≡ root_of globals_class → shape ≡ globals_shape → ⊥
 two_shapes shape p q = let h : [] ≡ Share ∷ [] = ap (λ (x : Shape). x.path) (sym p ∙ q) in cc
 
@@ -316,10 +322,8 @@ starts ws what p lines_are sink_is none_started fine some_slots some_words size 
       (λ (x : (shape ≡ root_of globals_class) × (at ≡ first_root)). (0, inl (refl, x.1)))
       (λ (x : (shape ≡ globals_shape) × (at ≡ first_shared)). (0, inr (first_root, first_root + 5, subst (λ to. Has opening_blocks (LinkAt first_root (first_root + 5) to 0)) (sym x.1) first_link)))
       (first_shapes shape at h);
-  few = λ number at nth. ⊎_elim
-      (λ (first : (number ≡ 0) × (at ≡ first_root)). let n = first.0 in omega (arith, n, used))
-      (λ (p : (home : ℕ) × (link : ℕ) × Has opening_blocks (LinkAt home link at number)). let n = only_link p.0 p.1 at number p.2 in omega (arith, n, used))
-      nth;
+  once = λ number other at nth also. first_number number at nth ∙ sym (first_number other at also);
+  few = λ number at nth. let n = first_number number at nth in omega (arith, n, used);
   deep = λ shape at h. ⊎_elim
       (λ (x : (shape ≡ root_of globals_class) × (at ≡ first_root)). let n = ap (λ (y : Shape). length y.path) x.0 in omega (arith, n, used))
       (λ (x : (shape ≡ globals_shape) × (at ≡ first_shared)). let n = ap (λ (y : Shape). length y.path) x.0 in omega (arith, n, used))

@@ -69,6 +69,7 @@ module _ (plan : Plan) (s : State Slot Holder) (r : Kept plan s) (ws' : List ℕ
     pub one : (id : Id) (b c : Block) → Has added b → Has (r.blocks ++ added) c → id_of b ≡ Some id → id_of c ≡ Some id → b ≡ c
     pub tree : (j : ℕ) (k : Holder) → At views' j k → k.live ≡ true → HasTree k → (b : Block) → Has (r.blocks ++ added) b → IsOfTree b → Knows k b
     pub linked : (shape : Shape) (at : ℕ) → Has added (ShapeAt shape at) → (number : ℕ) × IsNth (r.blocks ++ added) number at
+    pub once : (home link to number : ℕ) → Has added (LinkAt home link to number) → (other : ℕ) → IsNth (r.blocks ++ added) other to → number ≡ other
     -- the words that nobody owns grow no fewer, and there is room for a row and a path that come
     pub spare : owned views' + get_or s.words used_word 0 ≤ owned s.views + get_or ws' used_word 0
     pub few : (home link to number : ℕ) → Has added (LinkAt home link to number) → shape_words * number + owned views' ≤ get_or ws' used_word 0
@@ -93,6 +94,25 @@ module _ (plan : Plan) (s : State Slot Holder) (r : Kept plan s) (ws' : List ℕ
   either_way : (b : Bool) → (b ≡ true) ⊎ (b ≡ false)
   either_way true = inl refl
   either_way false = inr refl
+
+  -- a shape has one number
+  one_number : (o : Owes) (number other at : ℕ) → IsNth (r.blocks ++ o.added) number at → IsNth (r.blocks ++ o.added) other at → number ≡ other
+  one_number o number other at (inl a) (inl b) = a.0 ∙ sym b.0
+  one_number o number other at (inl a) (inr q) = ⊎_elim
+      (λ (was : Has r.blocks (LinkAt q.0 q.1 at other)). r.once number other at (inl a) (inr (q.0, q.1, was)))
+      (λ (new : Has o.added (LinkAt q.0 q.1 at other)). sym (o.once q.0 q.1 at other new number (inl a)))
+      (has_either r.blocks o.added (LinkAt q.0 q.1 at other) q.2)
+  one_number o number other at (inr p) (inl b) = ⊎_elim
+      (λ (was : Has r.blocks (LinkAt p.0 p.1 at number)). r.once number other at (inr (p.0, p.1, was)) (inl b))
+      (λ (new : Has o.added (LinkAt p.0 p.1 at number)). o.once p.0 p.1 at number new other (inl b))
+      (has_either r.blocks o.added (LinkAt p.0 p.1 at number) p.2)
+  one_number o number other at (inr p) (inr q) = ⊎_elim
+      (λ (old : Has r.blocks (LinkAt p.0 p.1 at number)). ⊎_elim
+      (λ (was : Has r.blocks (LinkAt q.0 q.1 at other)). r.once number other at (inr (p.0, p.1, old)) (inr (q.0, q.1, was)))
+      (λ (new : Has o.added (LinkAt q.0 q.1 at other)). sym (o.once q.0 q.1 at other new number (inr p)))
+      (has_either r.blocks o.added (LinkAt q.0 q.1 at other) q.2))
+      (λ (new : Has o.added (LinkAt p.0 p.1 at number)). o.once p.0 p.1 at number new other (inr q))
+      (has_either r.blocks o.added (LinkAt p.0 p.1 at number) p.2)
 
   pub owes_kept : Owes → Kept plan (whole ws' hs' views')
   owes_kept o = record {
@@ -133,6 +153,7 @@ module _ (plan : Plan) (s : State Slot Holder) (r : Kept plan s) (ws' : List ℕ
         (λ (old : Has r.blocks (ShapeAt shape at)). let n = r.linked shape at old in (n.0, nth_among r.blocks (r.blocks ++ o.added) (λ c h. has_front r.blocks o.added c h) n.0 at n.1))
         (λ (new : Has o.added (ShapeAt shape at)). o.linked shape at new)
         (has_either r.blocks o.added (ShapeAt shape at) has);
+    once = one_number o;
     few = λ number at nth. ⊎_elim
         (λ (first : (number ≡ 0) × (at ≡ first_root)). let old = r.few number at (inl first) in let spare = o.spare in omega (arith, old, spare))
         (λ (p : (home : ℕ) × (link : ℕ) × Has (r.blocks ++ o.added) (LinkAt home link at number)). ⊎_elim

@@ -103,6 +103,7 @@ module _ (plan : Plan) where
         tree = tree_in plan s r (set s.views id (maker k) ++ w ∷ []) (each_two (λ j u. u.live ≡ true → HasTree u → (b : Block) → Has r.blocks b → IsOfTree b → Knows u b) s.views id (maker k) w
             (r.tree id k at) (λ _ has. absurd (idle_locked (sym (c.idle tree_lock) ∙ has))) (λ j u _ a. r.tree j u a));
         linked = λ shape place h. absurd h;
+        once = λ home link to number h. absurd h;
         spare = let more = owned_snoc (set s.views id (maker k)) w in let owns = owned_set s.views id k (maker k) at in let none_held = c.held in omega (arith, more, owns, none_held);
         few = λ home link to number h. absurd h;
         deep = λ shape place h. absurd h;
@@ -214,6 +215,7 @@ module _ (plan : Plan) where
         tree = tree_in plan s r (set (set s.views id (joined k u)) other spent_holder) (each_both (λ j x. x.live ≡ true → HasTree x → (c : Block) → Has r.blocks c → IsOfTree c → Knows x c) s.views id other (joined k u) spent_holder
             (λ _ has c h t. has_front k.blocks u.blocks c (r.tree id k at live has c h t)) (λ e. absurd (true≢false (sym e))) (λ j x _ _ a. r.tree j x a));
         linked = λ shape place h. absurd h;
+        once = λ home link to number h. absurd h;
         spare = let one = owned_set s.views id k (joined k u) at in let two = owned_set (set s.views id (joined k u)) other u spent_holder there in let none_own = ap words_in rests.0 in omega (arith, one, two, none_own);
         few = λ home link to number h. absurd h;
         deep = λ shape place h. absurd h;

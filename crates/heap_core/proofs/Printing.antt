@@ -156,6 +156,7 @@ module _ (plan : Plan) (s : State Slot Holder) (r : Kept plan s) (id : ℕ) (k :
         one = λ y c d n. absurd n;
         tree = tree_in plan s r (set s.views id k') (each_set (λ j u. u.live ≡ true → HasTree u → (c : Block) → Has r.blocks c → IsOfTree c → Knows u c) s.views id k' (λ _. tree_stays s r id k k' seat live (λ c q. q) (else_same tree_lock k refl)) (λ j u _ a. r.tree j u a));
         linked = λ shape place h. absurd h;
+        once = λ home link to number h. absurd h;
         spare = let owns = owned_set s.views id k k' seat in omega (arith, owns, used);
         few = λ home link to number h. absurd h;
         deep = λ shape place h. absurd h;

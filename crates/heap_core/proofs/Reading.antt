@@ -106,6 +106,7 @@ module _ (plan : Plan) (s : State Slot Holder) (r : Kept plan s) (id : ℕ) (k k
         one = λ y d f h. absurd h;
         tree = tree_in plan s r (set s.views id k') (each_set (λ j u. u.live ≡ true → HasTree u → (c : Block) → Has r.blocks c → IsOfTree c → Knows u c) s.views id k' (λ _. c.tree) (λ j u _ a. r.tree j u a));
         linked = λ shape place h. absurd h;
+        once = λ home link to number h. absurd h;
         spare = let owns = owned_set s.views id k k' at in let own = ap words_in c.own in let ahead = c.ahead in omega (arith, owns, own, ahead, used);
         few = λ home link to number h. absurd h;
         deep = λ shape place h. absurd h;

@@ -174,6 +174,7 @@ module _ (plan : Plan) (s : State Slot Holder) (r : Kept plan s) (hs' : Homes) (
     pub tree : HasTree k' → (c : Block) → Has r.blocks c → IsOfTree c → Knows k' c
     pub grows : (c : Block) → Has added c → IsOfTree c → HasTree k × Knows k' c
     pub linked : (shape : Shape) (place : ℕ) → Has added (ShapeAt shape place) → (number : ℕ) × IsNth (r.blocks ++ added) number place
+    pub once : (home link to number : ℕ) → Has added (LinkAt home link to number) → (other : ℕ) → IsNth (r.blocks ++ added) other to → number ≡ other
     pub few : (home link to number : ℕ) → Has added (LinkAt home link to number) → HasRoom number
     pub deep : (shape : Shape) (place : ℕ) → Has added (ShapeAt shape place) → HasRoom (length shape.path)
     pub shapes_on : (shape : Shape) → Has k.shapes shape → Has k'.shapes shape
@@ -221,6 +222,7 @@ module _ (plan : Plan) (s : State Slot Holder) (r : Kept plan s) (hs' : Homes) (
         one = λ y c d hc hd ic id. absurd (let none_is = q.no_thing c hc in let h : None ≡ Some y = sym none_is ∙ ic in cc);
         tree = tree_set added q.tree (λ c h t. (q.grows c h t).1) (λ j u ne a l has c h t. ne (sole_holder j id u k a at l live has (q.grows c h t).0));
         linked = q.linked;
+        once = q.once;
         spare = let owns = owned_set s.views id k k' at in let c = q.counted in omega (arith, owns, c, used);
         few = λ home link to number h. let owns = owned_set s.views id k k' at in let le = q.few home link to number h in omega (arith, owns, le, used);
         deep = λ shape place h. let owns = owned_set s.views id k k' at in let le = q.deep shape place h in omega (arith, owns, le, used);
@@ -386,6 +388,7 @@ module _ (plan : Plan) (s : State Slot Holder) (r : Kept plan s) (hs' : Homes) (
               (has_either r.blocks added f hf);
           tree = tree_set added c.tree (λ d h t. absurd (c.no_tree d h t)) (λ j u ne a l has d h t. c.no_tree d h t);
           linked = λ shape place h. absurd (c.no_tree (ShapeAt shape place) h tt);
+          once = λ home link to number h. absurd (c.no_tree (LinkAt home link to number) h tt);
           spare = let owns = owned_set s.views id k k' at in let none_ahead = c.ahead in omega (arith, owns, none_ahead, count, used);
           few = λ home link to number h. absurd (c.no_tree (LinkAt home link to number) h tt);
           deep = λ shape place h. absurd (c.no_tree (ShapeAt shape place) h tt);

@@ -180,6 +180,7 @@ module _ (plan : Plan) (s : State Slot Holder) (r : Kept plan s) (id : ℕ) (k k
         one = λ y b c h. absurd h;
         tree = tree_in plan s r (set s.views id k') (each_set (λ j u. u.live ≡ true → HasTree u → (c : Block) → Has r.blocks c → IsOfTree c → Knows u c) s.views id k' (λ _. λ has c h t. subst (λ bs. Has bs c) (sym o.blocks) (r.tree id k at live (ap (busy_at tree_lock) (sym o.doing) ∙ has) c h t)) (λ j u _ a. r.tree j u a));
         linked = λ shape place h. absurd h;
+        once = λ home link to number h. absurd h;
         spare = let owns = owned_set s.views id k k' at in let counted = o.counted in let ahead = o.ahead in omega (arith, owns, counted, ahead);
         few = λ home link to number h. absurd h;
         deep = λ shape place h. absurd h;

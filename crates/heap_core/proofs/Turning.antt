@@ -63,6 +63,7 @@ module _ (plan : Plan) (s : State Slot Holder) (r : Kept plan s) (id : ℕ) (k :
     tree = tree_stays s r id k (with_busy k turn_word busy) seat live (λ c h. h) (busy_else turn_word busy tree_lock k.doing (λ is. let z : 16 ≡ 15 = is in omega (arith, z)));
     grows = λ c h. absurd h;
     linked = λ shape place h. absurd h;
+    once = λ home link to number h. absurd h;
     few = λ home link to number h. absurd h;
     deep = λ shape place h. absurd h;
     shapes_on = λ shape h. h;

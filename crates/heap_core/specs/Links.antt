@@ -27,8 +27,11 @@ pub record IsTree (size : ℕ) (bs : List Block) : Type 0 where
   -- the root of the globals is the first root
   pub root : Has bs (ShapeAt (root_of 4294967295) first_root)
   pub linked : (shape : Shape) (at : ℕ) → Has bs (ShapeAt shape at) → (number : ℕ) × IsNth bs number at
+  -- the shape with one edge less is there
+  pub up : (shape : Shape) (at : ℕ) (parent : Shape) → Has bs (ShapeAt shape at) → parent_of shape ≡ Some parent → (to : ℕ) × Has bs (ShapeAt parent to)
   pub joins : (home link to number : ℕ) → Has bs (LinkAt home link to number) → Joins bs home link to number
-  -- a link word leads to one shape, a shape is at one place, and a place is one shape's
+  -- a shape has one number, a link word leads to one shape, a shape is at one place, and a place is one shape's
+  pub once : (number other at : ℕ) → IsNth bs number at → IsNth bs other at → number ≡ other
   pub one_end : (home home' link to to' n n' : ℕ) → Has bs (LinkAt home link to n) → Has bs (LinkAt home' link to' n') → to ≡ to'
   pub one_shape : (shape : Shape) (at to : ℕ) → Has bs (ShapeAt shape at) → Has bs (ShapeAt shape to) → at ≡ to
   pub one_at : (shape other : Shape) (at : ℕ) → Has bs (ShapeAt shape at) → Has bs (ShapeAt other at) → shape ≡ other

@@ -131,9 +131,10 @@ pub record Kept (plan : Plan) (s : State Slot Holder) : Type 0 where
   -- and the lock of the tree of shapes; the pass that has it knows the whole tree
   pub lock : Has blocks (LockAt tree_lock)
   pub tree : (j : ℕ) (k : Holder) → At s.views j k → k.live ≡ true → HasTree k → (b : Block) → Has blocks b → IsOfTree b → Knows k b
-  -- there is the first root, each shape is the first root or a link leads to it, and no row or path is longer than there is room for shapes
+  -- there is the first root, each shape is the first root or one link leads to it, and no row or path is longer than there is room for shapes
   pub root : Has blocks (ShapeAt (root_of 4294967295) first_root)
   pub linked : (shape : Shape) (at : ℕ) → Has blocks (ShapeAt shape at) → (number : ℕ) × IsNth blocks number at
+  pub once : (number other at : ℕ) → IsNth blocks number at → IsNth blocks other at → number ≡ other
   pub few : (number at : ℕ) → IsNth blocks number at → shape_words * number + owned s.views ≤ get_or s.words used_word 0
   pub deep : (shape : Shape) (at : ℕ) → Has blocks (ShapeAt shape at) → shape_words * length shape.path + owned s.views ≤ get_or s.words used_word 0
   -- a part has what it is a part of
