@@ -18,3 +18,8 @@ pub mod Turning
 pub mod Printing
 pub mod Owning
 pub mod Ending
+pub mod Lines
+pub mod Absent
+pub mod Seating
+pub mod Starting
+pub mod Laying

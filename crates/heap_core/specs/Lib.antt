@@ -23,4 +23,5 @@ pub mod Locking
 pub mod Turning
 pub mod Owning
 pub mod Ending
+pub mod Starting
 pub mod Heaps
