@@ -15,7 +15,7 @@ use Rattle.shared_run.proofs.Closing.{all_ended, open_hides, refusals_have, show
 use Rattle.heap_core.specs.Places.{turn_word, used_word}
 use Rattle.heap_core.specs.Handing.{Plan, Handed, Slot, Homes}
 use Rattle.heap_core.specs.Blocks.{TheTurn}
-use Rattle.heap_core.specs.View.{Holder, maker, with_front}
+use Rattle.heap_core.specs.View.{Holder, maker, showing}
 use Rattle.heap_core.specs.Moment.{At}
 use Rattle.heap_core.specs.Turns.{Any, HasNone, Free, Taken}
 use Rattle.heap_core.specs.Rule.{Stands, Below, Kept, moment}
@@ -42,10 +42,10 @@ module _ (plan : Plan) (s : State Slot Holder) (r : Kept plan s) (id : ℕ) (k :
   free_at_last = ⊎_elim (λ f. f) (λ (t : Taken (moment plan s r.run r.lines r.blocks)). absurd (open_hides plan.slots r.run t.who.view (r.knows t.holder t.who t.there t.live) t.going history all_over)) (r.each TheTurn r.turn)
 
   -- the history is shown to the pass of the main thread, with the turn word as it is
-  front_kept : Kept plan (whole (set s.words turn_word (get_or s.words turn_word 0)) s.homes (set s.views id (with_front k history)))
+  front_kept : Kept plan (whole (set s.words turn_word (get_or s.words turn_word 0)) s.homes (set s.views id (showing k history)))
   front_kept =
       let f = free_at_last in
-      let w : Holder = with_front k history in
+      let w : Holder = showing k history in
       let n : ℕ = get_or s.words turn_word 0 in
       quiet_step plan s r s.homes id k w turn_word n TheTurn seat live live refl refl r.turn (place_inside TheTurn) [] record {
         note = note_same k.view k.view refl;
@@ -103,7 +103,7 @@ module _ (plan : Plan) (s : State Slot Holder) (r : Kept plan s) (id : ℕ) (k :
 pub shows_history : (plan : Plan) (count id : ℕ) (me : Me Slot Holder) → me.0.live ≡ true → me.0.view.thread ≡ 0 → me.0.view.ended ≡ true → AllGathered (known_logs me.0.view)
     → Allows (Kept plan) count id me turn_word (λ n. n) (λ _ m'. ShowsNow me m')
 shows_history plan count id me live main over gathered s r size seat small = (
-  with_front me.0 (history plan s r id me.0 seat live main over gathered),
+  showing me.0 (history plan s r id me.0 seat live main over gathered),
   keeps,
   tt,
   front_kept plan s r id me.0 seat live main over gathered,
@@ -111,17 +111,17 @@ shows_history plan count id me live main over gathered s r size seat small = (
 )
 
 -- there is one slot
-pub one_slot : (plan : Plan) (ws : List ℕ) (xs : List Slot) (id : ℕ) (k k0 : Holder) (h : History) → k ≡ maker (with_front k0 h) → Final (Seen (Kept plan) id k) ws xs → k0.live ≡ true → k0.view.thread ≡ 0 → k0.view.ended ≡ true → AllGathered (known_logs k0.view) → length xs ≡ 1
+pub one_slot : (plan : Plan) (ws : List ℕ) (xs : List Slot) (id : ℕ) (k k0 : Holder) (h : History) → k ≡ maker (showing k0 h) → Final (Seen (Kept plan) id k) ws xs → k0.live ≡ true → k0.view.thread ≡ 0 → k0.view.ended ≡ true → AllGathered (known_logs k0.view) → length xs ≡ 1
 one_slot plan ws xs id k k0 h same f live main over gathered =
-    let free = free_at_last plan f.0 f.1.0 id (maker (with_front k0 h)) (subst (At f.0.views id) same f.1.1) live main over gathered in
+    let free = free_at_last plan f.0 f.1.0 id (maker (showing k0 h)) (subst (At f.0.views id) same f.1.1) live main over gathered in
     sym f.3 ∙ ap (λ (hs : Homes). length hs) free.home
 
 -- what the slot has at the close, of the seat from which the front was split
-pub closes_with : (plan : Plan) (ws : List ℕ) (xs : List Slot) (id : ℕ) (k k0 : Holder) (y : Slot) (h : History) (words : ℕ) → k ≡ maker (with_front k0 h) → Final (Seen (Kept plan) id k) ws xs → get_elem? xs 0 ≡ some y
+pub closes_with : (plan : Plan) (ws : List ℕ) (xs : List Slot) (id : ℕ) (k k0 : Holder) (y : Slot) (h : History) (words : ℕ) → k ≡ maker (showing k0 h) → Final (Seen (Kept plan) id k) ws xs → get_elem? xs 0 ≡ some y
     → k0.live ≡ true → k0.view.thread ≡ 0 → k0.view.ended ≡ true → AllGathered (known_logs k0.view) → k0.size ≡ words → (what : Handed) × (y ≡ Some what) × SinkClosed (Overflows words) plan.begun what.sink h
 closes_with plan ws xs id k k0 y h words same f at live main over gathered size =
     let s = f.0 in
-    let w : Holder = maker (with_front k0 h) in
+    let w : Holder = maker (showing k0 h) in
     let c = closed_now plan s f.1.0 id w (subst (At s.views id) same f.1.1) live main over gathered h refl in
     let there : get_elem? xs 0 ≡ some (Some c.0) = f.4 0 (Some c.0) (ap (λ hs. get_elem? hs 0) c.1) in
     (c.0, some-injective y (Some c.0) (sym at ∙ there), subst (λ n. SinkClosed (Overflows n) plan.begun c.0.sink h) size c.2)

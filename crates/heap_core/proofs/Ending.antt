@@ -80,8 +80,9 @@ line_on t (x ∷ lines) m (inl e) = inl (ap (over_line t) e)
 line_on t (x ∷ lines) m (inr h) = inr (line_on t lines m h)
 
 -- it tells of each thread, where one has ended now
-lines_end : (run run' : Run) (t : ℕ) (lines : List (Option Line)) → LinesTell run lines → ended_in run' t ≡ true → ((u : ℕ) → (u ≡ t → ⊥) → ended_in run' u ≡ ended_in run u) → ((u : ℕ) → IsThread run' u → IsThread run u) → LinesTell run' (over_at t lines)
-lines_end run run' t lines tell now other threads = record {
+lines_end : (run run' : Run) (t : ℕ) (lines : List (Option Line)) → LinesTell run lines → ended_in run' t ≡ true → ((u : ℕ) → (u ≡ t → ⊥) → ended_in run' u ≡ ended_in run u) → ((u : ℕ) → IsThread run u → IsThread run' u) → ((u : ℕ) → IsThread run' u → IsThread run u) → LinesTell run' (over_at t lines)
+lines_end run run' t lines tell now other more threads = record {
+  known = λ l h. let p = line_back t lines l h in subst (IsThread run') (ap (λ (x : Line). x.number) (sym p.2)) (more p.0.number (tell.known p.0 p.1));
   over = λ l h. let p = line_back t lines l h in ap (λ (x : Line). x.over) p.2 ∙ (told_of p.0 p.1 ∙ ap (λ (x : Line). ended_in run' x.number) (sym p.2));
   all = λ u is going.
       let ne : u ≡ t → ⊥ = λ same. true≢false (sym now ∙ (ap (ended_in run') (sym same) ∙ going)) in
@@ -175,7 +176,7 @@ module _ (plan : Plan) (s : State Slot Holder) (r : Kept plan s) (id : ℕ) (k :
               home = ap (λ (hs : Homes). set hs 0 (some (Some g))) t.home;
               handed = (
                 numbers_over n h.lines ∙ t.handed.0,
-                lines_end r.run run' n h.lines t.handed.1 (over_now r.run.events n e refl) (λ u ne. over_other r.run.events n e u ne) (λ u lt. lt),
+                lines_end r.run run' n h.lines t.handed.1 (over_now r.run.events n e refl) (λ u ne. over_other r.run.events n e u ne) (λ u lt. lt) (λ u lt. lt),
                 stands_silent Any plan.begun r.run.events r.run.refusals n e h.sink t.handed.2 refl,
                 t.handed.3,
               );

@@ -1,14 +1,16 @@
 -- What a pass owns and can name lies in the heap, after each step.
-use Rattle.std.proofs.Common.{◌≡◌, ◌≤◌, ◌<◌, ℕ, ◌+◌, List, [], ◌∷◌, length, Option, Some, None, IsSome, refl, sym, subst, ⊎_elim, arith, true≢false}
+use Rattle.std.proofs.Common.{◌≡◌, ◌≤◌, ◌<◌, ℕ, ◌+◌, List, [], ◌∷◌, length, Option, Some, None, IsSome, refl, sym, subst, inl, ⊎_elim, arith, true≢false}
 use Rattle.rb_shared.specs.Lists.{Has}
 use Rattle.shared_run.proofs.Events.{has_either}
 use Rattle.heap_core.specs.Handing.{Plan}
 use Rattle.heap_core.specs.declared.take.Take.{Take}
 use Rattle.heap_core.specs.declared.take.Take.TheVariants as take
-use Rattle.heap_core.specs.Blocks.{place_of, size_of}
+use Rattle.heap_core.specs.Blocks.{Block, place_of, size_of}
 use Rattle.heap_core.specs.Passes.{Fits, IsPass}
 use Rattle.heap_core.specs.Room.{Asking, refusing, Tried}
+use Rattle.heap_core.specs.Starting.{Born, LaidFor, thread_block, thread_row, with_born}
 use Rattle.heap_core.specs.Telling.{CanName}
+use Rattle.heap_core.specs.Turning.{without_turn}
 use Rattle.heap_core.specs.View.{InOwn, Region, with_region, Holder, first_holder, maker, child, child_of, joined, with_stored}
 use Rattle.heap_core.proofs.Takes.{stored_back}
 use Rattle.heap_core.proofs.Opens.{first_each}
@@ -51,6 +53,20 @@ joined_fits k u words f g = record {
   own = f.own;
   blocks = λ b h. ⊎_elim (λ (x : Has k.blocks b). f.blocks b x) (λ (x : Has u.blocks b). g.blocks b x) (has_either k.blocks u.blocks b h);
 }
+
+pub born_fits : (k : Holder) (words : ℕ) (b : Born) → LaidFor k b → Fits k words → Fits (without_turn (with_born k b)) words
+born_fits k words b laid f = record {
+  live = f.live;
+  size = f.size;
+  opening = f.opening;
+  own = λ o h. absurd h;
+  blocks = λ c h. ⊎_elim (λ (old : Has k.blocks c). f.blocks c old)
+      (λ (new : Has (thread_block k.view.thread b ∷ []) c). ⊎_elim (λ (is : c ≡ thread_block k.view.thread b). subst (λ (d : Block). place_of d + size_of d ≤ words) (sym is) room) (λ (gone : ⊥). absurd gone) new)
+      (has_either k.blocks (thread_block k.view.thread b ∷ []) c h);
+}
+  where
+    room : b.thread.at + 8 ≤ words
+    room = f.own (record { at = b.thread.at; words = thread_row k.view.thread b }) (subst (λ os. Has os (record { at = b.thread.at; words = thread_row k.view.thread b })) (sym laid.0) (inl refl))
 
 pub region_fits : (k : Holder) (words at : ℕ) (ws : List ℕ) → at + length ws ≤ words → Fits k words → Fits (with_region k at ws) words
 region_fits k words at ws room f = record {

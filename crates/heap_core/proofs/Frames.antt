@@ -296,8 +296,9 @@ module _ (m m' : Moment) where
     }
 
   -- what the table of threads tells stays so
-  pub lines_on : (lines : List (Option Line)) → SameOver m m' → ((t : ℕ) → IsThread m'.run t → IsThread m.run t) → LinesTell m.run lines → LinesTell m'.run lines
-  lines_on lines over threads tell = record {
+  pub lines_on : (lines : List (Option Line)) → SameOver m m' → ((t : ℕ) → IsThread m.run t → IsThread m'.run t) → ((t : ℕ) → IsThread m'.run t → IsThread m.run t) → LinesTell m.run lines → LinesTell m'.run lines
+  lines_on lines over more threads tell = record {
+    known = λ l h. more l.number (tell.known l h);
     over = λ l h. tell.over l h ∙ sym (over l.number);
     all = λ t is going. tell.all t (threads t is) (sym (over t) ∙ going);
   }
@@ -310,7 +311,7 @@ module _ (m m' : Moment) where
     still_handed : (h : Handed) → IsHanded m h → IsHanded m' h
     still_handed h p = (
       p.0 ∙ sym (l.turn refl).lines,
-      lines_on h.lines (l.turn refl).over (l.turn refl).threads p.1,
+      lines_on h.lines (l.turn refl).over l.threads (l.turn refl).threads p.1,
       (l.turn refl).sinks h.sink p.2,
       sym (same_count (length m.run.refusals) (length m'.run.refusals) l.threads (l.turn refl).threads) ∙ p.3,
     )

@@ -21,3 +21,8 @@ pub mod Printing
 pub mod Owning
 pub mod Ending
 pub mod Closes
+pub mod Lines
+pub mod Absent
+pub mod Seating
+pub mod Starting
+pub mod Laying

@@ -372,6 +372,7 @@ starts ws what p lines_are sink_is none_started fine some_slots some_words size 
 
     first_tell : LinesTell first_run (first_table p.slots)
     first_tell = record {
+      known = λ l h. let is = only_main p.slots l h in let z : l.number ≡ 0 = ap (λ (x : Line). x.number) is in omega (arith, z);
       over = λ l h. let is = only_main p.slots l h in ap (λ (x : Line). x.over) is;
       all = λ t lt going. (record { number = 0; over = false }, inl refl, let z : 0 ≡ t = omega (arith, lt) in z);
     }

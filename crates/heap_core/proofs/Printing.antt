@@ -100,7 +100,7 @@ module _ (plan : Plan) (s : State Slot Holder) (r : Kept plan s) (id : ℕ) (k :
         anew = λ c hc mine. subst (Stands (moment plan (whole (set s.words turn_word 0) homes' (set s.views id k')) (run_after r.run k.view.thread e z) r.lines (r.blocks ++ [])))
             (sym (alone_at plan s r TheTurn r.turn tt (λ h. h) c hc (eqb-true (home_of c) turn_word mine)))
             (free_again (run_after r.run k.view.thread e z) (r.blocks ++ []) k' refl
-            (lines_on before (moment plan (whole (set s.words turn_word 0) homes' (set s.views id k')) (run_after r.run k.view.thread e z) r.lines (r.blocks ++ [])) h.lines (λ u. over_same r.run.events k.view.thread e refl u) (λ n lt. lt) t.handed.1)
+            (lines_on before (moment plan (whole (set s.words turn_word 0) homes' (set s.views id k')) (run_after r.run k.view.thread e z) r.lines (r.blocks ++ [])) h.lines (λ u. over_same r.run.events k.view.thread e refl u) (λ n lt. lt) (λ n lt. lt) t.handed.1)
             (stands_did Any plan.begun r.run.events r.run.refusals k.view.thread e h.sink g.sink t.handed.2 did)
             refl);
         new = λ c q. absurd q;
@@ -149,7 +149,7 @@ module _ (plan : Plan) (s : State Slot Holder) (r : Kept plan s) (id : ℕ) (k :
         anew = λ c hc mine. subst (Stands (moment plan (whole (set s.words turn_word 0) homes' (set s.views id k')) run' r.lines (r.blocks ++ [])))
             (sym (alone_at plan s r TheTurn r.turn tt (λ h. h) c hc (eqb-true (home_of c) turn_word mine)))
             (free_again run' (r.blocks ++ []) k' refl
-            (lines_on before (moment plan (whole (set s.words turn_word 0) homes' (set s.views id k')) run' r.lines (r.blocks ++ [])) h.lines (λ u. refl) (λ n lt. let c = refused_count r.run.refusals v.thread q in omega (arith, lt, c)) t.handed.1)
+            (lines_on before (moment plan (whole (set s.words turn_word 0) homes' (set s.views id k')) run' r.lines (r.blocks ++ [])) h.lines (λ u. refl) (λ n lt. let c = refused_count r.run.refusals v.thread q in omega (arith, lt, c)) (λ n lt. let c = refused_count r.run.refusals v.thread q in omega (arith, lt, c)) t.handed.1)
             (stands_refused Any plan.begun r.run.events r.run.refusals v.thread q call h.sink g.sink t.handed.2 did (refl, refl) knew.within)
             (refused_count r.run.refusals v.thread q));
         new = λ c n. absurd n;

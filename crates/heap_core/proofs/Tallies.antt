@@ -1,10 +1,12 @@
 -- What is counted stays where a read is put in.
 use Rattle.std.proofs.Common.{◌≡◌, ◌||◌, ℕ, ◌+◌, Bool, true, false, cond, List, [], ◌∷◌, ◌++◌, Option, Some, None, refl, sym, ap, ◌∙◌, subst, arith, append-nil}
 use Rattle.rb_model.specs.declared.value.Id.{Id}
-use Rattle.rb_model.specs.Acts.{Act, Reply}
+use Rattle.rb_model.specs.declared.fault.Fault.TheVariants.{ThreadLimit}
+use Rattle.rb_model.specs.Acts.{Act, Reply, Failed, Started}
 use Rattle.rb_model.specs.Things.{Thing}
-use Rattle.rb_model.specs.Values.{Reference}
-use Rattle.rb_model.specs.Log.{Call, On, Print, End, Entry, plain_entry}
+use Rattle.rb_model.specs.Started.{to_thread}
+use Rattle.rb_model.specs.Values.{Value as Val, Reference}
+use Rattle.rb_model.specs.Log.{Call, On, Start, Print, End, Entry, plain_entry}
 use Rattle.rb_model.specs.Ends.{End as Ending, told}
 use Rattle.rb_shared.specs.History.{Event, Leads}
 use Rattle.rb_shared.specs.Step.{store_behind}
@@ -14,6 +16,7 @@ use Rattle.std.specs.List.{list_any}
 use Rattle.rb_shared.specs.Lists.{Has}
 use Rattle.rb_shared.proofs.Runs.{has_front}
 use Rattle.shape_core.specs.Shape.{Shape, same_shape, with_shape}
+use Rattle.heap_core.specs.Owning.{bare_entry}
 use Rattle.heap_core.specs.Sizes.{Sized, size_of_id}
 use Rattle.heap_core.specs.Charges.{blocks_of_all, on_charge, call_charge, resized, with_shapes, shapes_of, shapes_moved, receiver_size, sizes_behind, Tally, is_fault, takes_nothing, tally_moved, tally_call, tally_entry, tally_on, opening_tally, tally_of}
 
@@ -22,12 +25,12 @@ tally_append slots t [] ys = refl
 tally_append slots t (x ∷ xs) ys = tally_append slots (tally_entry slots t x) xs ys
 
 -- the store that is counted on is the one that the plain steps lead to
-tally_store : (slots : ℕ) (t : Tally) (z z' : Store) (es : List Event) → t.store ≡ z → Leads slots z es z' → (tally_on slots t es).store ≡ z'
+pub tally_store : (slots : ℕ) (t : Tally) (z z' : Store) (es : List Event) → t.store ≡ z → Leads slots z es z' → (tally_on slots t es).store ≡ z'
 tally_store slots t z z' [] same l = same ∙ sym l
 tally_store slots t z z' (e ∷ es) same (y, s, l) =
     tally_store slots (tally_entry slots t e) y z' es (ap (λ x. store_behind slots (x ++ e.entry.moved) e.thread e.entry.call) same ∙ sym s.store_is) l
 
-moved_none : (t : Tally) → tally_moved t [] ≡ t
+pub moved_none : (t : Tally) → tally_moved t [] ≡ t
 moved_none t i = record {
   words = (let z : t.words + 0 ≡ t.words = omega arith in z) i;
   shapes = t.shapes;
@@ -145,5 +148,27 @@ pub tally_end : (slots : ℕ) (events : List Event) (t step : ℕ) (how : Ending
 tally_end slots events t step how nothing =
     let more = tally_append slots opening_tally events (event_of t (plain_entry step (End how)) ∷ []) in (
       ap (λ (x : Tally). x.words) more ∙ (ap (λ vs. (tally_of slots events).words + 0 + blocks_of_all vs) nothing ∙ (let z : (tally_of slots events).words + 0 + 0 ≡ (tally_of slots events).words = omega arith in z)),
+      ap (λ (x : Tally). x.shapes) more,
+    )
+
+-- ---- a thread that is started takes its words, and one that can not be takes nothing
+
+pub tally_start : (slots : ℕ) (events : List Event) (t step : ℕ) (id : Id) (body : ℕ) (values : List Val) (n : ℕ)
+    → ((tally_of slots (events ++ event_of t (bare_entry step (Start id body values) (Started n (to_thread id))) ∷ [])).words ≡ (tally_of slots events).words + 8)
+    × ((tally_of slots (events ++ event_of t (bare_entry step (Start id body values) (Started n (to_thread id))) ∷ [])).shapes ≡ (tally_of slots events).shapes)
+    × ((tally_of slots (events ++ event_of t (bare_entry step (Start id body values) (Started n (to_thread id))) ∷ [])).sizes ≡ (tally_of slots events).sizes)
+tally_start slots events t step id body values n =
+    let more = tally_append slots opening_tally events (event_of t (bare_entry step (Start id body values) (Started n (to_thread id))) ∷ []) in (
+      ap (λ (x : Tally). x.words) more ∙ (let z : (tally_of slots events).words + 0 + 8 ≡ (tally_of slots events).words + 8 = omega arith in z),
+      ap (λ (x : Tally). x.shapes) more,
+      ap (λ (x : Tally). x.sizes) more ∙ append-nil (tally_of slots events).sizes,
+    )
+
+pub tally_full : (slots : ℕ) (events : List Event) (t step : ℕ) (id : Id) (body : ℕ) (values : List Val)
+    → ((tally_of slots (events ++ event_of t (bare_entry step (Start id body values) (Failed ThreadLimit)) ∷ [])).words ≡ (tally_of slots events).words)
+    × ((tally_of slots (events ++ event_of t (bare_entry step (Start id body values) (Failed ThreadLimit)) ∷ [])).shapes ≡ (tally_of slots events).shapes)
+tally_full slots events t step id body values =
+    let more = tally_append slots opening_tally events (event_of t (bare_entry step (Start id body values) (Failed ThreadLimit)) ∷ []) in (
+      ap (λ (x : Tally). x.words) more ∙ (let z : (tally_of slots events).words + 0 + 0 ≡ (tally_of slots events).words = omega arith in z),
       ap (λ (x : Tally). x.shapes) more,
     )

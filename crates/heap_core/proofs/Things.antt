@@ -107,7 +107,7 @@ thread_was (i ∷ z) t how y h = by_thing i.thing (has_either (thread_in (ended_
     by_thing (Pairs ps) (inl h) rest = absurd h
 
 -- as many are not gathered
-count_more : (f : ThreadState → Bool) (x : ThreadState) (xs : List ThreadState) → count_by f (x ∷ xs) ≡ cond (f x) 1 0 + count_by f xs
+pub count_more : (f : ThreadState → Bool) (x : ThreadState) (xs : List ThreadState) → count_by f (x ∷ xs) ≡ cond (f x) 1 0 + count_by f xs
 count_more f x xs = sum_by-cons (λ y. cond (f y) 1 0) x xs
 
 pub ungathered_ends : (z : Store) (t : ℕ) (how : Ending) → ungathered_count (map (ended_item t how) z) ≡ ungathered_count z
@@ -218,7 +218,7 @@ new_differs z (x ∷ xs) id thing is fresh = by_test (new_differs (z ++ x ∷ []
     by_test more true same = absurd (true≢false (sym (ap is_some (ap (found z) (Rattle.rb_shared.proofs.Runs.same_is x.id id same) ∙ is)) ∙ fresh.0))
     by_test more false same = more
 
-sized_none : (ms : List Item) (id : Id) → found ms id ≡ None → size_of_id (sized_of ms) id ≡ None
+pub sized_none : (ms : List Item) (id : Id) → found ms id ≡ None → size_of_id (sized_of ms) id ≡ None
 sized_none [] id gone = refl
 sized_none (x ∷ xs) id gone = by_test (same_id x.id id) refl (sized_none xs id) gone
   where
@@ -233,7 +233,7 @@ sized_none (x ∷ xs) id gone = by_test (same_id x.id id) refl (sized_none xs id
     by_test true same more gone = absurd (some_none x.thing (sym (ap (λ b. cond b (Some x.thing) (found xs id)) same) ∙ gone))
     by_test false same more gone = by_size (first_size x.thing) same (more (sym (ap (λ b. cond b (Some x.thing) (found xs id)) same) ∙ gone))
 
-size_front : (xs ys : List Sized) (id : Id) → size_of_id ys id ≡ None → size_of_id (xs ++ ys) id ≡ size_of_id xs id
+pub size_front : (xs ys : List Sized) (id : Id) → size_of_id ys id ≡ None → size_of_id (xs ++ ys) id ≡ size_of_id xs id
 size_front [] ys id gone = gone
 size_front (x ∷ xs) ys id gone = ap (λ o. cond (same_id x.id id) (Some x.size) o) (size_front xs ys id gone)
 

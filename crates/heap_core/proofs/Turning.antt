@@ -255,6 +255,7 @@ pub record Back (m m' : Me Slot Holder) (h g : Handed) : Type 0 where
   pub has : HasTurn m'.0 h true
   pub own : m'.0.own ≡ m.0.own
   pub ahead : m'.0.ahead ≡ m.0.ahead
+  pub view : m'.0.view ≡ m.0.view
   pub thread : m'.0.view.thread ≡ m.0.view.thread
 
 pub handed_back : (m m' : Me Slot Holder) (h g : Handed) → m' ≡ (with_out m.0 true, (0, Some g) ∷ []) → m.0.live ≡ true → HasTurn m.0 h false → Back m m' h g
@@ -264,6 +265,7 @@ handed_back m m' h g put live has = record {
   has = ap (λ (x : Me Slot Holder). busy_at turn_word x.0.doing) put ∙ out_has m.0 h false true has;
   own = ap (λ (x : Me Slot Holder). x.0.own) put;
   ahead = ap (λ (x : Me Slot Holder). x.0.ahead) put;
+  view = ap (λ (x : Me Slot Holder). x.0.view) put;
   thread = ap (λ (x : Me Slot Holder). x.0.view.thread) put;
 }
 

@@ -6,11 +6,11 @@ use Rattle.rb_shared.specs.View.{known_logs}
 use Rattle.shared_run.specs.Closing.{ShowsAll}
 use Rattle.heap_core.specs.Handing.{Slot}
 use Rattle.heap_core.specs.Passes.{holder_of}
-use Rattle.heap_core.specs.View.{Holder, with_front}
+use Rattle.heap_core.specs.View.{Holder, showing}
 
 -- the history is shown
 abbrev pub ShowsNow : Me Slot Holder → Me Slot Holder → Type 0
-ShowsNow m m' = (h : History) × (m' ≡ (with_front m.0 h, m.1)) × ShowsAll m.0.view.slots (known_logs m.0.view) h
+ShowsNow m m' = (h : History) × (m' ≡ (showing m.0 h, m.1)) × ShowsAll m.0.view.slots (known_logs m.0.view) h
 
 -- the words in use and those that were asked for are more than there are
 abbrev pub Overflows : (words used wanted : ℕ) → Type 0

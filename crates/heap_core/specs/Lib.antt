@@ -25,5 +25,6 @@ pub mod Growing
 pub mod Turning
 pub mod Owning
 pub mod Ending
+pub mod Starting
 pub mod Heaps
 pub mod Closing

@@ -18,8 +18,9 @@ Any used wanted = Unit {0}
 abbrev pub Sinks : Moment → Sunk → Type 0
 Sinks m x = runs.Stands Any m.plan.begun m.run.events m.run.refusals x
 
--- The table of threads tells of each thread that has a line whether it has ended, and each that goes on has one.
+-- Each line of the table of threads is that of a thread, and tells whether it has ended. Each thread that goes on has one.
 pub record LinesTell (run : Run) (lines : List (Option Line)) : Type 0 where
+  pub known : (l : Line) → Has lines (Some l) → runs.IsThread run l.number
   pub over : (l : Line) → Has lines (Some l) → l.over ≡ ended_in run l.number
   pub all : (t : ℕ) → runs.IsThread run t → ended_in run t ≡ false → (l : Line) × Has lines (Some l) × (l.number ≡ t)
 

@@ -1,5 +1,5 @@
 -- What a pass knows of the heap, beside what it shows of a shared store.
-use Rattle.std.specs.Prelude.{◌≡◌, ◌≤◌, ◌<◌, ◌==◌, ◌&&◌, ◌-◌, ℕ, ◌+◌, Bool, true, false, nat_le, nat_lt, List, [], ◌∷◌, ◌++◌, length, map, set, Option, Some, None, if◌then◌else◌}
+use Rattle.std.specs.Prelude.{◌≡◌, ◌≤◌, ◌<◌, ◌==◌, ◌&&◌, ◌-◌, ℕ, ◌+◌, Bool, true, false, nat_le, nat_lt, List, [], ◌∷◌, ◌++◌, length, map, set, take, drop, Option, Some, None, if◌then◌else◌}
 use Rattle.rb_model.specs.Log.{Call, Entry}
 use Rattle.rb_model.specs.Private.{Item}
 use Rattle.rb_model.specs.declared.value.Ref.{Ref}
@@ -112,6 +112,22 @@ held k = words_in k.own + k.ahead
 abbrev pub with_view : Holder → View → Holder
 with_view k v = record k { view = v }
 
+-- the pass owns this region alone, of so many words
+abbrev pub OwnsOne : Holder → (at count : ℕ) → Type 0
+OwnsOne k at count = (ws : List ℕ) × (length ws ≡ count) × (k.own ≡ record { at = at; words = ws } ∷ [])
+
+-- these words are all that it owns
+abbrev pub with_own : Holder → ℕ → List ℕ → Holder
+with_own k at ws = record k { own = record { at = at; words = ws } ∷ [] }
+
+-- the first words of these, and the rest as it was
+abbrev pub front_of : List Region → ℕ → List ℕ → List ℕ
+front_of [] i ws = take i ws
+front_of (o ∷ os) i ws = take i ws ++ drop i o.words
+
+abbrev pub with_front : Holder → ℕ → ℕ → List ℕ → Holder
+with_front k at i ws = with_own k at (front_of k.own i ws)
+
 abbrev pub with_region : Holder → ℕ → List ℕ → Holder
 with_region k at ws = record k { own = record { at = at; words = ws } ∷ k.own }
 
@@ -154,8 +170,8 @@ abbrev pub with_ahead : Holder → List Region → ℕ → List Block → Holder
 with_ahead k left n bs = record k { blocks = k.blocks ++ bs; own = left; ahead = k.ahead + n }
 
 -- the history of all threads is shown
-abbrev pub with_front : Holder → History → Holder
-with_front k h = record k { front = Some h }
+abbrev pub showing : Holder → History → Holder
+showing k h = record k { front = Some h }
 
 -- what shows it still when the heap is gone, and is no pass
 abbrev pub front_holder : Holder → Holder

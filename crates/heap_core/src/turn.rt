@@ -1,6 +1,6 @@
 // What is handed on with the turn.
 
-ghost use Rattle.std.specs.Prelude.{◌≡◌, ◌≤◌, ◌<◌, true, false, IfErr, IfOk, IfSome};
+ghost use Rattle.std.specs.Prelude.{◌≡◌, ◌≤◌, ◌<◌, true, false, length, position, IfErr, IfOk, IfSome};
 ghost use Rattle.rb_model.specs.Log.{Print};
 ghost use Rattle.shared_run.specs.Run.{SinkDid, SinkRefused};
 ghost use Rattle.heap_core.specs.Ending.{ended_by, over_at, over_line};
@@ -8,6 +8,8 @@ ghost use Rattle.heap_core.specs.Handing.{sunk_of};
 ghost use Rattle.heap_core.specs.Opening.{first_table};
 ghost use Rattle.heap_core.specs.Owning.{owner_told};
 ghost use Rattle.heap_core.specs.Owning as owning;
+ghost use Rattle.heap_core.specs.Starting.{line_for, started_on};
+ghost use Rattle.heap_core.specs.Starting as starting;
 
 use crate::line::Line;
 use rb_edge::{Sink, write_all};
@@ -42,6 +44,13 @@ fn is_going(thread: u64, line: Option<Line>) -> bool
         Some(line) => line.number == thread && !line.over,
         None => false,
     }
+}
+
+/// Whether a line is that of no thread.
+fn is_free(line: Option<Line>) -> bool
+    ensures { result ≡ starting.is_free line }
+{
+    line.is_none()
 }
 
 /// A line behind the end of this thread.
@@ -125,6 +134,44 @@ impl<K: Sink> Turn<K> {
         } else {
             None
         }
+    }
+
+    /// The line for a thread that one of this generation starts: the first that is free, and none where that one stands too deep.
+    pub(crate) fn line_for(&self, generation: u64) -> Option<usize>
+        ensures { result ≡ line_for generation self.now.lines }
+    {
+        let last = (self.lines.len() as u64).saturating_sub(1);
+        if last <= generation {
+            return None;
+        }
+        self.free_line()
+    }
+
+    /// The first line that is free.
+    fn free_line(&self) -> Option<usize>
+        ensures { result ≡ position starting.is_free self.now.lines }
+    {
+        self.lines.iter().position(|line| is_free(*line))
+    }
+
+    /// How many threads were started.
+    pub(crate) fn started(&self) -> u64
+        ensures { result ≡ self.now.started }
+    {
+        self.started
+    }
+
+    /// A thread was started, which has this line.
+    pub(crate) fn start(&mut self, line: usize)
+        requires within { line < length self.old.lines }
+        requires few { self.old.started < 18446744073709551615 }
+        ensures { self.new ≡ started_on line self.old }
+    {
+        self.started += 1;
+        self.lines[line] = Some(Line {
+            number: self.started,
+            over: false,
+        });
     }
 
     /// The line of this thread says from now on that it has ended.

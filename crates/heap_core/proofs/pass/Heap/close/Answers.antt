@@ -5,7 +5,7 @@ use Rattle.shared_run.specs.Closing.{ShowsAll, SinkClosed}
 use Rattle.heap_core.specs.Closing.{Overflows, history_in}
 use Rattle.heap_core.specs.Handing.{Handed}
 use Rattle.heap_core.specs.Passes.{holder_of}
-use Rattle.heap_core.specs.View.{Holder, front_holder, maker, with_front}
+use Rattle.heap_core.specs.View.{Holder, front_holder, maker, showing}
 use Rattle.heap_core.proofs.Closes.{closes_with, one_slot}
 use Rattle.heap_core.proofs.Passing.{front_splits}
 use Rattle.heap_core.proofs.pass.Heap.close.Given.{Over}
@@ -25,7 +25,7 @@ split_seat-requires g c =
 
 pub take-requires : goal.take-requires
 take-requires g c =
-    let is = ap (λ m. m.0) c.split_seat.ensures.2 ∙ (ap (λ m. maker m.0) c.show.ensures.shows.1 ∙ ap (λ (k : Holder). maker (with_front k c.show.ensures.shows.0)) (sym (ap holder_of c.into_seat-seat.ensures.2))) in
+    let is = ap (λ m. m.0) c.split_seat.ensures.2 ∙ (ap (λ m. maker m.0) c.show.ensures.shows.1 ∙ ap (λ (k : Holder). maker (showing k c.show.ensures.shows.0)) (sym (ap holder_of c.into_seat-seat.ensures.2))) in
     let one = one_slot _ _ _ _ _ (holder_of c.args.pass.badge.views) c.show.ensures.shows.0 is c.close_with-closed.ensures.values.2 c.args.pass.rests.1.live c.requires.main c.requires.ended c.requires.gathered in
     let counts = (slots_counts c.close_with-closed.result.slots).0 in
     let some : 0 < slots_len c.close_with-closed.result.slots = omega (arith, one, counts) in
@@ -33,7 +33,7 @@ take-requires g c =
 
 pub unreachable-requires : goal.unreachable-requires
 unreachable-requires g c =
-    let is = ap (λ m. m.0) c.split_seat.ensures.2 ∙ (ap (λ m. maker m.0) c.show.ensures.shows.1 ∙ ap (λ (k : Holder). maker (with_front k c.show.ensures.shows.0)) (sym (ap holder_of c.into_seat-seat.ensures.2))) in
+    let is = ap (λ m. m.0) c.split_seat.ensures.2 ∙ (ap (λ m. maker m.0) c.show.ensures.shows.1 ∙ ap (λ (k : Holder). maker (showing k c.show.ensures.shows.0)) (sym (ap holder_of c.into_seat-seat.ensures.2))) in
     let z = closes_with _ _ _ _ _ (holder_of c.args.pass.badge.views) c.take.result c.show.ensures.shows.0 _ is c.close_with-closed.ensures.values.2 c.take.ensures.value c.args.pass.rests.1.live c.requires.main c.requires.ended c.requires.gathered
         (c.args.pass.rests.1.size ∙ ap (λ t. t.words) c.requires.of) in
     none_some z.0 (sym c.in_default.is ∙ z.1)
@@ -45,7 +45,7 @@ emptied (b ∷ bs) = refl
 
 pub free-requires : goal.free-requires
 free-requires g c = λ k lt.
-    let is = ap (λ m. m.0) c.split_seat.ensures.2 ∙ (ap (λ m. maker m.0) c.show.ensures.shows.1 ∙ ap (λ (k : Holder). maker (with_front k c.show.ensures.shows.0)) (sym (ap holder_of c.into_seat-seat.ensures.2))) in
+    let is = ap (λ m. m.0) c.split_seat.ensures.2 ∙ (ap (λ m. maker m.0) c.show.ensures.shows.1 ∙ ap (λ (k : Holder). maker (showing k c.show.ensures.shows.0)) (sym (ap holder_of c.into_seat-seat.ensures.2))) in
     let one = one_slot _ _ _ _ _ (holder_of c.args.pass.badge.views) c.show.ensures.shows.0 is c.close_with-closed.ensures.values.2 c.args.pass.rests.1.live c.requires.main c.requires.ended c.requires.gathered in
     let counts = (slots_counts c.close_with-closed.result.slots).0 in
     let left = c.take.ensures.others.2 in
@@ -58,7 +58,7 @@ history_is g c = ap history_in c.into_badge-front.ensures.2 ∙ (ap (λ m. histo
 
 closed : (g : Over) (c : goal.After-into_out g) → SinkClosed (Overflows c.args.self.table.shared.table_id.words) c.args.self.table.shared.key.begun c.in-Some.turn.sink (history_in c.into_badge-front.result.views)
 closed g c =
-    let is = ap (λ m. m.0) c.split_seat.ensures.2 ∙ (ap (λ m. maker m.0) c.show.ensures.shows.1 ∙ ap (λ (k : Holder). maker (with_front k c.show.ensures.shows.0)) (sym (ap holder_of c.into_seat-seat.ensures.2))) in
+    let is = ap (λ m. m.0) c.split_seat.ensures.2 ∙ (ap (λ m. maker m.0) c.show.ensures.shows.1 ∙ ap (λ (k : Holder). maker (showing k c.show.ensures.shows.0)) (sym (ap holder_of c.into_seat-seat.ensures.2))) in
     let z = closes_with _ _ _ _ _ (holder_of c.args.pass.badge.views) c.take.result c.show.ensures.shows.0 _ is c.close_with-closed.ensures.values.2 c.take.ensures.value c.args.pass.rests.1.live c.requires.main c.requires.ended c.requires.gathered
         (c.args.pass.rests.1.size ∙ ap (λ t. t.words) c.requires.of) in
     subst (SinkClosed (Overflows c.args.self.table.shared.table_id.words) c.args.self.table.shared.key.begun c.in-Some.turn.sink) (sym (history_is g c))
