@@ -1,0 +1,5 @@
+pub mod Rows
+pub mod Within
+pub mod Marks
+pub mod Edges
+pub mod Stores

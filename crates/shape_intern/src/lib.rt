@@ -1,0 +1,11 @@
+//! Shapes of objects on the word heap: each is one block of it, found by walking links without a lock, and made under the lock of the tree.
+#![tactic(auto)]
+
+mod laying;
+mod lock;
+mod looking;
+mod seeking;
+mod words;
+
+pub use lock::{lock_tree, unlock_tree};
+pub use seeking::child;
