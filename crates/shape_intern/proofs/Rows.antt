@@ -4,7 +4,7 @@ use mathlib.Core.Logic.{dite}
 use native.Mathlib.Decide.{ℕ_discrete, dec_le}
 use Rattle.rb_shared.specs.Lists.{Has}
 use Rattle.shape_core.specs.Shape.{Shape, root_of}
-use Rattle.heap_core.specs.Blocks.{Block, ObjectAt, ChunkAt, MutexAt, TextAt, BoxAt, ShapeAt, LockAt, TheTurn, LinkAt}
+use Rattle.heap_core.specs.Blocks.{Block, ObjectAt, ChunkAt, MutexAt, ThreadAt, TextAt, BoxAt, ShapeAt, LockAt, TheTurn, LinkAt}
 use Rattle.heap_core.specs.Growing.{LeadsOn}
 use Rattle.heap_core.specs.Links.{IsNth, IsTree}
 use Rattle.heap_core.specs.Places.{first_root}
@@ -202,6 +202,7 @@ module _ (bs : List Block) (at : ℕ) where
   number_of_kind (ObjectAt id a) q = more_number (ObjectAt id a) refl (λ h l n e. cc) q
   number_of_kind (ChunkAt object number a) q = more_number (ChunkAt object number a) refl (λ h l n e. cc) q
   number_of_kind (MutexAt id a) q = more_number (MutexAt id a) refl (λ h l n e. cc) q
+  number_of_kind (ThreadAt id number maker a) q = more_number (ThreadAt id number maker a) refl (λ h l n e. cc) q
   number_of_kind (TextAt bytes a) q = more_number (TextAt bytes a) refl (λ h l n e. cc) q
   number_of_kind (BoxAt n a) q = more_number (BoxAt n a) refl (λ h l n e. cc) q
   number_of_kind (ShapeAt shape a) q = more_number (ShapeAt shape a) refl (λ h l n e. cc) q
