@@ -4,8 +4,10 @@
 mod laying;
 mod lock;
 mod looking;
+mod making;
 mod seeking;
 mod words;
 
 pub use lock::{lock_tree, unlock_tree};
+pub use making::{follow, root};
 pub use seeking::child;
