@@ -5,3 +5,4 @@ pub mod Edges
 pub mod Stores
 pub mod Makes
 pub mod Interns
+pub mod Finds
