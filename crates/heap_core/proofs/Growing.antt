@@ -218,7 +218,7 @@ family_of plan s r shape at here P own links (LockAt place) h is = subst P (sym 
 family_of plan s r shape at here P own links TheTurn h is = subst P (sym (r.laid.apart at TheTurn (ShapeAt shape at) h here (subst (λ y. Inside y TheTurn) is (place_inside TheTurn)) (place_inside (ShapeAt shape at)))) own
 
 -- the link word is one of the other shape's
-link_within : (bs : List Block) (before shape : Shape) (home link number : ℕ) → MayLink bs before shape home link number → (home ≤ link) × (link < home + 7) × ((link ≡ first_child home) ⊎ (link ≡ next_sibling home))
+pub link_within : (bs : List Block) (before shape : Shape) (home link number : ℕ) → MayLink bs before shape home link number → (home ≤ link) × (link < home + 7) × ((link ≡ first_child home) ⊎ (link ≡ next_sibling home))
 link_within bs before shape home link zero j = let e = j.0 in (omega (arith, e), omega (arith, e), inl e)
 link_within bs before shape home link (suc n) j = let e = j.0 in (omega (arith, e), omega (arith, e), inr e)
 
@@ -431,7 +431,7 @@ module _ (plan : Plan) (s : State Slot Holder) (r : Kept plan s) (id : ℕ) (k :
       rest_part : PartOf k.own (record { at = g.to + 7; words = g.left })
       rest_part = (region, has_region, (let z : g.to ≤ g.to + 7 = omega arith in z), omega (arith, long), λ x lt. ap (λ y. get_or (shape_block g.shape parent ++ g.left) y 0) (let z : suc (suc (suc (suc (suc (suc (suc x)))))) ≡ g.to + 7 - g.to + x = omega arith in z))
 
-pub makes_shape : (plan : Plan) (count id : ℕ) (k : Holder) (before : Shape) (parent : ℕ) (g : Growth) → k.live ≡ true → MayGrow k before parent g → MayStore (MakesShape g) plan count id k g.link g.to
+pub makes_shape : (plan : Plan) (count id : ℕ) (k : Holder) (before : Shape) (parent : ℕ) (g : Growth) → k.live ≡ true → MayGrow k before parent g → MayStore MakesShape plan count id k g.link g.to
 makes_shape plan count id k before parent g live c s r size seat small =
     let in_own = within plan s r id k before parent g seat live c in (
       with_growth k g,
@@ -451,6 +451,6 @@ makes_shape plan count id k before parent g live c s r size seat small =
               (let top = f.blocks (ShapeAt before g.home) c.home in let hi = in_own.1 in omega (arith, top, hi)) b come)
               (has_either k.blocks (blocks_of g) b h);
         }),
-        of_shape plan s r id g.home g.link before k (λ b. MakesShape g b g.link g.to 0 k g.to (with_growth k g)) seat c.home in_own.0 in_own.1 refl,
+        of_shape plan s r id g.home g.link before k (λ b. MakesShape b g.link g.to 0 k g.to (with_growth k g)) seat c.home in_own.0 in_own.1 (g, refl, (before, parent, c), refl),
       ),
     )

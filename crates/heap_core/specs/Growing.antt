@@ -77,7 +77,8 @@ blocks_of g = ShapeAt g.shape g.to ∷ LinkAt g.home g.link g.to g.number ∷ []
 abbrev pub with_growth : Holder → Growth → Holder
 with_growth k g = with_shape k (record { at = g.to + shape_words; words = g.left } ∷ []) g.shape (blocks_of g)
 
--- the shape is made by the store of its place at the link word
-abbrev pub MakesShape : Growth → Block → (i first second : ℕ) → Holder → ℕ → Holder → Type 0
-MakesShape g (ShapeAt shape at) i first second k n k' = k' ≡ with_growth k g
-MakesShape g b i first second k n k' = Unit {0}
+-- a shape that may be made there is, by the store of its place at the link word
+abbrev pub MakesShape : Block → (i first second : ℕ) → Holder → ℕ → Holder → Type 0
+MakesShape (ShapeAt shape at) i first second k n k' =
+    (g : Growth) × (g.to ≡ first) × ((before : Shape) × (parent : ℕ) × MayGrow k before parent g) × (k' ≡ with_growth k g)
+MakesShape b i first second k n k' = Unit {0}

@@ -33,7 +33,7 @@ pub use mutexes::{LookOwner, SetOwner};
 pub use pass::{Heap, HeapPass};
 pub use plays::{FixedLoad, Look, OwnLoad, OwnStore, StillLoad, TakeWords, Wanting};
 pub use prints::{MakeInTurn, Making, RefuseInTurn, Refusing};
-pub use shapes::{Grown, LookShape, MakeShape};
+pub use shapes::{LookShape, MakeShape};
 pub use starts::{Bearing, LookTable, StartInTurn};
 pub use take::Take;
 pub use telling::{Tells, Told};

@@ -41,3 +41,10 @@ learns_both k w x l m = (
   m.1 ∙ (ap (λ (y : Holder). with_more y m.0) l.1 ∙ ap (λ bs. record k { blocks = bs }) (append_assoc k.blocks l.0 m.0)),
   λ has b t kn. l.2 has b t (m.2 (ap (λ (y : Holder). busy_at 16 y.doing) l.1 ∙ has) b t kn),
 )
+
+pub size_below : {K : Type 0} (heap : Heap K) (p : HeapPass) → IsOf heap p → (holder p).size ≤ 134217728
+size_below heap p of =
+    let words = ap (λ (t : TableId). t.words) of in
+    let most = heap.most in
+    let size = p.rests.1.size in
+    omega (arith, words, most, size)

@@ -1,11 +1,15 @@
 //! Shapes of objects on the word heap: each is one block of it, found by walking links without a lock, and made under the lock of the tree.
 #![tactic(auto)]
 
+mod finding;
 mod laying;
 mod lock;
 mod looking;
+mod making;
 mod seeking;
 mod words;
 
+pub use finding::find;
 pub use lock::{lock_tree, unlock_tree};
+pub use making::{follow, root};
 pub use seeking::child;

@@ -23,5 +23,5 @@ returns g c = record {
   learns = learns_both _ _ _ c.first_child-first.ensures.learns c.seek.ensures.learns;
   tree = c.seek.ensures.tree;
   sought = λ shape kn. c.seek.ensures.sought (Some shape) _ (child_begun _ _ c.first_child-first.ensures.tree shape c.args.home _ (learns_among _ _ c.first_child-first.ensures.learns (ShapeAt shape c.args.home) kn) c.first_child-first.ensures.leads)
-      (child_tells shape c.args.edge.now _ c.edge_word.ensures);
+      (child_tells shape c.args.edge.now _ c.edge_word.ensures.word);
 }
