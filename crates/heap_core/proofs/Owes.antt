@@ -10,7 +10,7 @@ use Rattle.shared_run.specs.Run as runs
 use Rattle.shared_run.proofs.Events.{has_either}
 use Rattle.heap_core.specs.Places.{opening_words, used_word, turn_word, shape_words, thread_words}
 use Rattle.heap_core.specs.Handing.{Plan, Slot, Homes}
-use Rattle.heap_core.specs.Blocks.{Block, ObjectAt, ChunkAt, MutexAt, ThreadAt, TextAt, BoxAt, ShapeAt, LockAt, TheTurn, home_of, id_of, HasHome, InFamily, words_of_shapes}
+use Rattle.heap_core.specs.Blocks.{Block, ObjectAt, ChunkAt, MutexAt, ThreadAt, TextAt, BoxAt, ShapeAt, LockAt, TheTurn, home_of, id_of, number_of, HasHome, InFamily, words_of_shapes}
 use Rattle.heap_core.specs.Charges.{budget, tally_of}
 use Rattle.heap_core.specs.View.{Region, Holder, Knows, held}
 use Rattle.heap_core.specs.Moment.{Moment, At, size_at}
@@ -56,6 +56,7 @@ module _ (plan : Plan) (s : State Slot Holder) (r : Kept plan s) (ws' : List ℕ
     pub anew : (b : Block) → Has r.blocks b → mine (home_of b) ≡ true → Stands (moment plan (whole ws' hs' views') run lines (r.blocks ++ added)) b
     pub new : (b : Block) → Has added b → Stands (moment plan (whole ws' hs' views') run lines (r.blocks ++ added)) b
     pub one : (id : Id) (b c : Block) → Has added b → Has (r.blocks ++ added) c → id_of b ≡ Some id → id_of c ≡ Some id → b ≡ c
+    pub one_thread : (n : ℕ) (b c : Block) → Has added b → Has (r.blocks ++ added) c → number_of b ≡ Some n → number_of c ≡ Some n → b ≡ c
     pub one_shape : (shape : Shape) (at to : ℕ) → Has added (ShapeAt shape at) → Has (r.blocks ++ added) (ShapeAt shape to) → at ≡ to
     pub homes : (b : Block) → Has added b → HasHome (r.blocks ++ added) b
     pub known : (j : ℕ) (k : Holder) (b : Block) → At views' j k → Knows k b → Has (r.blocks ++ added) b
@@ -99,6 +100,13 @@ module _ (plan : Plan) (s : State Slot Holder) (r : Kept plan s) (ws' : List ℕ
         (λ (new : Has o.added c). sym (o.one id c b new hb ic ib))
         (has_either r.blocks o.added c hc))
         (λ (new : Has o.added b). o.one id b c new hc ib ic)
+        (has_either r.blocks o.added b hb);
+    one_thread = λ n b c hb hc ib ic. ⊎_elim
+        (λ (old : Has r.blocks b). ⊎_elim
+        (λ (also : Has r.blocks c). r.one_thread n b c old also ib ic)
+        (λ (new : Has o.added c). sym (o.one_thread n c b new hb ic ib))
+        (has_either r.blocks o.added c hc))
+        (λ (new : Has o.added b). o.one_thread n b c new hc ib ic)
         (has_either r.blocks o.added b hb);
     one_shape = λ shape at to ha ht. ⊎_elim
         (λ (old : Has r.blocks (ShapeAt shape at)). ⊎_elim

@@ -223,6 +223,7 @@ module _ (plan : Plan) (s : State Slot Holder) (r : Kept plan s) (id : ℕ) (k :
           shapes_new = λ shape place q. absurd q;
           fresh = λ y c q. absurd q;
           one = λ y c d q. absurd q;
+          one_thread = λ number c d q. absurd q;
           one_shape = λ shape place to q. absurd q;
         }
 

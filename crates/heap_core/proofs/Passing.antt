@@ -29,7 +29,7 @@ idle_turned h out e = cc
 module _ (plan : Plan) where
   -- what was in progress at a place before
   abbrev Was : State Slot Holder → ℕ → ℕ → Holder → Type 0
-  Was s x j u = u.live ≡ true → (busy_at x u.doing ≡ Idle) ⊎ ((y : Holder) × At s.views j y × (y.live ≡ true) × (busy_at x y.doing ≡ busy_at x u.doing))
+  Was s x j u = u.live ≡ true → (busy_at x u.doing ≡ Idle) ⊎ ((y : Holder) × At s.views j y × (y.live ≡ true) × (busy_at x y.doing ≡ busy_at x u.doing) × (y.view.thread ≡ u.view.thread))
 
   -- ---- a pass is split
 
@@ -86,7 +86,7 @@ module _ (plan : Plan) where
             things = λ y b hb _ e. inl (refl, λ t. refl);
             sizes = λ y b hb _ e. refl;
             threads = λ t lt. lt;
-            stays = λ b hb _. each_two (Was s (home_of b)) s.views id (maker k) (child_of (Some n) k) (λ _. inr (k, at, live, refl)) (λ _. inl refl) (λ j u _ a l. inr (u, a, l, refl));
+            stays = λ b hb _. each_two (Was s (home_of b)) s.views id (maker k) (child_of (Some n) k) (λ _. inr (k, at, live, refl, refl)) (λ _. inl refl) (λ j u _ a l. inr (u, a, l, refl, refl));
             turn = λ _. record {
               homes = refl;
               lines = refl;
@@ -99,6 +99,7 @@ module _ (plan : Plan) where
             anew = λ b hb e. absurd (true≢false (sym e));
             new = λ b h. absurd h;
             one = λ y b c h. absurd h;
+            one_thread = λ number c d h. absurd h;
             one_shape = λ shape place to h. absurd h;
             homes = λ b h. absurd h;
             known = λ j u b a. each_two (λ j u. Knows u b → Has (r.blocks ++ []) b) s.views id (maker k) (child_of (Some n) k) (λ kn. subst (λ bs. Has bs b) (sym same_blocks) (r.known id k b at kn)) (λ kn. subst (λ bs. Has bs b) (sym same_blocks) (r.known id k b at kn))
@@ -149,7 +150,7 @@ module _ (plan : Plan) where
         things = λ y b hb _ e. inl (refl, λ t. refl);
         sizes = λ y b hb _ e. refl;
         threads = λ t lt. lt;
-        stays = λ b hb _. each_both (Was s (home_of b)) s.views id other (joined k u) spent_holder (λ _. inr (k, at, live, refl)) (λ _. inl refl) (λ j x _ _ a l. inr (x, a, l, refl));
+        stays = λ b hb _. each_both (Was s (home_of b)) s.views id other (joined k u) spent_holder (λ _. inr (k, at, live, refl, refl)) (λ _. inl refl) (λ j x _ _ a l. inr (x, a, l, refl, refl));
         turn = λ _. record {
           homes = refl;
           lines = refl;
@@ -165,6 +166,7 @@ module _ (plan : Plan) where
         anew = λ b hb e. absurd (true≢false (sym e));
         new = λ b h. absurd h;
         one = λ y b c h. absurd h;
+        one_thread = λ number c d h. absurd h;
         one_shape = λ shape place to h. absurd h;
         homes = λ b h. absurd h;
         known = λ j x b a. each_both (λ j x. Knows x b → Has (r.blocks ++ []) b) s.views id other (joined k u) spent_holder

@@ -31,7 +31,7 @@ use Rattle.heap_core.specs.View.{Region, InRegion, words_in, Holder, Busy, InOwn
 use Rattle.heap_core.specs.Moment.{Moment, At}
 use Rattle.heap_core.specs.Turns.{Any}
 use Rattle.heap_core.specs.Rule.{IsMade, Stands, Seated, Below, LiesIn, Kept, moment}
-use Rattle.heap_core.proofs.Frames.{Follows, Stays}
+use Rattle.heap_core.proofs.Frames.{Follows, Stays, WasBusy}
 use Rattle.heap_core.proofs.Holders.{at_within, each_set, apart_set, keeps_set, owned_set, shapes_append}
 use Rattle.heap_core.proofs.Things.{Touches, found_behind, found_at_end, over_same, over_now, over_other, size_after}
 use mathlib.Core.Option.{some-injective}
@@ -42,7 +42,7 @@ use Rattle.atomic_table.proofs.Lists.{set_here, set_else}
 use Rattle.heap_core.proofs.Tallies.{made_after}
 use Rattle.heap_core.proofs.Owes.{whole, owes_kept}
 use Rattle.heap_core.proofs.Rooms.{laid_step}
-use Rattle.heap_core.proofs.Seats.{note_thread, note_ended, note_known, note_claims, seated_note, lies_more, there, nobody_claims}
+use Rattle.heap_core.proofs.Seats.{note_thread, note_ended, note_known, note_claims, seated_note, lies_more, there, number_thing, nobody_claims}
 
 -- where a thread is started there is one list of refusals more
 opened_most : (rs : List (List Refusal)) (ps : List (ℕ × Reference)) → length (opened rs ps) ≤ length rs + length ps
@@ -91,10 +91,10 @@ module _ (plan : Plan) (s : State Slot Holder) (r : Kept plan s) (hs' : Homes) (
   pub family_same : (mine : ℕ → Bool) → mine (home_of b) ≡ true → (x : ℕ) (c : Block) → Has r.blocks c → mine (home_of c) ≡ false → InFamily r.blocks (home_of c) x → get_or ws' x 0 ≡ get_or s.words x 0
   family_same mine own x c hc not_mine f = word_else x f.0 f.1 f.3 (λ is. true≢false (sym own ∙ (ap (λ (y : Block). mine (home_of y)) (sym is) ∙ (ap mine f.2 ∙ not_mine))))
 
-  pub stays_else : (mine : ℕ → Bool) (run : Run) (lines : List (Option ℕ)) (added : List Block) → ((x : ℕ) → mine x ≡ false → busy_at x k'.doing ≡ busy_at x k.doing)
+  pub stays_else : k'.view.thread ≡ k.view.thread → (mine : ℕ → Bool) (run : Run) (lines : List (Option ℕ)) (added : List Block) → ((x : ℕ) → mine x ≡ false → busy_at x k'.doing ≡ busy_at x k.doing)
       → (c : Block) → Has r.blocks c → mine (home_of c) ≡ false → Stays (moment plan s r.run r.lines r.blocks) (after run lines (r.blocks ++ added)) (home_of c)
-  stays_else mine run lines added doing c hc not_mine = each_set (λ j u. u.live ≡ true → (busy_at (home_of c) u.doing ≡ Busy.Idle) ⊎ ((y : Holder) × At s.views j y × (y.live ≡ true) × (busy_at (home_of c) y.doing ≡ busy_at (home_of c) u.doing))) s.views id k'
-      (λ _. inr (k, at, live, sym (doing (home_of c) not_mine))) (λ j u _ a l. inr (u, a, l, refl))
+  stays_else thread mine run lines added doing c hc not_mine = each_set (λ j u. u.live ≡ true → (busy_at (home_of c) u.doing ≡ Busy.Idle) ⊎ WasBusy (moment plan s r.run r.lines r.blocks) (home_of c) j u) s.views id k'
+      (λ _. inr (k, at, live, sym (doing (home_of c) not_mine), sym thread)) (λ j u _ a l. inr (u, a, l, refl, refl))
 
   pub others_own : ((x : ℕ) (o : Region) → Has k'.own o → x < length o.words → get_or ws' (o.at + x) 0 ≡ get_or o.words x 0) → (x j : ℕ) (u : Holder) (o : Region) → At views' j u → Has u.own o → x < length o.words → get_or ws' (o.at + x) 0 ≡ get_or o.words x 0
   others_own mine x j u o a = each_set (λ j u. Has u.own o → x < length o.words → get_or ws' (o.at + x) 0 ≡ get_or o.words x 0) s.views id k' (mine x o)
@@ -167,7 +167,7 @@ module _ (plan : Plan) (s : State Slot Holder) (r : Kept plan s) (hs' : Homes) (
         things = λ y c hc not_mine is. inl (refl, λ t. refl);
         sizes = λ y c hc not_mine is. refl;
         threads = λ t lt. lt;
-        stays = stays_else (is_home b) r.run r.lines added q.doing;
+        stays = stays_else (note_thread k.view k'.view q.note) (is_home b) r.run r.lines added q.doing;
         turn = λ off. record {
           homes = q.slot off;
           lines = refl;
@@ -179,6 +179,7 @@ module _ (plan : Plan) (s : State Slot Holder) (r : Kept plan s) (hs' : Homes) (
         anew = λ c hc mine. q.anew c hc (eqb-true (home_of c) (home_of b) mine);
         new = q.new;
         one = λ y c d hc hd ic id. absurd (let none_is = q.no_thing c hc in let h : None ≡ Some y = sym none_is ∙ ic in cc);
+        one_thread = λ n c d hc hd ic id. absurd (let y = number_thing c n ic in let h : None ≡ Some y.0 = sym (q.no_thing c hc) ∙ y.1 in cc);
         one_shape = q.one_shape;
         homes = q.homes;
         known = λ j u c a. each_set (λ j u. Knows u c → Has (r.blocks ++ added) c) s.views id k' (q.knows_in c) (λ j u _ a kn. has_front r.blocks added c (r.known j u c a kn)) j u a;
@@ -242,6 +243,7 @@ module _ (plan : Plan) (s : State Slot Holder) (r : Kept plan s) (hs' : Homes) (
     pub shapes_new : (shape : Shape) (place : ℕ) → Has added (ShapeAt shape place) → Has (tally_of plan.slots (run_after r.run k.view.thread e z).events).shapes shape ⊎ Has k'.shapes shape
     pub fresh : (y : Id) (c : Block) → Has added c → id_of c ≡ Some y → found r.run.store y ≡ None
     pub one : (y : Id) (c d : Block) → Has added c → Has added d → id_of c ≡ Some y → id_of d ≡ Some y → c ≡ d
+    pub one_thread : (n : ℕ) (c d : Block) → Has added c → Has (r.blocks ++ added) d → number_of c ≡ Some n → number_of d ≡ Some n → c ≡ d
     pub one_shape : (shape : Shape) (place to : ℕ) → Has added (ShapeAt shape place) → Has (r.blocks ++ added) (ShapeAt shape to) → place ≡ to
 
   module _ (added : List Block) (e : Entry) (refs : List Ref) (z : Store) (c : Enters added e refs z) where
@@ -321,7 +323,7 @@ module _ (plan : Plan) (s : State Slot Holder) (r : Kept plan s) (hs' : Homes) (
           sizes = λ y d hd not_mine is. let was = there plan s r d y hd is in
               size_after plan.slots r.run.events r.run.store t e y was.0 (λ touched. true≢false (sym (c.receiver y d hd is touched) ∙ not_mine)) was.1 c.steps.joins;
           threads = λ n lt. let le = grows.more in omega (arith, lt, le);
-          stays = stays_else c.mine run' c.lines added c.doing;
+          stays = stays_else (ap (λ (v : View). v.thread) c.view) c.mine run' c.lines added c.doing;
           turn = λ off. let left = c.off_turn off in record {
             homes = left.0;
             lines = left.1;
@@ -336,6 +338,7 @@ module _ (plan : Plan) (s : State Slot Holder) (r : Kept plan s) (hs' : Homes) (
               (λ (old : Has r.blocks f). absurd (let was = there plan s r f y old also in let gone = c.fresh y d hd is in let h : None ≡ Some was.0 = sym gone ∙ was.1 in cc))
               (λ (come : Has added f). c.one y d f hd come is also)
               (has_either r.blocks added f hf);
+          one_thread = c.one_thread;
           one_shape = c.one_shape;
           homes = c.homes;
           known = λ j u d a. each_set (λ j u. Knows u d → Has (r.blocks ++ added) d) s.views id k' (c.knows_in d) (λ j u _ a kn. has_front r.blocks added d (r.known j u d a kn)) j u a;
