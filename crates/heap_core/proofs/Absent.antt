@@ -7,7 +7,10 @@ use Rattle.rb_model.specs.declared.value.Value.{Value}
 use Rattle.rb_model.specs.declared.value.Value.TheVariants as value
 use Rattle.rb_model.specs.Acts.{Act, Reply}
 use Rattle.rb_model.specs.Log.{Call, On, Start, Gather, Print, End}
-use Rattle.rb_model.specs.Moving.{refs_in, refs_in_all}
+use Rattle.rb_model.specs.declared.call.End.{End as EndHeld}
+use Rattle.rb_model.specs.declared.call.End.TheVariants as end
+use Rattle.rb_model.specs.Ends.{over, told}
+use Rattle.rb_model.specs.Moving.{refs_in, refs_in_all, refs_in_end}
 use Rattle.rb_model.specs.Private.{Item}
 use Rattle.rb_model.specs.Started.{started, thread_id}
 use Rattle.rb_model.specs.Things.{Thing}
@@ -163,6 +166,15 @@ module _ (w : Store) where
   -- values whose references are known name things of the store
   pub known_fit : (known : List Ref) (vs : List Value) → Each (NamesHeld w) known → Each (λ (r : Ref). Has known r) (refs_in_all vs) → Each (Fits w) (map plain vs)
   known_fit known vs named has = all_fit vs (each_more (λ (r : Ref). Has known r) (NamesHeld w) (λ r h. each_has (NamesHeld w) known r named h) (refs_in_all vs) has)
+
+  -- and so does that which an end tells
+  pub end_fit : (known : List Ref) (e : EndHeld) → Each (NamesHeld w) known → Each (λ (r : Ref). Has known r) (refs_in_end e) → Each (Fits w) (told (over e))
+  end_fit known (end.Value v) named has = (value_fits v (each_more (λ (r : Ref). Has known r) (NamesHeld w) (λ r h. each_has (NamesHeld w) known r named h) (refs_in v) has), tt)
+  end_fit known (end.Raised f at) named has = tt
+  end_fit known end.Steps named has = tt
+  end_fit known (end.Full used wanted) named has = tt
+  end_fit known end.Sink named has = tt
+  end_fit known end.Memory named has = tt
 
   sort_there : (o : Option Thing) (s : Sort) → option_map sort_in o ≡ Some s → is_some o ≡ true
   sort_there None s e = absurd (cc)

@@ -80,7 +80,7 @@ line_on t (x ∷ lines) m (inl e) = inl (ap (over_line t) e)
 line_on t (x ∷ lines) m (inr h) = inr (line_on t lines m h)
 
 -- it tells of each thread, where one has ended now
-lines_end : (run run' : Run) (t : ℕ) (lines : List (Option Line)) → LinesTell run lines → ended_in run' t ≡ true → ((u : ℕ) → (u ≡ t → ⊥) → ended_in run' u ≡ ended_in run u) → ((u : ℕ) → IsThread run u → IsThread run' u) → ((u : ℕ) → IsThread run' u → IsThread run u) → LinesTell run' (over_at t lines)
+pub lines_end : (run run' : Run) (t : ℕ) (lines : List (Option Line)) → LinesTell run lines → ended_in run' t ≡ true → ((u : ℕ) → (u ≡ t → ⊥) → ended_in run' u ≡ ended_in run u) → ((u : ℕ) → IsThread run u → IsThread run' u) → ((u : ℕ) → IsThread run' u → IsThread run u) → LinesTell run' (over_at t lines)
 lines_end run run' t lines tell now other more threads = record {
   known = λ l h. let p = line_back t lines l h in subst (IsThread run') (ap (λ (x : Line). x.number) (sym p.2)) (more p.0.number (tell.known p.0 p.1));
   over = λ l h. let p = line_back t lines l h in ap (λ (x : Line). x.over) p.2 ∙ (told_of p.0 p.1 ∙ ap (λ (x : Line). ended_in run' x.number) (sym p.2));
@@ -105,7 +105,7 @@ lines_end run run' t lines tell now other more threads = record {
 
 -- ---- the seats
 
-seated_end : (slots : ℕ) (z : Store) (t : ℕ) (how : Ending) (lines : List (Option ℕ)) (views : List Holder) → Seated slots z lines views → Seated slots (map (ended_item t how) z) lines views
+pub seated_end : (slots : ℕ) (z : Store) (t : ℕ) (how : Ending) (lines : List (Option ℕ)) (views : List Holder) → Seated slots z lines views → Seated slots (map (ended_item t how) z) lines views
 seated_end slots z t how lines views s = record {
   long = s.long;
   main = s.main;
@@ -189,6 +189,7 @@ module _ (plan : Plan) (s : State Slot Holder) (r : Kept plan s) (id : ℕ) (k :
         shapes_on = λ shape q. inr q;
         fresh = λ y c q. absurd q;
         one = λ y c d q. absurd q;
+        one_thread = λ number c d q. absurd q;
       }
 
 -- ---- the step

@@ -19,14 +19,14 @@ use Rattle.heap_core.specs.declared.line.Line.{Line}
 use Rattle.heap_core.specs.Handing.{Handed}
 use Rattle.heap_core.specs.Blocks.{Block, ObjectAt, ChunkAt, MutexAt, ThreadAt, TextAt, BoxAt, ShapeAt, LockAt, TheTurn, home_of, id_of, number_of, InFamily, LinkAt}
 use Rattle.heap_core.specs.Spelling.{Spells, SpellsAt}
-use Rattle.heap_core.specs.View.{Holder, Idle, Locked, busy_at}
+use Rattle.heap_core.specs.View.{Holder, Busy, Idle, Locked, Turned, Ends, busy_at}
 use Rattle.heap_core.specs.Moment.{Moment, At, word, thing_at, size_at, is_over, owner_in}
 use Rattle.heap_core.specs.Locks.{LockStands}
 use Rattle.heap_core.specs.Objects.{ObjectStands, FieldStands, LinksChunk, IsPlace, lock_of, shape_of, chunk_of}
 use Rattle.heap_core.specs.Shapes.{ShapeStands, Leads, IsLink}
 use Rattle.heap_core.specs.Links.{IsNth, Joins}
 use Rattle.heap_core.specs.Mutexes.{MutexStands, owner_of}
-use Rattle.heap_core.specs.Threads.{EndIs, TellsEnd, ThreadStands, state_of, result_of}
+use Rattle.heap_core.specs.Threads.{EndIs, TellsEnd, SaysEnd, ThreadStands, state_of, result_of}
 use Rattle.heap_core.specs.Turns.{Sinks, LinesTell, IsHanded, HasTurn, HasNone, TurnStands}
 use Rattle.heap_core.specs.Rule.{Stands}
 
@@ -50,10 +50,13 @@ FollowsEnd m m' b id = (t : ℕ) × (how : Ending) × (thing_at m' id ≡ option
 abbrev pub Follows : Moment → Moment → Block → Id → Type 0
 Follows m m' b id = ((thing_at m' id ≡ thing_at m id) × SameOver m m') ⊎ FollowsEnd m m' b id
 
--- what is in progress at a place afterwards was in progress there before, at the same live seat
+-- what is in progress at a place afterwards was in progress there before, at the same live seat of the same thread
+abbrev pub WasBusy : Moment → ℕ → ℕ → Holder → Type 0
+WasBusy m at j k' = (k : Holder) × At m.holders j k × (k.live ≡ true) × (busy_at at k.doing ≡ busy_at at k'.doing) × (k.view.thread ≡ k'.view.thread)
+
 abbrev pub Stays : Moment → Moment → ℕ → Type 0
 Stays m m' at = (j : ℕ) (k' : Holder) → At m'.holders j k' → k'.live ≡ true
-    → (busy_at at k'.doing ≡ Idle) ⊎ ((k : Holder) × At m.holders j k × (k.live ≡ true) × (busy_at at k.doing ≡ busy_at at k'.doing))
+    → (busy_at at k'.doing ≡ Idle) ⊎ WasBusy m at j k'
 
 -- What a step elsewhere leaves of the turn: the slot, the lines, that the sink has taken the prints, and who has the turn.
 pub record TurnStays (m m' : Moment) : Type 0 where
@@ -143,7 +146,7 @@ module _ (m m' : Moment) where
     l.0,
     λ j k' at live busy. ⊎_elim
         (λ (idle : busy_at place k'.doing ≡ Idle). absurd (idle_locked (sym idle ∙ busy)))
-        (λ (p : (k : Holder) × At m.holders j k × (k.live ≡ true) × (busy_at place k.doing ≡ busy_at place k'.doing)). let h = l.1 j p.0 p.1 p.2 (p.3 ∙ busy) in (same ∙ h.0, h.1))
+        (λ (p : WasBusy m place j k'). let h = l.1 j p.0 p.1 p.2 (p.3 ∙ busy) in (same ∙ h.0, h.1))
         (stays j k' at live),
   )
 
@@ -274,6 +277,12 @@ module _ (m m' : Moment) where
     not_ended : (t : ℕ) (how : Ending) (s : ThreadState) → s.number ≡ number → (Some number ≡ Some t → ⊥) → ended_thing t how (Thread s) ≡ Thread s
     not_ended t how s is other = ap (λ b. Thread (cond b (record s { end = Some how }) s)) (ne_eqb s.number t (λ e. other (ap Some (sym is ∙ e))))
 
+    said_on : (k w : Holder) (busy : Busy) → k.view.thread ≡ w.view.thread → SaysEnd m number at k busy → SaysEnd m' number at w busy
+    said_on k w (Ends state result) same says = λ own. let p = says (same ∙ own) in (thread_word (at + 5) (omega arith) (omega arith) ∙ p.0, thread_word (at + 6) (omega arith) (omega arith) ∙ p.1)
+    said_on k w Idle same says = tt
+    said_on k w Locked same says = tt
+    said_on k w (Turned what out) same says = tt
+
     pub thread_frame : ThreadStands m id number maker at → ThreadStands m' id number maker at
     thread_frame s = record {
       state = s.state;
@@ -284,6 +293,7 @@ module _ (m m' : Moment) where
       number_is = s.number_is;
       maker_is = s.maker_is;
       begun = s.begun;
+      within = l.threads number s.within;
       tag = thread_word at (omega arith) (omega arith) ∙ s.tag;
       made_by = thread_word (at + 1) (omega arith) (omega arith) ∙ s.made_by;
       serial = thread_word (at + 2) (omega arith) (omega arith) ∙ s.serial;
@@ -293,6 +303,10 @@ module _ (m m' : Moment) where
       end = subst (λ x. TellsEnd m'.blocks x (word m' (result_of at)) s.state.end) (sym (thread_word (at + 5) (omega arith) (omega arith)))
           (subst (λ x. TellsEnd m'.blocks (word m (state_of at)) x s.state.end) (sym (thread_word (at + 6) (omega arith) (omega arith)))
           (tells_among m.blocks m'.blocks l.blocks (word m (state_of at)) (word m (result_of at)) s.state.end s.end));
+      says = λ j w there live. ⊎_elim
+          (λ (idle : busy_at at w.doing ≡ Idle). subst (SaysEnd m' number at w) (sym idle) tt)
+          (λ (p : WasBusy m at j w). said_on p.0 w (busy_at at w.doing) p.4 (subst (SaysEnd m number at p.0) p.3 (s.says j p.0 p.1 p.2)))
+          (l.stays j w there live);
     }
 
   -- what the table of threads tells stays so
@@ -319,7 +333,7 @@ module _ (m m' : Moment) where
     still_none : (j : ℕ) (k' : Holder) → At m'.holders j k' → k'.live ≡ true → ((k : Holder) → At m.holders j k → k.live ≡ true → HasNone k) → HasNone k'
     still_none j k' at live before = ⊎_elim
         (λ (idle : busy_at turn_word k'.doing ≡ Idle). idle)
-        (λ (p : (k : Holder) × At m.holders j k × (k.live ≡ true) × (busy_at turn_word k.doing ≡ busy_at turn_word k'.doing)). sym p.3 ∙ before p.0 p.1 p.2)
+        (λ (p : WasBusy m turn_word j k'). sym p.3 ∙ before p.0 p.1 p.2)
         (l.stays j k' at live)
 
     pub turn_frame : TurnStands m → TurnStands m'

@@ -107,8 +107,8 @@ module _ (plan : Plan) (s : State Slot Holder) (r : Kept plan s) (id : ℕ) (k :
       thing = λ y e. inl (refl, λ t. refl);
       size = λ y e. refl;
       threads = λ t lt. lt;
-      stays = each_set (λ j u. u.live ≡ true → (busy_at (home_of c) u.doing ≡ Idle) ⊎ ((y : Holder) × At s.views j y × (y.live ≡ true) × (busy_at (home_of c) y.doing ≡ busy_at (home_of c) u.doing))) s.views id (with_more k r.blocks)
-          (λ _. inr (k, seat, live, refl)) (λ j u _ a l. inr (u, a, l, refl));
+      stays = each_set (λ j u. u.live ≡ true → (busy_at (home_of c) u.doing ≡ Idle) ⊎ ((y : Holder) × At s.views j y × (y.live ≡ true) × (busy_at (home_of c) y.doing ≡ busy_at (home_of c) u.doing) × (y.view.thread ≡ u.view.thread))) s.views id (with_more k r.blocks)
+          (λ _. inr (k, seat, live, refl, refl)) (λ j u _ a l. inr (u, a, l, refl, refl));
       turn = λ e. record {
         homes = refl;
         lines = refl;

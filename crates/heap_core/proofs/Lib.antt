@@ -26,3 +26,5 @@ pub mod Absent
 pub mod Seating
 pub mod Starting
 pub mod Laying
+pub mod Finishing
+pub mod Parting

@@ -16,7 +16,7 @@ use Rattle.shared_run.proofs.Sinking.{first_stands as sink_stands}
 use Rattle.heap_core.specs.Places.{opening_words, used_word, turn_word, first_root, first_shared, tree_lock, shape_words}
 use Rattle.heap_core.specs.declared.line.Line.{Line}
 use Rattle.heap_core.specs.Handing.{Plan, Handed, Slot, numbers}
-use Rattle.heap_core.specs.Blocks.{Block, ObjectAt, ShapeAt, LockAt, TheTurn, LinkAt, place_of, size_of, id_of, HasHome, Inside}
+use Rattle.heap_core.specs.Blocks.{Block, ObjectAt, ShapeAt, LockAt, TheTurn, LinkAt, place_of, size_of, id_of, HasHome, Inside, number_of}
 use Rattle.heap_core.specs.Charges.{globals_shape}
 use Rattle.heap_core.specs.View.{Region, Holder, Idle, Locked, InOwn, opening_blocks, first_holder, busy_at}
 use Rattle.heap_core.specs.Moment.{Moment, At}
@@ -304,6 +304,7 @@ starts ws what p lines_are sink_is none_started fine some_slots some_words size 
   };
   each = first_stands;
   one = λ id b c hb hc ib ic. only_object b hb id ib ∙ sym (only_object c hc id ic);
+  one_thread = λ n b c hb hc ib ic. absurd (first_each (λ b. number_of b ≡ Some n → ⊥) (no_number n) (no_number n) (no_number n) (no_number n) (no_number n) (no_number n) b hb ib);
   one_shape = λ shape at to ha ht. ⊎_elim
       (λ (x : (shape ≡ root_of globals_class) × (at ≡ first_root)). ⊎_elim
       (λ (y : (shape ≡ root_of globals_class) × (to ≡ first_root)). x.1 ∙ sym y.1)
@@ -344,6 +345,9 @@ starts ws what p lines_are sink_is none_started fine some_slots some_words size 
   shows = λ j k a h e. absurd (none_shown h (ap (λ (u : Holder). u.front) (only j k a).1 ∙ e));
 }
   where
+    no_number : (n : ℕ) → ◌≡◌ {A = Option ℕ} None (Some n) → ⊥
+    no_number n e = cc
+
     w : ℕ → ℕ
     w i = get_or ws i 0
 

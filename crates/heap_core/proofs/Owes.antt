@@ -12,7 +12,7 @@ use Rattle.shared_run.specs.Run as runs
 use Rattle.shared_run.proofs.Events.{has_either}
 use Rattle.heap_core.specs.Places.{opening_words, used_word, turn_word, shape_words, thread_words, tree_lock, first_root}
 use Rattle.heap_core.specs.Handing.{Plan, Slot, Homes}
-use Rattle.heap_core.specs.Blocks.{Block, ObjectAt, ChunkAt, MutexAt, ThreadAt, TextAt, BoxAt, ShapeAt, LockAt, TheTurn, home_of, id_of, HasHome, InFamily, words_of_shapes, LinkAt, IsOfTree}
+use Rattle.heap_core.specs.Blocks.{Block, ObjectAt, ChunkAt, MutexAt, ThreadAt, TextAt, BoxAt, ShapeAt, LockAt, TheTurn, home_of, id_of, HasHome, InFamily, words_of_shapes, LinkAt, IsOfTree, number_of}
 use Rattle.heap_core.specs.Charges.{budget, tally_of}
 use Rattle.heap_core.specs.Links.{IsNth}
 use Rattle.heap_core.specs.View.{Region, Holder, Knows, HasTree, held}
@@ -74,6 +74,7 @@ module _ (plan : Plan) (s : State Slot Holder) (r : Kept plan s) (ws' : List ℕ
     pub spare : owned views' + get_or s.words used_word 0 ≤ owned s.views + get_or ws' used_word 0
     pub few : (home link to number : ℕ) → Has added (LinkAt home link to number) → shape_words * number + owned views' ≤ get_or ws' used_word 0
     pub deep : (shape : Shape) (at : ℕ) → Has added (ShapeAt shape at) → shape_words * length shape.path + owned views' ≤ get_or ws' used_word 0
+    pub one_thread : (n : ℕ) (b c : Block) → Has added b → Has (r.blocks ++ added) c → number_of b ≡ Some n → number_of c ≡ Some n → b ≡ c
     pub one_shape : (shape : Shape) (at to : ℕ) → Has added (ShapeAt shape at) → Has (r.blocks ++ added) (ShapeAt shape to) → at ≡ to
     pub homes : (b : Block) → Has added b → HasHome (r.blocks ++ added) b
     pub known : (j : ℕ) (k : Holder) (b : Block) → At views' j k → Knows k b → Has (r.blocks ++ added) b
@@ -137,6 +138,13 @@ module _ (plan : Plan) (s : State Slot Holder) (r : Kept plan s) (ws' : List ℕ
         (λ (new : Has o.added c). sym (o.one id c b new hb ic ib))
         (has_either r.blocks o.added c hc))
         (λ (new : Has o.added b). o.one id b c new hc ib ic)
+        (has_either r.blocks o.added b hb);
+    one_thread = λ n b c hb hc ib ic. ⊎_elim
+        (λ (old : Has r.blocks b). ⊎_elim
+        (λ (also : Has r.blocks c). r.one_thread n b c old also ib ic)
+        (λ (new : Has o.added c). sym (o.one_thread n c b new hb ic ib))
+        (has_either r.blocks o.added c hc))
+        (λ (new : Has o.added b). o.one_thread n b c new hc ib ic)
         (has_either r.blocks o.added b hb);
     one_shape = λ shape at to ha ht. ⊎_elim
         (λ (old : Has r.blocks (ShapeAt shape at)). ⊎_elim

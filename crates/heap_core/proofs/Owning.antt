@@ -222,6 +222,7 @@ module _ (plan : Plan) (s : State Slot Holder) (r : Kept plan s) (id : ℕ) (k :
           shapes_on = λ shape q. inr q;
           fresh = λ y c q. absurd q;
           one = λ y c d q. absurd q;
+          one_thread = λ number c d q. absurd q;
         }
 
 -- ---- the steps

@@ -15,7 +15,7 @@ use Rattle.shared_run.specs.Run as runs
 use Rattle.shared_run.proofs.Events.{has_either}
 use Rattle.shared_run.proofs.Knowing.{maker_knows, newborn_knows, joined_knows}
 use Rattle.heap_core.specs.Handing.{Plan, Handed, Slot}
-use Rattle.heap_core.specs.Places.{turn_word, used_word, tree_lock}
+use Rattle.heap_core.specs.Places.{turn_word, tree_lock}
 use Rattle.heap_core.specs.Blocks.{Block, home_of, words_of_shapes, IsOfTree}
 use Rattle.heap_core.specs.View.{words_in, Holder, Idle, Turned, Knows, AtRest, held, maker, child, child_of, joined, front_holder, spent_holder, busy_at, Locked, HasTree}
 use Rattle.heap_core.specs.Moment.{At}
@@ -34,7 +34,7 @@ idle_locked e = cc
 module _ (plan : Plan) where
   -- what was in progress at a place before
   abbrev Was : State Slot Holder → ℕ → ℕ → Holder → Type 0
-  Was s x j u = u.live ≡ true → (busy_at x u.doing ≡ Idle) ⊎ ((y : Holder) × At s.views j y × (y.live ≡ true) × (busy_at x y.doing ≡ busy_at x u.doing))
+  Was s x j u = u.live ≡ true → (busy_at x u.doing ≡ Idle) ⊎ ((y : Holder) × At s.views j y × (y.live ≡ true) × (busy_at x y.doing ≡ busy_at x u.doing) × (y.view.thread ≡ u.view.thread))
 
   -- ---- a seat is split off
 
@@ -87,7 +87,7 @@ module _ (plan : Plan) where
         things = λ y b hb _ e. inl (refl, λ t. refl);
         sizes = λ y b hb _ e. refl;
         threads = λ t lt. lt;
-        stays = λ b hb _. each_two (Was s (home_of b)) s.views id (maker k) w (λ _. inr (k, at, live, refl)) (λ _. inl (c.idle (home_of b))) (λ j u _ a l. inr (u, a, l, refl));
+        stays = λ b hb _. each_two (Was s (home_of b)) s.views id (maker k) w (λ _. inr (k, at, live, refl, refl)) (λ _. inl (c.idle (home_of b))) (λ j u _ a l. inr (u, a, l, refl, refl));
         turn = λ _. record {
           homes = refl;
           lines = refl;
@@ -100,6 +100,7 @@ module _ (plan : Plan) where
         anew = λ b hb e. absurd (true≢false (sym e));
         new = λ b h. absurd h;
         one = λ y b d h. absurd h;
+        one_thread = λ number c d h. absurd h;
         tree = tree_in plan s r (set s.views id (maker k) ++ w ∷ []) (each_two (λ j u. u.live ≡ true → HasTree u → (b : Block) → Has r.blocks b → IsOfTree b → Knows u b) s.views id (maker k) w
             (r.tree id k at) (λ _ has. absurd (idle_locked (sym (c.idle tree_lock) ∙ has))) (λ j u _ a. r.tree j u a));
         linked = λ shape place h. absurd h;
@@ -196,7 +197,7 @@ module _ (plan : Plan) where
         things = λ y b hb _ e. inl (refl, λ t. refl);
         sizes = λ y b hb _ e. refl;
         threads = λ t lt. lt;
-        stays = λ b hb _. each_both (Was s (home_of b)) s.views id other (joined k u) spent_holder (λ _. inr (k, at, live, refl)) (λ _. inl refl) (λ j x _ _ a l. inr (x, a, l, refl));
+        stays = λ b hb _. each_both (Was s (home_of b)) s.views id other (joined k u) spent_holder (λ _. inr (k, at, live, refl, refl)) (λ _. inl refl) (λ j x _ _ a l. inr (x, a, l, refl, refl));
         turn = λ _. record {
           homes = refl;
           lines = refl;
@@ -219,6 +220,7 @@ module _ (plan : Plan) where
         spare = let one = owned_set s.views id k (joined k u) at in let two = owned_set (set s.views id (joined k u)) other u spent_holder there in let none_own = ap words_in rests.0 in omega (arith, one, two, none_own);
         few = λ home link to number h. absurd h;
         deep = λ shape place h. absurd h;
+        one_thread = λ number c d h. absurd h;
         one_shape = λ shape place to h. absurd h;
         homes = λ b h. absurd h;
         known = λ j x b a. each_both (λ j x. Knows x b → Has (r.blocks ++ []) b) s.views id other (joined k u) spent_holder

@@ -110,6 +110,7 @@ module _ (plan : Plan) (s : State Slot Holder) (r : Kept plan s) (id : ℕ) (k :
         shapes_on = λ shape q. inr q;
         fresh = λ y c q. absurd q;
         one = λ y c d q. absurd q;
+        one_thread = λ number c d q. absurd q;
       }
 
   -- ---- with a refusal
@@ -144,7 +145,7 @@ module _ (plan : Plan) (s : State Slot Holder) (r : Kept plan s) (id : ℕ) (k :
         things = λ y d hd not_mine is. inl (refl, λ u. refl);
         sizes = λ y d hd not_mine is. refl;
         threads = λ n lt. let c = refused_count r.run.refusals v.thread q in omega (arith, lt, c);
-        stays = stays_else plan s r homes' id k k' turn_word 0 TheTurn seat live live refl refl r.turn (place_inside TheTurn) (is_home TheTurn) run' r.lines [] (λ x far. else_same x k far);
+        stays = stays_else plan s r homes' id k k' turn_word 0 TheTurn seat live live refl refl r.turn (place_inside TheTurn) refl (is_home TheTurn) run' r.lines [] (λ x far. else_same x k far);
         turn = λ off. absurd (true≢false off);
         anew = λ c hc mine. subst (Stands (moment plan (whole (set s.words turn_word 0) homes' (set s.views id k')) run' r.lines (r.blocks ++ [])))
             (sym (alone_at plan s r TheTurn r.turn tt (λ h. h) c hc (eqb-true (home_of c) turn_word mine)))
@@ -160,6 +161,7 @@ module _ (plan : Plan) (s : State Slot Holder) (r : Kept plan s) (id : ℕ) (k :
         spare = let owns = owned_set s.views id k k' seat in omega (arith, owns, used);
         few = λ home link to number h. absurd h;
         deep = λ shape place h. absurd h;
+        one_thread = λ number c d n. absurd n;
         one_shape = λ shape place to n. absurd n;
         homes = λ c n. absurd n;
         known = λ j u d a. each_set (λ j u. Knows u d → Has (r.blocks ++ []) d) s.views id k' (λ kn. subst (λ bs. Has bs d) (sym same_blocks) (r.known id k d seat kn)) (λ j u _ a kn. subst (λ bs. Has bs d) (sym same_blocks) (r.known j u d a kn)) j u a;

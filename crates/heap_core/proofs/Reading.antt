@@ -92,7 +92,7 @@ module _ (plan : Plan) (s : State Slot Holder) (r : Kept plan s) (id : ℕ) (k k
         things = λ y d hd not_mine is. inl (refl, λ u. ends_same plan.slots r.run k.view e front behind r.is_run knew c.may u);
         sizes = λ y d hd not_mine is. ap (λ (q : Tally). size_of_id q.sizes y) counts;
         threads = λ n lt. lt;
-        stays = stays_else plan s r s.homes id k k' i n b at live alive line size here inside (is_home b) run r.lines [] c.doing;
+        stays = stays_else plan s r s.homes id k k' i n b at live alive line size here inside thread_is (is_home b) run r.lines [] c.doing;
         turn = λ off. record {
           homes = refl;
           lines = refl;
@@ -110,6 +110,7 @@ module _ (plan : Plan) (s : State Slot Holder) (r : Kept plan s) (id : ℕ) (k k
         spare = let owns = owned_set s.views id k k' at in let own = ap words_in c.own in let ahead = c.ahead in omega (arith, owns, own, ahead, used);
         few = λ home link to number h. absurd h;
         deep = λ shape place h. absurd h;
+        one_thread = λ number c d h. absurd h;
         one_shape = λ shape place to h. absurd h;
         homes = λ b h. absurd h;
         known = λ j u d a. each_set (λ j u. Knows u d → Has (r.blocks ++ []) d) s.views id k' (λ kn. subst (λ bs. Has bs d) (sym same_blocks) (c.knows_in d kn)) (λ j u _ a kn. subst (λ bs. Has bs d) (sym same_blocks) (r.known j u d a kn)) j u a;

@@ -10,7 +10,7 @@ use Rattle.rb_shared.specs.Lists.{Has, Each}
 use Rattle.rb_shared.specs.Store.{found, threads}
 use Rattle.rb_shared.specs.View.{View}
 use Rattle.rb_shared.proofs.Runs.{each_more}
-use Rattle.shared_run.specs.Run.{IsNote}
+use Rattle.shared_run.specs.Run.{IsNote, IsThread}
 use Rattle.heap_core.specs.Handing.{Plan, Slot}
 use Rattle.heap_core.specs.Blocks.{Block, ObjectAt, ChunkAt, MutexAt, ThreadAt, TextAt, BoxAt, ShapeAt, LockAt, TheTurn, home_of, id_of, number_of, place_of, Inside, LinkAt}
 use Rattle.heap_core.specs.View.{Holder, Knows}
@@ -102,6 +102,19 @@ lies_more bs cs more rs l = each_more (LiesIn bs) (LiesIn cs) (λ r p. (p.0, mor
 
 -- ---- the things that blocks stand for
 
+-- what has a number is a thing
+pub number_thing : (b : Block) (n : ℕ) → number_of b ≡ Some n → (id : Id) × (id_of b ≡ Some id)
+number_thing (ThreadAt x a maker at) n is = (x, refl)
+number_thing (ObjectAt x at) n is = absurd (let h : None ≡ Some n = is in cc)
+number_thing (ChunkAt object a at) n is = absurd (let h : None ≡ Some n = is in cc)
+number_thing (MutexAt x at) n is = absurd (let h : None ≡ Some n = is in cc)
+number_thing (TextAt bytes at) n is = absurd (let h : None ≡ Some n = is in cc)
+number_thing (BoxAt a at) n is = absurd (let h : None ≡ Some n = is in cc)
+number_thing (ShapeAt shape at) n is = absurd (let h : None ≡ Some n = is in cc)
+number_thing (LockAt at) n is = absurd (let h : None ≡ Some n = is in cc)
+number_thing TheTurn n is = absurd (let h : None ≡ Some n = is in cc)
+number_thing (LinkAt home link to a) n is = absurd (let h : None ≡ Some n = is in cc)
+
 module _ (plan : Plan) (s : State Slot Holder) (r : Kept plan s) where
   some_is : (id id' : Id) → Some id ≡ Some id' → id ≡ id'
   some_is id id' e = cc
@@ -124,6 +137,28 @@ module _ (plan : Plan) (s : State Slot Holder) (r : Kept plan s) where
       by_kind (LockAt at) is k = absurd (none_is id is)
       by_kind TheTurn is k = absurd (none_is id is)
       by_kind (LinkAt home link to number) is k = absurd (none_is id is)
+
+  -- the number of a block is that of a thread
+  pub numbered : (b : Block) (n : ℕ) → Has r.blocks b → number_of b ≡ Some n → IsThread r.run n
+  numbered b n here is = by_kind b is (r.each b here)
+    where
+      none_is : None ≡ Some n → ⊥
+      none_is e = cc
+
+      number : (a c : ℕ) → Some a ≡ Some c → a ≡ c
+      number a c e = cc
+
+      by_kind : (b : Block) → number_of b ≡ Some n → Stands (moment plan s r.run r.lines r.blocks) b → IsThread r.run n
+      by_kind (ThreadAt x a maker at) is k = subst (IsThread r.run) (number a n is) k.within
+      by_kind (ObjectAt x at) is k = absurd (none_is is)
+      by_kind (ChunkAt object a at) is k = absurd (none_is is)
+      by_kind (MutexAt x at) is k = absurd (none_is is)
+      by_kind (TextAt bytes at) is k = absurd (none_is is)
+      by_kind (BoxAt a at) is k = absurd (none_is is)
+      by_kind (ShapeAt shape at) is k = absurd (none_is is)
+      by_kind (LockAt at) is k = absurd (none_is is)
+      by_kind TheTurn is k = absurd (none_is is)
+      by_kind (LinkAt home link to a) is k = absurd (none_is is)
 
   -- no block stands for the main thread
   pub no_main : (b : Block) → Has r.blocks b → number_of b ≡ Some 0 → ⊥

@@ -33,14 +33,14 @@ use Rattle.shared_run.proofs.Sinking.{stands_silent}
 use Rattle.heap_core.specs.declared.line.Line.{Line}
 use Rattle.heap_core.specs.Places.{turn_word, tree_lock, opening_words}
 use Rattle.heap_core.specs.Handing.{Plan, Handed, Slot, Homes, numbers}
-use Rattle.heap_core.specs.Blocks.{Block, ThreadAt, TheTurn, home_of, Inside, IsOfTree, place_of, size_of}
+use Rattle.heap_core.specs.Blocks.{Block, ThreadAt, TheTurn, home_of, Inside, IsOfTree, place_of, size_of, ShapeAt, number_of}
 use Rattle.heap_core.specs.Charges.{tally_of}
 use Rattle.heap_core.specs.Owning.{bare_entry}
 use Rattle.heap_core.specs.Room.{Asking}
 use Rattle.heap_core.specs.Sizes.{size_of_id}
 use Rattle.heap_core.specs.Starting.{is_free, IsStart, NamesNew, StartReplies, line_for, going_line, started_on, TableSeen, SeesTable, Born, born_of, thread_row, LaidFor, with_born, StartsInTurn}
-use Rattle.heap_core.specs.Threads.{ThreadStands}
-use Rattle.heap_core.specs.View.{Region, Holder, Idle, InOwn, words_in, held, busy_at, with_own, with_region}
+use Rattle.heap_core.specs.Threads.{SaysEnd, ThreadStands}
+use Rattle.heap_core.specs.View.{Region, Holder, Busy, Idle, Locked, Turned, Ends, InOwn, words_in, held, busy_at, with_own, with_region}
 use Rattle.heap_core.specs.Moment.{Moment, At, ended_in}
 use Rattle.heap_core.specs.Turns.{Any, LinesTell, HasTurn, HasNone}
 use Rattle.heap_core.specs.Turning.{MakesInTurn, IsBare, out_as, with_out, with_plain, without_turn}
@@ -54,7 +54,7 @@ use Rattle.heap_core.proofs.Owes.{whole}
 use Rattle.heap_core.proofs.Printing.{else_same}
 use Rattle.heap_core.proofs.Rooms.{place_inside}
 use Rattle.heap_core.proofs.Seating.{seated_start}
-use Rattle.heap_core.proofs.Seats.{alone_at, seated_plain, lies_more}
+use Rattle.heap_core.proofs.Seats.{alone_at, seated_plain, lies_more, nobody_claims, numbered}
 use Rattle.heap_core.proofs.Steps.{is_home, tree_stays, change_to}
 use Rattle.heap_core.proofs.Tallies.{tally_start, tally_full}
 use Rattle.heap_core.proofs.Things.{over_same}
@@ -190,6 +190,7 @@ module _ (plan : Plan) (s : State Slot Holder) (r : Kept plan s) (id : ℕ) (k :
         shapes_on = λ shape q. inr q;
         fresh = λ i c q. absurd q;
         one = λ i c d q. absurd q;
+        one_thread = λ number c d q. absurd q;
       }
 
   -- ---- where there is one
@@ -316,6 +317,7 @@ module _ (plan : Plan) (s : State Slot Holder) (r : Kept plan s) (id : ℕ) (k :
         number_is = ap suc counted;
         maker_is = refl;
         begun = omega arith;
+        within = let long = length-append r.run.refusals ([] ∷ []) in let all = t.handed.3 in omega (arith, long, all);
         tag = first;
         made_by = row 1 y.thread (omega arith) refl;
         serial = row 2 y.serial (omega arith) refl;
@@ -323,7 +325,18 @@ module _ (plan : Plan) (s : State Slot Holder) (r : Kept plan s) (id : ℕ) (k :
         maker_word = row 4 k.view.thread (omega arith) refl;
         size = ap (λ l. size_of_id l y) counts.2 ∙ size_absent plan.slots r.run.events z y r.is_run.leads absent;
         end = tt;
+        says = each_set (λ j u. u.live ≡ true → SaysEnd after n at u (busy_at at u.doing)) s.views id k' (λ l. nobody_says k' (busy_at at k'.doing) (λ is. nobody_claims plan s r n last id k seat (live, inl is)))
+            (λ j u _ a l. nobody_says u (busy_at at u.doing) (λ is. nobody_claims plan s r n last j u a (l, inl is)));
       }
+        where
+          last : n ≡ length r.run.refusals
+          last = sym t.handed.3
+
+          nobody_says : (u : Holder) (busy : Busy) → (u.view.thread ≡ n → ⊥) → SaysEnd after n at u busy
+          nobody_says u (Ends state result) not_mine = λ mine. absurd (not_mine mine)
+          nobody_says u Idle not_mine = tt
+          nobody_says u Locked not_mine = tt
+          nobody_says u (Turned what out) not_mine = tt
 
       only : (c : Block) → Has (block ∷ []) c → c ≡ block
       only c (inl q) = q
@@ -389,8 +402,15 @@ module _ (plan : Plan) (s : State Slot Holder) (r : Kept plan s) (id : ℕ) (k :
             shapes_on = λ shape q. inr q;
             fresh = λ i c q is. ap (found z) (sym (id_is y i (ap Rattle.heap_core.specs.Blocks.id_of (sym (only c q)) ∙ is))) ∙ absent;
             one = λ i c d q p _ _. only c q ∙ sym (only d p);
+            one_thread = λ number c d q p is also. ⊎_elim
+                (λ (old : Has r.blocks d). absurd (nobody number (numbered plan s r d number old also) (number_eq number n (sym is ∙ ap number_of (only c q)))))
+                (λ (new : Has (block ∷ []) d). only c q ∙ sym (only d new))
+                (has_either r.blocks (block ∷ []) d p);
           }
         where
+          number_eq : (a c : ℕ) → Some a ≡ Some c → a ≡ c
+          number_eq a c q = cc
+
           id_is : (a c : Id) → Some a ≡ Some c → a ≡ c
           id_is a c q = cc
 

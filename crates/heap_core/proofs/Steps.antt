@@ -35,7 +35,7 @@ use Rattle.heap_core.specs.View.{Region, InRegion, words_in, Holder, Busy, InOwn
 use Rattle.heap_core.specs.Moment.{Moment, At}
 use Rattle.heap_core.specs.Turns.{Any}
 use Rattle.heap_core.specs.Rule.{IsMade, Stands, Seated, Below, LiesIn, Kept, moment, owned}
-use Rattle.heap_core.proofs.Frames.{Follows, Stays}
+use Rattle.heap_core.proofs.Frames.{Follows, Stays, WasBusy}
 use Rattle.heap_core.proofs.Holders.{at_within, each_set, apart_set, keeps_set, owned_set, shapes_append}
 use Rattle.heap_core.proofs.Things.{Touches, found_behind, found_at_end, over_same, over_now, over_other, size_after}
 use mathlib.Core.Option.{some-injective}
@@ -46,7 +46,7 @@ use Rattle.atomic_table.proofs.Lists.{set_here, set_else}
 use Rattle.heap_core.proofs.Tallies.{made_after}
 use Rattle.heap_core.proofs.Owes.{whole, owes_kept}
 use Rattle.heap_core.proofs.Rooms.{laid_step}
-use Rattle.heap_core.proofs.Seats.{note_thread, note_ended, note_known, note_claims, seated_note, lies_more, there, nobody_claims}
+use Rattle.heap_core.proofs.Seats.{note_thread, note_ended, note_known, note_claims, seated_note, lies_more, there, number_thing, nobody_claims}
 
 -- where a thread is started there is one list of refusals more
 opened_most : (rs : List (List Refusal)) (ps : List (ℕ × Reference)) → length (opened rs ps) ≤ length rs + length ps
@@ -104,10 +104,10 @@ module _ (plan : Plan) (s : State Slot Holder) (r : Kept plan s) (hs' : Homes) (
   pub family_same : (mine : ℕ → Bool) → mine (home_of b) ≡ true → (x : ℕ) (c : Block) → Has r.blocks c → mine (home_of c) ≡ false → InFamily r.blocks (home_of c) x → get_or ws' x 0 ≡ get_or s.words x 0
   family_same mine own x c hc not_mine f = word_else x f.0 f.1 f.3 (λ is. true≢false (sym own ∙ (ap (λ (y : Block). mine (home_of y)) (sym is) ∙ (ap mine f.2 ∙ not_mine))))
 
-  pub stays_else : (mine : ℕ → Bool) (run : Run) (lines : List (Option ℕ)) (added : List Block) → ((x : ℕ) → mine x ≡ false → busy_at x k'.doing ≡ busy_at x k.doing)
+  pub stays_else : k'.view.thread ≡ k.view.thread → (mine : ℕ → Bool) (run : Run) (lines : List (Option ℕ)) (added : List Block) → ((x : ℕ) → mine x ≡ false → busy_at x k'.doing ≡ busy_at x k.doing)
       → (c : Block) → Has r.blocks c → mine (home_of c) ≡ false → Stays (moment plan s r.run r.lines r.blocks) (after run lines (r.blocks ++ added)) (home_of c)
-  stays_else mine run lines added doing c hc not_mine = each_set (λ j u. u.live ≡ true → (busy_at (home_of c) u.doing ≡ Busy.Idle) ⊎ ((y : Holder) × At s.views j y × (y.live ≡ true) × (busy_at (home_of c) y.doing ≡ busy_at (home_of c) u.doing))) s.views id k'
-      (λ _. inr (k, at, live, sym (doing (home_of c) not_mine))) (λ j u _ a l. inr (u, a, l, refl))
+  stays_else thread mine run lines added doing c hc not_mine = each_set (λ j u. u.live ≡ true → (busy_at (home_of c) u.doing ≡ Busy.Idle) ⊎ WasBusy (moment plan s r.run r.lines r.blocks) (home_of c) j u) s.views id k'
+      (λ _. inr (k, at, live, sym (doing (home_of c) not_mine), sym thread)) (λ j u _ a l. inr (u, a, l, refl, refl))
 
   pub others_own : ((x : ℕ) (o : Region) → Has k'.own o → x < length o.words → get_or ws' (o.at + x) 0 ≡ get_or o.words x 0) → (x j : ℕ) (u : Holder) (o : Region) → At views' j u → Has u.own o → x < length o.words → get_or ws' (o.at + x) 0 ≡ get_or o.words x 0
   others_own mine x j u o a = each_set (λ j u. Has u.own o → x < length o.words → get_or ws' (o.at + x) 0 ≡ get_or o.words x 0) s.views id k' (mine x o)
@@ -208,7 +208,7 @@ module _ (plan : Plan) (s : State Slot Holder) (r : Kept plan s) (hs' : Homes) (
         things = λ y c hc not_mine is. inl (refl, λ t. refl);
         sizes = λ y c hc not_mine is. refl;
         threads = λ t lt. lt;
-        stays = stays_else (is_home b) r.run r.lines added q.doing;
+        stays = stays_else (note_thread k.view k'.view q.note) (is_home b) r.run r.lines added q.doing;
         turn = λ off. record {
           homes = q.slot off;
           lines = refl;
@@ -226,6 +226,7 @@ module _ (plan : Plan) (s : State Slot Holder) (r : Kept plan s) (hs' : Homes) (
         spare = let owns = owned_set s.views id k k' at in let c = q.counted in omega (arith, owns, c, used);
         few = λ home link to number h. let owns = owned_set s.views id k k' at in let le = q.few home link to number h in omega (arith, owns, le, used);
         deep = λ shape place h. let owns = owned_set s.views id k k' at in let le = q.deep shape place h in omega (arith, owns, le, used);
+        one_thread = λ n c d hc hd ic id. absurd (let y = number_thing c n ic in let h : None ≡ Some y.0 = sym (q.no_thing c hc) ∙ y.1 in cc);
         one_shape = q.one_shape;
         homes = q.homes;
         known = λ j u c a. each_set (λ j u. Knows u c → Has (r.blocks ++ added) c) s.views id k' (q.knows_in c) (λ j u _ a kn. has_front r.blocks added c (r.known j u c a kn)) j u a;
@@ -293,6 +294,7 @@ module _ (plan : Plan) (s : State Slot Holder) (r : Kept plan s) (hs' : Homes) (
     pub shapes_on : (shape : Shape) → Has k.shapes shape → Has (tally_of plan.slots (run_after r.run k.view.thread e z).events).shapes shape ⊎ Has k'.shapes shape
     pub fresh : (y : Id) (c : Block) → Has added c → id_of c ≡ Some y → found r.run.store y ≡ None
     pub one : (y : Id) (c d : Block) → Has added c → Has added d → id_of c ≡ Some y → id_of d ≡ Some y → c ≡ d
+    pub one_thread : (n : ℕ) (c d : Block) → Has added c → Has (r.blocks ++ added) d → number_of c ≡ Some n → number_of d ≡ Some n → c ≡ d
 
   module _ (added : List Block) (e : Entry) (refs : List Ref) (z : Store) (c : Enters added e refs z) where
     abbrev t : ℕ
@@ -371,7 +373,7 @@ module _ (plan : Plan) (s : State Slot Holder) (r : Kept plan s) (hs' : Homes) (
           sizes = λ y d hd not_mine is. let was = there plan s r d y hd is in
               size_after plan.slots r.run.events r.run.store t e y was.0 (λ touched. true≢false (sym (c.receiver y d hd is touched) ∙ not_mine)) was.1 c.steps.joins;
           threads = λ n lt. let le = grows.more in omega (arith, lt, le);
-          stays = stays_else c.mine run' c.lines added c.doing;
+          stays = stays_else (ap (λ (v : View). v.thread) c.view) c.mine run' c.lines added c.doing;
           turn = λ off. let left = c.off_turn off in record {
             homes = left.0;
             lines = left.1;
@@ -393,6 +395,7 @@ module _ (plan : Plan) (s : State Slot Holder) (r : Kept plan s) (hs' : Homes) (
           few = λ home link to number h. absurd (c.no_tree (LinkAt home link to number) h tt);
           deep = λ shape place h. absurd (c.no_tree (ShapeAt shape place) h tt);
           one_shape = λ shape place to h. absurd (c.no_tree (ShapeAt shape place) h tt);
+          one_thread = c.one_thread;
           homes = c.homes;
           known = λ j u d a. each_set (λ j u. Knows u d → Has (r.blocks ++ added) d) s.views id k' (c.knows_in d) (λ j u _ a kn. has_front r.blocks added d (r.known j u d a kn)) j u a;
           lie = each_set (λ j u. u.live ≡ true → Each (LiesIn u.blocks) u.view.known) s.views id k' (λ _. c.lie) (λ j u _ a. r.lie j u a);

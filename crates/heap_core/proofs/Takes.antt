@@ -165,8 +165,8 @@ module _ (plan : Plan) (s : State Slot Holder) (r : Kept plan s) (id : ℕ) (k k
         things = λ y b hb _ is. inl (refl, λ t. refl);
         sizes = λ y b hb _ is. refl;
         threads = λ n lt. let c = o.count in omega (arith, lt, c);
-        stays = λ b hb _. each_set (λ j u. u.live ≡ true → (Rattle.heap_core.specs.View.busy_at (home_of b) u.doing ≡ Rattle.heap_core.specs.View.Idle) ⊎ ((y : Holder) × At s.views j y × (y.live ≡ true) × (Rattle.heap_core.specs.View.busy_at (home_of b) y.doing ≡ Rattle.heap_core.specs.View.busy_at (home_of b) u.doing))) s.views id k'
-            (λ _. inr (k, at, live, ap (Rattle.heap_core.specs.View.busy_at (home_of b)) (sym o.doing))) (λ j u _ a l. inr (u, a, l, refl));
+        stays = λ b hb _. each_set (λ j u. u.live ≡ true → (Rattle.heap_core.specs.View.busy_at (home_of b) u.doing ≡ Rattle.heap_core.specs.View.Idle) ⊎ ((y : Holder) × At s.views j y × (y.live ≡ true) × (Rattle.heap_core.specs.View.busy_at (home_of b) y.doing ≡ Rattle.heap_core.specs.View.busy_at (home_of b) u.doing) × (y.view.thread ≡ u.view.thread))) s.views id k'
+            (λ _. inr (k, at, live, ap (Rattle.heap_core.specs.View.busy_at (home_of b)) (sym o.doing), sym o.thread)) (λ j u _ a l. inr (u, a, l, refl, refl));
         turn = λ _. record {
           homes = refl;
           lines = refl;
@@ -184,6 +184,7 @@ module _ (plan : Plan) (s : State Slot Holder) (r : Kept plan s) (id : ℕ) (k k
         spare = let owns = owned_set s.views id k k' at in let counted = o.counted in let ahead = o.ahead in omega (arith, owns, counted, ahead);
         few = λ home link to number h. absurd h;
         deep = λ shape place h. absurd h;
+        one_thread = λ number c d h. absurd h;
         one_shape = λ shape place to h. absurd h;
         homes = λ b h. absurd h;
         known = λ j u b a. each_set (λ j u. Knows u b → Has (r.blocks ++ []) b) s.views id k' (λ kn. subst (λ bs. Has bs b) (sym same_blocks) (r.known id k b at (subst (λ bs. Has bs b) o.blocks kn)))

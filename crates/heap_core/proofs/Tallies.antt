@@ -172,3 +172,16 @@ tally_full slots events t step id body values =
       ap (λ (x : Tally). x.words) more ∙ (let z : (tally_of slots events).words + 0 + 0 ≡ (tally_of slots events).words = omega arith in z),
       ap (λ (x : Tally). x.shapes) more,
     )
+
+-- ---- an end takes the block of its value
+
+pub tally_told : (slots : ℕ) (events : List Event) (t step : ℕ) (how : Ending)
+    → ((tally_of slots (events ++ event_of t (plain_entry step (End how)) ∷ [])).words ≡ (tally_of slots events).words + blocks_of_all (told how))
+    × ((tally_of slots (events ++ event_of t (plain_entry step (End how)) ∷ [])).shapes ≡ (tally_of slots events).shapes)
+    × ((tally_of slots (events ++ event_of t (plain_entry step (End how)) ∷ [])).sizes ≡ (tally_of slots events).sizes)
+tally_told slots events t step how =
+    let more = tally_append slots opening_tally events (event_of t (plain_entry step (End how)) ∷ []) in (
+      ap (λ (x : Tally). x.words) more ∙ (let z : (tally_of slots events).words + 0 + blocks_of_all (told how) ≡ (tally_of slots events).words + blocks_of_all (told how) = omega arith in z),
+      ap (λ (x : Tally). x.shapes) more,
+      ap (λ (x : Tally). x.sizes) more ∙ append-nil (tally_of slots events).sizes,
+    )

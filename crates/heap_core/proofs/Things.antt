@@ -136,7 +136,7 @@ found_act : (z : Store) (t : ℕ) (a id : Id) (o : Option Thing) (act : Act) →
 found_act z t a id None act off = refl
 found_act z t a id (Some thing) act off = found_else z a id (Rattle.rb_shared.specs.Step.behind_act t thing act) off
 
-found_ended : (z : Store) (t : ℕ) (how : Ending) (id : Id) → found (map (ended_item t how) z) id ≡ option_map (ended_thing t how) (found z id)
+pub found_ended : (z : Store) (t : ℕ) (how : Ending) (id : Id) → found (map (ended_item t how) z) id ≡ option_map (ended_thing t how) (found z id)
 found_ended [] t how id = refl
 found_ended (x ∷ xs) t how id = by_test (found_ended xs t how id) (same_id x.id id)
   where

@@ -16,7 +16,7 @@ use Rattle.shared_run.specs.Run.{Run, IsRun, MayStill, refused_at}
 use Rattle.shared_run.specs.Run as runs
 use Rattle.heap_core.specs.Places.{opening_words, used_word, shape_words, thread_words, tree_lock, first_root}
 use Rattle.heap_core.specs.Handing.{Plan, Slot}
-use Rattle.heap_core.specs.Blocks.{Block, ObjectAt, ChunkAt, MutexAt, ThreadAt, TextAt, BoxAt, ShapeAt, LockAt, TheTurn, place_of, size_of, id_of, Inside, HasHome, words_of_shapes, LinkAt, IsOfTree}
+use Rattle.heap_core.specs.Blocks.{Block, ObjectAt, ChunkAt, MutexAt, ThreadAt, TextAt, BoxAt, ShapeAt, LockAt, TheTurn, place_of, size_of, id_of, Inside, HasHome, words_of_shapes, LinkAt, IsOfTree, number_of}
 use Rattle.heap_core.specs.Charges.{budget, tally_of}
 use Rattle.heap_core.specs.View.{Region, InRegion, Holder, InOwn, Knows, HasTree, held}
 use Rattle.heap_core.specs.Moment.{Moment, At}
@@ -125,6 +125,7 @@ pub record Kept (plan : Plan) (s : State Slot Holder) : Type 0 where
   pub laid : Laid s.words s.views blocks
   pub each : (b : Block) → Has blocks b → Stands (moment plan s run lines blocks) b
   pub one : (id : Id) (b c : Block) → Has blocks b → Has blocks c → id_of b ≡ Some id → id_of c ≡ Some id → b ≡ c
+  pub one_thread : (n : ℕ) (b c : Block) → Has blocks b → Has blocks c → number_of b ≡ Some n → number_of c ≡ Some n → b ≡ c
   pub one_shape : (shape : Shape) (at to : ℕ) → Has blocks (ShapeAt shape at) → Has blocks (ShapeAt shape to) → at ≡ to
   -- there is the turn word
   pub turn : Has blocks TheTurn

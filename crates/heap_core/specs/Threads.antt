@@ -1,14 +1,16 @@
 -- The rule of a thread: its number and its maker never change, and once it has ended its state and its result tell how.
-use Rattle.std.specs.Prelude.{◌≡◌, ◌<◌, ℕ, ◌+◌, ◌*◌, List, Option, Some, None}
+use Rattle.std.specs.Prelude.{◌≡◌, ◌<◌, ℕ, ◌+◌, ◌*◌, true, List, Option, Some, None}
 use Rattle.rb_tree.specs.declared.span.Span.{Span}
 use Rattle.rb_model.specs.declared.fault.Fault.{Fault}
 use Rattle.rb_model.specs.declared.fault.Fault.TheVariants as fault
 use Rattle.rb_model.specs.declared.value.Id.{Id}
 use Rattle.rb_model.specs.Ends.{End as Ending, Value, Raised, Steps, Full, Sink, Memory}
 use Rattle.rb_model.specs.Things.{Thread, ThreadState}
+use Rattle.shared_run.specs.Run.{IsThread}
 use Rattle.heap_core.specs.Blocks.{Block}
 use Rattle.heap_core.specs.Spelling.{Spells}
-use Rattle.heap_core.specs.Moment.{Moment, word, thing_at, size_at}
+use Rattle.heap_core.specs.Moment.{Moment, At, word, thing_at, size_at}
+use Rattle.heap_core.specs.View.{Holder, Busy, Ends, busy_at}
 
 abbrev pub thread_tag : ℕ
 thread_tag = 5
@@ -54,13 +56,19 @@ abbrev pub TellsEnd : List Block → (state result : ℕ) → Option Ending → 
 TellsEnd bs state result None = Unit {0}
 TellsEnd bs state result (Some how) = EndIs bs state result how
 
+-- a pass of this thread that lays how it ends says what the words are
+abbrev pub SaysEnd : Moment → (number at : ℕ) → Holder → Busy → Type 0
+SaysEnd m number at k (Ends state result) = k.view.thread ≡ number → (word m (state_of at) ≡ state) × (word m (result_of at) ≡ result)
+SaysEnd m number at k busy = Unit {0}
+
 pub record ThreadStands (m : Moment) (id : Id) (number maker at : ℕ) : Type 0 where
   pub state : ThreadState
   pub thing : thing_at m id ≡ Some (Thread state)
   pub number_is : state.number ≡ number
   pub maker_is : state.maker ≡ maker
-  -- it is not the main thread, which is no thing
+  -- it is one of the run, and not the main one, which is no thing
   pub begun : 0 < number
+  pub within : IsThread m.run number
   pub tag : word m at ≡ thread_tag
   pub made_by : word m (at + 1) ≡ id.thread
   pub serial : word m (at + 2) ≡ id.serial
@@ -69,3 +77,4 @@ pub record ThreadStands (m : Moment) (id : Id) (number maker at : ℕ) : Type 0 
   -- nothing is counted of it
   pub size : size_at m id ≡ None
   pub end : TellsEnd m.blocks (word m (state_of at)) (word m (result_of at)) state.end
+  pub says : (j : ℕ) (k : Holder) → At m.holders j k → k.live ≡ true → SaysEnd m number at k (busy_at at k.doing)

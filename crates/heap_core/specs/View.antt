@@ -18,12 +18,13 @@ pub record Region : Type 0 where
   pub at : ℕ
   pub words : List ℕ
 
--- What is in progress at a place: nothing, the plain lock of an object or of the shape tree is had, or the turn is had with what was handed on,
--- and the slot is out with the seat or at home.
+-- What is in progress at a place: nothing; the plain lock of an object or of the shape tree is had; the turn is had with what was handed on, and the
+-- slot is out with the seat or at home; or the own thread is about to end, and its state and result are laid.
 pub data Busy : Type 0 where
   Idle : Busy
   Locked : Busy
   Turned : (what : Handed) (out : Bool) → Busy
+  Ends : (state result : ℕ) → Busy
 
 pub record Doing : Type 0 where
   pub at : ℕ
