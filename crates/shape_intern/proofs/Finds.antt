@@ -11,7 +11,7 @@ use Rattle.shape_core.specs.declared.edge.Kind.TheVariants.{IntLoc, AnyLoc}
 use Rattle.shape_core.specs.declared.facts.Place.{Place}
 use Rattle.shape_core.specs.Path.{Path, find_on, next_place, places_of}
 use Rattle.shape_core.specs.Shape.{Shape}
-use Rattle.heap_core.specs.Blocks.{Block, ObjectAt, ChunkAt, MutexAt, TextAt, BoxAt, ShapeAt, LockAt, TheTurn, LinkAt}
+use Rattle.heap_core.specs.Blocks.{Block, ObjectAt, ChunkAt, MutexAt, ThreadAt, TextAt, BoxAt, ShapeAt, LockAt, TheTurn, LinkAt}
 use Rattle.heap_core.specs.Fixed.{edge_of, places_before}
 use Rattle.heap_core.specs.Growing.{Learns, LeadsUp}
 use Rattle.heap_core.specs.Links.{IsTree}
@@ -111,6 +111,7 @@ depth_found (b ∷ bs) shape at (inr h) = by_kind b (depth_found bs shape at h)
     by_kind (ObjectAt id a) d = more (ObjectAt id a) refl d
     by_kind (ChunkAt object number a) d = more (ChunkAt object number a) refl d
     by_kind (MutexAt id a) d = more (MutexAt id a) refl d
+    by_kind (ThreadAt id number maker a) d = more (ThreadAt id number maker a) refl d
     by_kind (TextAt bytes a) d = more (TextAt bytes a) refl d
     by_kind (BoxAt n a) d = more (BoxAt n a) refl d
     by_kind (LockAt a) d = more (LockAt a) refl d
