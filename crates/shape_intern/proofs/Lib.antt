@@ -6,3 +6,4 @@ pub mod Stores
 pub mod Makes
 pub mod Interns
 pub mod Finds
+pub mod Decodes

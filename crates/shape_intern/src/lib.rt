@@ -7,9 +7,11 @@ mod lock;
 mod looking;
 mod making;
 mod seeking;
+mod telling;
 mod words;
 
 pub use finding::find;
 pub use lock::{lock_tree, unlock_tree};
 pub use making::{follow, root};
 pub use seeking::child;
+pub use telling::{ShapeFacts, facts};
