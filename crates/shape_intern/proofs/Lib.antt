@@ -7,3 +7,4 @@ pub mod Makes
 pub mod Interns
 pub mod Finds
 pub mod Decodes
+pub mod Counts
