@@ -1,5 +1,5 @@
 -- A name on the way to the root.
-use Rattle.std.proofs.Common.{◌≡◌, ◌≢◌, ◌<◌, ◌==◌, ℕ, zero, suc, ◌+◌, ◌*◌, Bool, true, false, cond, List, [], ◌∷◌, length, Option, Some, None, refl, sym, ap, ◌∙◌, subst, inl, inr, ⊎_elim, arith, eq-eqb, ne_eqb}
+use Rattle.std.proofs.Common.{◌≡◌, ◌≢◌, ◌<◌, ◌==◌, ℕ, ◌+◌, ◌*◌, Bool, true, false, cond, List, [], ◌∷◌, length, Option, Some, None, refl, sym, ap, ◌∙◌, inl, inr, arith, eq-eqb, ne_eqb}
 use mathlib.Core.Logic.{dite}
 use native.Mathlib.Decide.{ℕ_discrete}
 use Rattle.rb_shared.specs.Lists.{Has}
@@ -9,7 +9,7 @@ use Rattle.shape_core.specs.declared.edge.Edge.TheVariants.{Add, Widen, Share}
 use Rattle.shape_core.specs.declared.edge.Kind.{Kind}
 use Rattle.shape_core.specs.declared.edge.Kind.TheVariants.{IntLoc, AnyLoc}
 use Rattle.shape_core.specs.declared.facts.Place.{Place}
-use Rattle.shape_core.specs.Path.{Path, find_on, next_place, places_of}
+use Rattle.shape_core.specs.Path.{Path, find_on, next_place}
 use Rattle.shape_core.specs.Shape.{Shape}
 use Rattle.heap_core.specs.Blocks.{Block, ObjectAt, ChunkAt, MutexAt, ThreadAt, TextAt, BoxAt, ShapeAt, LockAt, TheTurn, LinkAt}
 use Rattle.heap_core.specs.Fixed.{edge_of, places_before}
@@ -22,7 +22,7 @@ use Rattle.heap_core.proofs.Frames.{Among}
 use Rattle.shape_intern.specs.Facts.{gives}
 use Rattle.shape_intern.specs.Walks.{KnowsShapeAt, KnowsTree}
 use Rattle.shape_intern.proofs.Marks.{fixed_found}
-use Rattle.shape_intern.proofs.Within.{learns_among, learns_size}
+use Rattle.shape_intern.proofs.Within.{learns_among}
 
 -- ---- what an edge gives
 
@@ -131,7 +131,7 @@ depth_is size bs cs all t shape at h =
 abbrev pub IsWay : Holder → (at word : ℕ) → NameId → Shape → Type 0
 IsWay k at word name shape = (here : Shape) × Knows k (ShapeAt here at) × (word ≡ edge_of here.path) × (find_on shape.path name ≡ find_on here.path name)
 
-edge_found : (k : Holder) (shape : Shape) (at n : ℕ) → Knows k (ShapeAt shape at) → FixedIs k (at + 2) n → n ≡ edge_of shape.path
+pub edge_found : (k : Holder) (shape : Shape) (at n : ℕ) → Knows k (ShapeAt shape at) → FixedIs k (at + 2) n → n ≡ edge_of shape.path
 edge_found k shape at n kn fixed = fixed_found k shape at 2 (edge_of shape.path) n kn (omega arith) refl fixed
 
 pub way_begins : (k : Holder) (at n : ℕ) (name : NameId) (shape : Shape) → FixedIs k (at + 2) n → Knows k (ShapeAt shape at) → IsWay k at n name shape

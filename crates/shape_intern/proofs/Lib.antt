@@ -6,3 +6,5 @@ pub mod Stores
 pub mod Makes
 pub mod Interns
 pub mod Finds
+pub mod Decodes
+pub mod Counts

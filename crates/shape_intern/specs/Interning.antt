@@ -1,5 +1,5 @@
 -- What it leaves of a pass that a shape is there.
-use Rattle.std.specs.Prelude.{◌≡◌, ◌≤◌, ℕ, ◌+◌, List, [], ◌∷◌, drop, length}
+use Rattle.std.specs.Prelude.{◌≡◌, ◌≤◌, ◌⊎◌, ℕ, ◌+◌, List, [], ◌∷◌, drop, length}
 use Rattle.shape_core.specs.declared.edge.Edge.{Edge}
 use Rattle.shape_core.specs.Shape.{Shape, child_of}
 use Rattle.heap_core.specs.Blocks.{Block, ShapeAt}
@@ -56,3 +56,8 @@ pub record Interned (k k' : Holder) (room room' : ℕ) (shape : Shape) (at : ℕ
   pub known : Knows k' (ShapeAt shape at)
   pub there : (to : ℕ) → Knows k (ShapeAt shape to) → (at ≡ to) × (room' ≡ room) × Learns k k'
   pub made : IsMissing k.blocks shape → (at ≡ room) × (room' ≡ room + shape_words) × Makes shape at k k'
+
+-- So many are missing of a shape and of those to which these edges lead from it, one behind the other.
+abbrev pub Misses : Holder → Shape → List Edge → ℕ → Type 0
+Misses k shape [] n = (KnowsShape k shape × (n ≡ 0)) ⊎ (IsMissing k.blocks shape × (n ≡ 1))
+Misses k shape (edge ∷ edges) n = (m : ℕ) × Misses k (child_of shape edge) edges m × ((KnowsShape k shape × (n ≡ m)) ⊎ (IsMissing k.blocks shape × (n ≡ m + 1)))

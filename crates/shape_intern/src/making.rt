@@ -1,14 +1,14 @@
 // Shapes are made, under the lock of the tree.
 
-ghost use Rattle.std.specs.Prelude.{◌≡◌, ◌+◌, ◌⊎◌, ◌≤◌, ◌<◌, ℕ};
+ghost use Rattle.std.specs.Prelude.{◌≡◌, ◌+◌, ◌⊎◌, ◌≤◌, ◌<◌, ℕ, None};
 ghost use Rattle.shape_core.specs.Shape.{Shape, child_of, root_of};
 ghost use Rattle.heap_core.specs.Blocks.{ShapeAt};
-ghost use Rattle.heap_core.specs.Growing.{MakesShape, shape_block};
+ghost use Rattle.heap_core.specs.Growing.{Learns, MakesShape, shape_block};
 ghost use Rattle.heap_core.specs.Heaps.{IsOf, SameHeap, holder};
 ghost use Rattle.heap_core.specs.Shapes.{IsNarrowEdge};
 ghost use Rattle.heap_core.specs.View.{HasTree, Knows};
 ghost use Rattle.shape_intern.specs.Interning.{HasRoom, Interned, IsWanted, KnowsChild, KnowsRoot, KnowsShape, Makes, MayMake};
-ghost use Rattle.shape_intern.specs.Walks.{KnowsShapeAt, KnowsTree};
+ghost use Rattle.shape_intern.specs.Walks.{IsSought, KnowsShapeAt, KnowsTree};
 
 use crate::laying::lay;
 use crate::looking::parent;
@@ -97,6 +97,24 @@ pub fn follow<K: Sink>(
     }
 }
 
+// Seeks the root of a class.
+pub(crate) fn seek_root<K: Sink>(heap: &Heap<K>, pass: &mut HeapPass, class: u32) -> Sought
+    requires of { IsOf heap.now pass.old }
+    requires known { KnowsRoot (holder pass.old) }
+    ensures of { SameHeap pass.old pass.new }
+    ensures learns { Learns (holder pass.old) (holder pass.new) }
+    ensures tree { KnowsTree (holder pass.new) }
+    ensures sought { IsSought (holder pass.new).blocks None (root_of class) result }
+{
+    // A look tells that the shapes that are known are a tree.
+    parent(heap, pass, FIRST_ROOT);
+    let mark = Mark {
+        behind: 0,
+        word: u64::from(class) * 8,
+    };
+    seek(heap, pass, FIRST_ROOT, 0, &mark)
+}
+
 /// The root shape of a class, in the same way.
 pub fn root<K: Sink>(heap: &Heap<K>, pass: &mut HeapPass, room: &mut u64, class: u32) -> u64
     requires of { IsOf heap.now pass.old }
@@ -106,17 +124,10 @@ pub fn root<K: Sink>(heap: &Heap<K>, pass: &mut HeapPass, room: &mut u64, class:
     ensures of { SameHeap pass.old pass.new }
     ensures interned { Interned (holder pass.old) (holder pass.new) room.old room.new (root_of class) result }
 {
-    // A look tells that the shapes that are known are a tree.
-    parent(heap, pass, FIRST_ROOT);
-    let tag = u64::from(class) * 8;
-    let mark = Mark {
-        behind: 0,
-        word: tag,
-    };
-    match seek(heap, pass, FIRST_ROOT, 0, &mark) {
+    match seek_root(heap, pass, class) {
         Sought::Found(at) => at,
         Sought::Missing(link) => {
-            let words = [tag, 0, 0, 0, 0, 0, 0];
+            let words = [u64::from(class) * 8, 0, 0, 0, 0, 0, 0];
             intern(heap, pass, room, link, &words)
         }
     }

@@ -1,10 +1,8 @@
-use Rattle.std.proofs.Common.{◌≡◌, ◌<◌, ◌∙◌, ◌+◌, sym, subst, arith}
+use Rattle.std.proofs.Common.{◌<◌, ◌∙◌, sym, subst, arith}
 use Rattle.heap_core.specs.Blocks.{ShapeAt}
 use Rattle.heap_core.specs.Growing.{Learns}
 use Rattle.heap_core.specs.Heaps.{holder}
-use Rattle.heap_core.specs.Passes.{FixedIs}
-use Rattle.heap_core.specs.View.{Holder, Knows}
-use Rattle.shape_intern.specs.Walks.{KnowsShapeAt}
+use Rattle.heap_core.specs.View.{Holder}
 use Rattle.shape_intern.proofs.Finds.{IsWay, depth_at, way_begins, way_ends, way_found, way_goes, way_known, way_shorter}
 use Rattle.shape_intern.proofs.Within.{learns_both, learns_none, shape_below}
 use Rattle.shape_intern.proofs.finding.find.Goals as goal
