@@ -1,5 +1,5 @@
 -- The turn is given back with the end of a thread that its block tells.
-use Rattle.std.proofs.Common.{◌≡◌, ◌≤◌, ◌<◌, ◌⊎◌, ◌||◌, ℕ, ◌+◌, Bool, true, false, cond, List, [], ◌∷◌, ◌++◌, flat_map, length, map, set, get_or, Some, None, refl, sym, ap, ◌∙◌, subst, inl, inr, ⊎_elim, arith, append-nil, get_or-set_other, eq-eqb, eqb-true, true≢false}
+use Rattle.std.proofs.Common.{◌≡◌, ◌≤◌, ◌<◌, ◌⊎◌, ◌||◌, ℕ, ℤ, ◌+◌, Bool, true, false, cond, List, [], ◌∷◌, ◌++◌, flat_map, length, map, set, get_or, Some, None, refl, sym, ap, ◌∙◌, subst, inl, inr, ⊎_elim, arith, append-nil, get_or-set_other, eq-eqb, eqb-true, true≢false}
 use Rattle.std.proofs.lemmas.List.{get_or-set_same}
 use mathlib.Core.Option.{some}
 use Rattle.atomic_table.specs.Table.{State, Me, Allows, gives}
@@ -14,13 +14,14 @@ use Rattle.rb_shared.specs.Lists.{Has, Each}
 use Rattle.rb_shared.specs.Step.{ended_item, ended_thing, ids_in}
 use Rattle.rb_shared.specs.Store.{Store, is_there}
 use Rattle.rb_shared.proofs.Runs.{each_append, has_front, has_behind}
+use Rattle.shape_core.specs.Shape.{Shape}
 use Rattle.shared_run.specs.Standing.{Fits as FitsStore}
 use Rattle.shared_run.specs.Run.{Run, run_after}
 use Rattle.shared_run.proofs.Events.{has_either}
 use Rattle.shared_run.proofs.Sinking.{stands_silent}
 use Rattle.heap_core.specs.Places.{turn_word}
 use Rattle.heap_core.specs.Handing.{Plan, Handed, Slot, Homes}
-use Rattle.heap_core.specs.Blocks.{Block, ObjectAt, ChunkAt, MutexAt, ThreadAt, TextAt, BoxAt, ShapeAt, LockAt, TheTurn, home_of, id_of, number_of, size_of, HasHome, words_of_shapes}
+use Rattle.heap_core.specs.Blocks.{Block, ThreadAt, TextAt, BoxAt, ShapeAt, TheTurn, home_of, id_of, number_of, size_of, HasHome, words_of_shapes}
 use Rattle.heap_core.specs.Charges.{is_small, blocks_of_all, tally_of}
 use Rattle.heap_core.specs.Ending.{ended_by, value_block, end_blocks, own_place, LaidAs, OwnsBlocks, IsOwnThread, IsEndTold, with_end, EndsInTurn}
 use Rattle.heap_core.specs.Threads.{ThreadStands, SaysEnd, EndIs, state_of, result_of}
@@ -48,53 +49,27 @@ use Rattle.heap_core.proofs.Turning.{Had, had, busy_again, turn_fits, object_not
 
 -- a text or a box
 abbrev IsStill : Block → Type 0
-IsStill (TextAt bytes at) = Unit {0}
-IsStill (BoxAt n at) = Unit {0}
-IsStill b = ⊥
+IsStill b = ((bytes : List ℕ) × (at : ℕ) × (b ≡ TextAt bytes at)) ⊎ ((n : ℤ) × (at : ℕ) × (b ≡ BoxAt n at))
 
 still_thing : (b : Block) → IsStill b → id_of b ≡ None
-still_thing (TextAt bytes at) is = refl
-still_thing (BoxAt n at) is = refl
-still_thing (ObjectAt id at) is = absurd is
-still_thing (ChunkAt object n at) is = absurd is
-still_thing (MutexAt id at) is = absurd is
-still_thing (ThreadAt id n maker at) is = absurd is
-still_thing (ShapeAt shape at) is = absurd is
-still_thing (LockAt at) is = absurd is
-still_thing TheTurn is = absurd is
+still_thing b (inl p) = ap id_of p.2
+still_thing b (inr p) = ap id_of p.2
 
 still_number : (b : Block) → IsStill b → number_of b ≡ None
-still_number (TextAt bytes at) is = refl
-still_number (BoxAt n at) is = refl
-still_number (ObjectAt id at) is = absurd is
-still_number (ChunkAt object n at) is = absurd is
-still_number (MutexAt id at) is = absurd is
-still_number (ThreadAt id n maker at) is = absurd is
-still_number (ShapeAt shape at) is = absurd is
-still_number (LockAt at) is = absurd is
-still_number TheTurn is = absurd is
+still_number b (inl p) = ap number_of p.2
+still_number b (inr p) = ap number_of p.2
 
 still_home : (bs : List Block) (b : Block) → IsStill b → HasHome bs b
-still_home bs (TextAt bytes at) is = tt
-still_home bs (BoxAt n at) is = tt
-still_home bs (ObjectAt id at) is = absurd is
-still_home bs (ChunkAt object n at) is = absurd is
-still_home bs (MutexAt id at) is = absurd is
-still_home bs (ThreadAt id n maker at) is = absurd is
-still_home bs (ShapeAt shape at) is = absurd is
-still_home bs (LockAt at) is = absurd is
-still_home bs TheTurn is = absurd is
+still_home bs b (inl p) = subst (HasHome bs) (sym p.2) tt
+still_home bs b (inr p) = subst (HasHome bs) (sym p.2) tt
 
 still_words : (b : Block) → IsStill b → words_of_shapes (b ∷ []) ≡ 0
-still_words (TextAt bytes at) is = refl
-still_words (BoxAt n at) is = refl
-still_words (ObjectAt id at) is = absurd is
-still_words (ChunkAt object n at) is = absurd is
-still_words (MutexAt id at) is = absurd is
-still_words (ThreadAt id n maker at) is = absurd is
-still_words (ShapeAt shape at) is = absurd is
-still_words (LockAt at) is = absurd is
-still_words TheTurn is = absurd is
+still_words b (inl p) = ap (λ (c : Block). words_of_shapes (c ∷ [])) p.2
+still_words b (inr p) = ap (λ (c : Block). words_of_shapes (c ∷ [])) p.2
+
+no_shape : (shape : Shape) (place : ℕ) → IsStill (ShapeAt shape place) → ⊥
+no_shape shape place (inl p) = let e : ShapeAt shape place ≡ TextAt p.0 p.1 = p.2 in cc
+no_shape shape place (inr p) = let e : ShapeAt shape place ≡ BoxAt p.0 p.1 = p.2 in cc
 
 -- None, or one that has the words which are charged
 abbrev Told : List Block → ℕ → Type 0
@@ -106,12 +81,12 @@ told_value False p = inl (refl, refl)
 told_value True p = inl (refl, refl)
 told_value (Sym name) p = inl (refl, refl)
 told_value (To r) p = inl (refl, refl)
-told_value (Str bytes) p = inr (TextAt bytes p, refl, tt, (let z : size_of (TextAt bytes p) + 0 ≡ size_of (TextAt bytes p) = omega arith in z))
+told_value (Str bytes) p = inr (TextAt bytes p, refl, inl (bytes, p, refl), (let z : size_of (TextAt bytes p) + 0 ≡ size_of (TextAt bytes p) = omega arith in z))
 told_value (Int n) p = by_test (is_small n)
   where
     by_test : (b : Bool) → Told (cond b [] (BoxAt n p ∷ [])) (cond b 0 2 + 0)
     by_test true = inl (refl, refl)
-    by_test false = inr (BoxAt n p, refl, tt, refl)
+    by_test false = inr (BoxAt n p, refl, inr (n, p, refl), refl)
 
 told_end : (how : Ending) (p : ℕ) → Told (end_blocks (End how) p) (blocks_of_all (told how))
 told_end (Value v) p = told_value v p
@@ -330,11 +305,11 @@ module _ (plan : Plan) (s : State Slot Holder) (r : Kept plan s) (id : ℕ) (k :
           new = new_stands;
           homes = λ c q. still_home (r.blocks ++ bs) c (p.still c q);
           shapes_on = λ shape q. inr q;
-          shapes_new = λ shape place q. absurd (p.still (ShapeAt shape place) q);
+          shapes_new = λ shape place q. absurd (no_shape shape place (p.still (ShapeAt shape place) q));
           fresh = λ i c q is. absurd (let gone : None ≡ Some i = sym (still_thing c (p.still c q)) ∙ is in cc);
           one = λ i c d q w _ _. p.only c d q w;
           one_thread = λ number c d q w is _. absurd (let gone : None ≡ Some number = sym (still_number c (p.still c q)) ∙ is in cc);
-          one_shape = λ shape place to q. absurd (p.still (ShapeAt shape place) q);
+          one_shape = λ shape place to q. absurd (no_shape shape place (p.still (ShapeAt shape place) q));
         }
 
 -- ---- the step

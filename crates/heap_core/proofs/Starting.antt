@@ -402,7 +402,7 @@ module _ (plan : Plan) (s : State Slot Holder) (r : Kept plan s) (id : ℕ) (k :
             fresh = λ i c q is. ap (found z) (sym (id_is y i (ap Rattle.heap_core.specs.Blocks.id_of (sym (only c q)) ∙ is))) ∙ absent;
             one = λ i c d q p _ _. only c q ∙ sym (only d p);
             one_thread = λ number c d q p is also. ⊎_elim
-                (λ (old : Has r.blocks d). absurd (nobody number (numbered plan s r d number old also) (number_eq number n (sym is ∙ ap number_of (only c q)))))
+                (λ (old : Has r.blocks d). absurd (nobody number (numbered plan s r d number old also).1 (number_eq number n (sym is ∙ ap number_of (only c q)))))
                 (λ (new : Has (block ∷ []) d). only c q ∙ sym (only d new))
                 (has_either r.blocks (block ∷ []) d p);
             one_shape = λ shape place to q. absurd (no_shape shape place (only (ShapeAt shape place) q));
@@ -512,6 +512,7 @@ start_replies a step generation number line id k w v l u h at ws laid seen same 
   (
     h.started,
     (seen.run, seen.is_run, seen.knows, seen.full ∙ ap is_none (ap (λ n. line_for n h.lines) (sym same) ∙ line_is), sym seen.started),
+    seen.few,
     next ∙ (let z : h.started + 1 ≡ suc h.started = omega arith in z),
     (line, made ∙ ap (λ (y : Holder). without_turn (with_born y (born_of step a.call h.started (new_ref id at) line))) (lays ∙ ap (λ (y : Holder). with_own y at laid) (took ∙ ap (λ (y : Holder). with_region y at ws) looked))),
   ),

@@ -119,11 +119,11 @@ IsFullSeen v = (run : Run) × IsRun v.slots run × runs.Knows v.slots run v × (
 abbrev pub IsNextSeen : View → ℕ → Type 0
 IsNextSeen v started = (run : Run) × IsRun v.slots run × runs.Knows v.slots run v × (is_full v.slots run.store v.thread ≡ false) × (started ≡ length (threads run.store))
 
--- the reply to the start of the thread of this id, and what it leaves of the pass, which has the turn no more
+-- The reply to the start of the thread of this id, and what it leaves of the pass, which has the turn no more. There are fewer threads than words.
 abbrev pub StartReplies : Asking → ℕ → Id → HeldReply → Holder → Holder → Type 0
 StartReplies a step id (reply.Started number thread) k k' =
     (thread.sort ≡ sort.Thread) × (thread.id ≡ id)
-    × ((started : ℕ) × IsNextSeen k.view started × (number ≡ suc started) × ((line : ℕ) × (k' ≡ without_turn (with_born k (born_of step a.call started thread line)))))
+    × ((started : ℕ) × IsNextSeen k.view started × (started < k.size) × (number ≡ suc started) × ((line : ℕ) × (k' ≡ without_turn (with_born k (born_of step a.call started thread line)))))
 StartReplies a step id (reply.Failed fault) k k' = (fault ≡ ThreadLimit) × IsFullSeen k.view × (k' ≡ without_turn (with_plain k (bare_entry step a.call (said (reply.Failed fault)))))
 StartReplies a step id r k k' = ⊥
 
