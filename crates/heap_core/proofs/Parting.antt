@@ -338,7 +338,8 @@ ends_at plan count id k h step at state result (held.Gather thread) live has l s
 ends_at plan count id k h step at state result (held.Print bytes) live has l s r size seat small = absurd l.told
 
 -- the step ends the thread
-pub ends_in_turn : (plan : Plan) (count id : ℕ) (me : Me Slot Holder) (h : Handed) (step place at state result : ℕ) (call : Held) (e : Entry) → e ≡ plain_entry step (asked call) → place ≡ at → me.1 ≡ (0, Some (ended_by me.0.view.thread h)) ∷ [] → me.0.live ≡ true → HasTurn me.0 h true
+pub ends_in_turn : (plan : Plan) (count id : ℕ) (me : Me Slot Holder) (h : Handed) (step place at state result : ℕ) (call : Held) (e : Entry) → e ≡ plain_entry step (asked call) → place ≡ at
+    → me.1 ≡ (0, Some (ended_by me.0.view.thread h)) ∷ [] → me.0.live ≡ true → HasTurn me.0 h true
     → Leaves me.0 call at state result → Allows (Kept plan) count id me turn_word (λ _. 0) (λ _. EndsInTurn e place me)
 ends_in_turn plan count id me h step place at state result call e is there carries live has l =
     subst (λ (x : Entry). Allows (Kept plan) count id me turn_word (λ _. 0) (λ _. EndsInTurn x place me)) (sym is)

@@ -10,9 +10,9 @@ use Rattle.rb_model.specs.declared.fault.Fault.TheVariants.{ThreadLimit}
 use Rattle.rb_model.specs.declared.value.Id.{Id}
 use Rattle.rb_model.specs.declared.value.Ref.{Ref}
 use Rattle.rb_model.specs.declared.value.Sort.TheVariants as sort
-use Rattle.rb_model.specs.Acts.{Started}
+use Rattle.rb_model.specs.Acts.{Failed, Started}
 use Rattle.rb_model.specs.Immediates.{reference}
-use Rattle.rb_model.specs.Log.{Call, Entry}
+use Rattle.rb_model.specs.Log.{Call, Entry, asked}
 use Rattle.rb_model.specs.Moving.{refs_in_all}
 use Rattle.rb_model.specs.Started.{next_thread}
 use Rattle.rb_shared.specs.declared.answer.Answer.{Answer}
@@ -84,6 +84,14 @@ pub record Born : Type 0 where
 -- that of the start of this thread, where so many were started before
 abbrev pub born_of : (step : ℕ) → Call → (started : ℕ) → Ref → (line : ℕ) → Born
 born_of step call started thread line = record { entry = bare_entry step call (Started (suc started) (reference thread)); number = suc started; thread = thread; line = line }
+
+-- the same as code has it, under this turn
+abbrev pub born_by : (step : ℕ) → Held → Handed → Ref → (line : ℕ) → Born
+born_by step call turn thread line = born_of step (asked call) turn.started thread line
+
+-- the entry of a start that finds no line
+abbrev pub full_entry : ℕ → Held → Entry
+full_entry step call = bare_entry step (asked call) (Failed ThreadLimit)
 
 -- the reference is to the thread that the call starts
 abbrev pub NamesNew : Ref → Held → Type 0
