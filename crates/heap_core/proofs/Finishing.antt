@@ -127,7 +127,8 @@ module _ (plan : Plan) (s : State Slot Holder) (r : Kept plan s) (id : ℕ) (k :
 -- ---- the steps
 
 -- what is known of the thread is that of its block
-of_thread : (plan : Plan) (s : State Slot Holder) (r : Kept plan s) (id at i n maker : ℕ) (y : Id) (k : Holder) (T : Block → Type 0) → At s.views id k → Knows k (ThreadAt y n maker at) → Inside i (ThreadAt y n maker at) → T (ThreadAt y n maker at) → (b : Block) → Knows k b → Inside i b → T b
+of_thread : (plan : Plan) (s : State Slot Holder) (r : Kept plan s) (id at i n maker : ℕ) (y : Id) (k : Holder) (T : Block → Type 0) → At s.views id k → Knows k (ThreadAt y n maker at) → Inside i (ThreadAt y n maker at)
+    → T (ThreadAt y n maker at) → (b : Block) → Knows k b → Inside i b → T b
 of_thread plan s r id at i n maker y k T seat known inside held b kb ib = subst T (only_block plan s r id i k (ThreadAt y n maker at) b seat known kb inside ib) held
 
 -- the result is laid
@@ -148,7 +149,8 @@ lays_result plan count id at maker n y k live going known s r size seat small =
     )
 
 -- and then the state
-pub lays_state : (plan : Plan) (count id at maker n was result : ℕ) (y : Id) (k : Holder) → k.live ≡ true → k.view.ended ≡ false → Knows k (ThreadAt y k.view.thread maker at) → busy_at at k.doing ≡ Ends was result → MayStore LaysState plan count id k (state_of at) n
+pub lays_state : (plan : Plan) (count id at maker n was result : ℕ) (y : Id) (k : Holder) → k.live ≡ true → k.view.ended ≡ false → Knows k (ThreadAt y k.view.thread maker at) → busy_at at k.doing ≡ Ends was result
+    → MayStore LaysState plan count id k (state_of at) n
 lays_state plan count id at maker n was result y k live going known busy s r size seat small =
     let here = r.known id k (ThreadAt y k.view.thread maker at) seat known in
     let top = fits plan s r id k seat live going y maker at here in

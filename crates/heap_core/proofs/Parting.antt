@@ -1,5 +1,5 @@
 -- The turn is given back with the end of a thread that its block tells.
-use Rattle.std.proofs.Common.{◌≡◌, ◌≤◌, ◌<◌, ◌⊎◌, ◌||◌, ℕ, ◌+◌, Bool, true, false, cond, List, [], ◌∷◌, ◌++◌, flat_map, length, map, set, get_or, Some, None, refl, sym, ap, ◌∙◌, subst, inl, inr, ⊎_elim, arith, append-nil, get_or-set_other, eq-eqb, eqb-true, true≢false}
+use Rattle.std.proofs.Common.{◌≡◌, ◌≤◌, ◌<◌, ◌⊎◌, ◌||◌, ℕ, ℤ, ◌+◌, Bool, true, false, cond, List, [], ◌∷◌, ◌++◌, flat_map, length, map, set, get_or, Some, None, refl, sym, ap, ◌∙◌, subst, inl, inr, ⊎_elim, arith, append-nil, get_or-set_other, eq-eqb, eqb-true, true≢false}
 use Rattle.std.proofs.lemmas.List.{get_or-set_same}
 use mathlib.Core.Option.{some}
 use Rattle.atomic_table.specs.Table.{State, Me, Allows, gives}
@@ -14,6 +14,7 @@ use Rattle.rb_shared.specs.Lists.{Has, Each}
 use Rattle.rb_shared.specs.Step.{ended_item, ended_thing, ids_in}
 use Rattle.rb_shared.specs.Store.{Store, is_there}
 use Rattle.rb_shared.proofs.Runs.{each_append, has_front, has_behind}
+use Rattle.shape_core.specs.Shape.{Shape}
 use Rattle.shared_run.specs.Standing.{Fits as FitsStore}
 use Rattle.shared_run.specs.Run.{Run, run_after}
 use Rattle.shared_run.proofs.Events.{has_either}
@@ -48,69 +49,28 @@ use Rattle.heap_core.proofs.Turning.{Had, had, busy_again, turn_fits}
 
 -- a text or a box
 abbrev IsStill : Block → Type 0
-IsStill (TextAt bytes at) = Unit {0}
-IsStill (BoxAt n at) = Unit {0}
-IsStill b = ⊥
+IsStill b = ((bytes : List ℕ) × (at : ℕ) × (b ≡ TextAt bytes at)) ⊎ ((n : ℤ) × (at : ℕ) × (b ≡ BoxAt n at))
 
 still_thing : (b : Block) → IsStill b → id_of b ≡ None
-still_thing (TextAt bytes at) is = refl
-still_thing (BoxAt n at) is = refl
-still_thing (ObjectAt id at) is = absurd is
-still_thing (ChunkAt object n at) is = absurd is
-still_thing (MutexAt id at) is = absurd is
-still_thing (ThreadAt id n maker at) is = absurd is
-still_thing (ShapeAt shape at) is = absurd is
-still_thing (LockAt at) is = absurd is
-still_thing TheTurn is = absurd is
-still_thing (LinkAt home link to number) is = absurd is
+still_thing b (inl p) = ap id_of p.2
+still_thing b (inr p) = ap id_of p.2
 
 still_number : (b : Block) → IsStill b → number_of b ≡ None
-still_number (TextAt bytes at) is = refl
-still_number (BoxAt n at) is = refl
-still_number (ObjectAt id at) is = absurd is
-still_number (ChunkAt object n at) is = absurd is
-still_number (MutexAt id at) is = absurd is
-still_number (ThreadAt id n maker at) is = absurd is
-still_number (ShapeAt shape at) is = absurd is
-still_number (LockAt at) is = absurd is
-still_number TheTurn is = absurd is
-still_number (LinkAt home link to number) is = absurd is
+still_number b (inl p) = ap number_of p.2
+still_number b (inr p) = ap number_of p.2
 
 still_home : (bs : List Block) (b : Block) → IsStill b → HasHome bs b
-still_home bs (TextAt bytes at) is = tt
-still_home bs (BoxAt n at) is = tt
-still_home bs (ObjectAt id at) is = absurd is
-still_home bs (ChunkAt object n at) is = absurd is
-still_home bs (MutexAt id at) is = absurd is
-still_home bs (ThreadAt id n maker at) is = absurd is
-still_home bs (ShapeAt shape at) is = absurd is
-still_home bs (LockAt at) is = absurd is
-still_home bs TheTurn is = absurd is
-still_home bs (LinkAt home link to number) is = absurd is
-
-still_apart : (b : Block) → IsStill b → IsOfTree b → ⊥
-still_apart (TextAt bytes at) is t = t
-still_apart (BoxAt n at) is t = t
-still_apart (ObjectAt id at) is t = t
-still_apart (ChunkAt object n at) is t = t
-still_apart (MutexAt id at) is t = t
-still_apart (ThreadAt id n maker at) is t = t
-still_apart (ShapeAt shape at) is t = is
-still_apart (LockAt at) is t = t
-still_apart TheTurn is t = t
-still_apart (LinkAt home link to number) is t = is
+still_home bs b (inl p) = subst (HasHome bs) (sym p.2) tt
+still_home bs b (inr p) = subst (HasHome bs) (sym p.2) tt
 
 still_words : (b : Block) → IsStill b → words_of_shapes (b ∷ []) ≡ 0
-still_words (TextAt bytes at) is = refl
-still_words (BoxAt n at) is = refl
-still_words (ObjectAt id at) is = absurd is
-still_words (ChunkAt object n at) is = absurd is
-still_words (MutexAt id at) is = absurd is
-still_words (ThreadAt id n maker at) is = absurd is
-still_words (ShapeAt shape at) is = absurd is
-still_words (LockAt at) is = absurd is
-still_words TheTurn is = absurd is
-still_words (LinkAt home link to number) is = absurd is
+still_words b (inl p) = ap (λ (c : Block). words_of_shapes (c ∷ [])) p.2
+still_words b (inr p) = ap (λ (c : Block). words_of_shapes (c ∷ [])) p.2
+
+still_apart : (b : Block) → IsStill b → IsOfTree b → ⊥
+still_apart b (inl p) t = subst IsOfTree p.2 t
+still_apart b (inr p) t = subst IsOfTree p.2 t
+
 
 -- None, or one that has the words which are charged
 abbrev Told : List Block → ℕ → Type 0
@@ -122,12 +82,12 @@ told_value False p = inl (refl, refl)
 told_value True p = inl (refl, refl)
 told_value (Sym name) p = inl (refl, refl)
 told_value (To r) p = inl (refl, refl)
-told_value (Str bytes) p = inr (TextAt bytes p, refl, tt, (let z : size_of (TextAt bytes p) + 0 ≡ size_of (TextAt bytes p) = omega arith in z))
+told_value (Str bytes) p = inr (TextAt bytes p, refl, inl (bytes, p, refl), (let z : size_of (TextAt bytes p) + 0 ≡ size_of (TextAt bytes p) = omega arith in z))
 told_value (Int n) p = by_test (is_small n)
   where
     by_test : (b : Bool) → Told (cond b [] (BoxAt n p ∷ [])) (cond b 0 2 + 0)
     by_test true = inl (refl, refl)
-    by_test false = inr (BoxAt n p, refl, tt, refl)
+    by_test false = inr (BoxAt n p, refl, inr (n, p, refl), refl)
 
 told_end : (how : Ending) (p : ℕ) → Told (end_blocks (End how) p) (blocks_of_all (told how))
 told_end (Value v) p = told_value v p
@@ -383,7 +343,8 @@ ends_at plan count id k h step at state result (held.Gather thread) live has l s
 ends_at plan count id k h step at state result (held.Print bytes) live has l s r size seat small = absurd l.told
 
 -- the step ends the thread
-pub ends_in_turn : (plan : Plan) (count id : ℕ) (me : Me Slot Holder) (h : Handed) (step place at state result : ℕ) (call : Held) (e : Entry) → e ≡ plain_entry step (asked call) → place ≡ at → me.1 ≡ (0, Some (ended_by me.0.view.thread h)) ∷ [] → me.0.live ≡ true → HasTurn me.0 h true
+pub ends_in_turn : (plan : Plan) (count id : ℕ) (me : Me Slot Holder) (h : Handed) (step place at state result : ℕ) (call : Held) (e : Entry) → e ≡ plain_entry step (asked call) → place ≡ at
+    → me.1 ≡ (0, Some (ended_by me.0.view.thread h)) ∷ [] → me.0.live ≡ true → HasTurn me.0 h true
     → Leaves me.0 call at state result → Allows (Kept plan) count id me turn_word (λ _. 0) (λ _. EndsInTurn e place me)
 ends_in_turn plan count id me h step place at state result call e is there carries live has l =
     subst (λ (x : Entry). Allows (Kept plan) count id me turn_word (λ _. 0) (λ _. EndsInTurn x place me)) (sym is)

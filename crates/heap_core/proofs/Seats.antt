@@ -1,5 +1,5 @@
 -- One seat takes a step: what of the law speaks of seats stays.
-use Rattle.std.proofs.Common.{◌≡◌, ℕ, suc, true, not, List, length, count_by, set, Option, Some, None, refl, sym, ap, ◌∙◌, subst, inl, inr, ⊎_elim, arith}
+use Rattle.std.proofs.Common.{◌≡◌, ◌<◌, ℕ, suc, true, not, List, length, count_by, set, Option, Some, None, refl, sym, ap, ◌∙◌, subst, inl, inr, ⊎_elim, arith}
 use mathlib.Core.Option.{some}
 use lib.ListN.{get_elem?}
 use Rattle.atomic_table.specs.Table.{State}
@@ -138,8 +138,8 @@ module _ (plan : Plan) (s : State Slot Holder) (r : Kept plan s) where
       by_kind TheTurn is k = absurd (none_is id is)
       by_kind (LinkAt home link to number) is k = absurd (none_is id is)
 
-  -- the number of a block is that of a thread
-  pub numbered : (b : Block) (n : ℕ) → Has r.blocks b → number_of b ≡ Some n → IsThread r.run n
+  -- the number of a block is that of a thread, and not of the main one
+  pub numbered : (b : Block) (n : ℕ) → Has r.blocks b → number_of b ≡ Some n → (0 < n) × IsThread r.run n
   numbered b n here is = by_kind b is (r.each b here)
     where
       none_is : None ≡ Some n → ⊥
@@ -148,8 +148,8 @@ module _ (plan : Plan) (s : State Slot Holder) (r : Kept plan s) where
       number : (a c : ℕ) → Some a ≡ Some c → a ≡ c
       number a c e = cc
 
-      by_kind : (b : Block) → number_of b ≡ Some n → Stands (moment plan s r.run r.lines r.blocks) b → IsThread r.run n
-      by_kind (ThreadAt x a maker at) is k = subst (IsThread r.run) (number a n is) k.within
+      by_kind : (b : Block) → number_of b ≡ Some n → Stands (moment plan s r.run r.lines r.blocks) b → (0 < n) × IsThread r.run n
+      by_kind (ThreadAt x a maker at) is k = subst (λ m. (0 < m) × IsThread r.run m) (number a n is) (k.begun, k.within)
       by_kind (ObjectAt x at) is k = absurd (none_is is)
       by_kind (ChunkAt object a at) is k = absurd (none_is is)
       by_kind (MutexAt x at) is k = absurd (none_is is)
@@ -160,27 +160,8 @@ module _ (plan : Plan) (s : State Slot Holder) (r : Kept plan s) where
       by_kind TheTurn is k = absurd (none_is is)
       by_kind (LinkAt home link to a) is k = absurd (none_is is)
 
-  -- no block stands for the main thread
   pub no_main : (b : Block) → Has r.blocks b → number_of b ≡ Some 0 → ⊥
-  no_main b here is = by_kind b is (r.each b here)
-    where
-      none_is : (n : ℕ) → None ≡ Some n → ⊥
-      none_is n e = cc
-
-      number : (n m : ℕ) → Some n ≡ Some m → n ≡ m
-      number n m e = cc
-
-      by_kind : (b : Block) → number_of b ≡ Some 0 → Stands (moment plan s r.run r.lines r.blocks) b → ⊥
-      by_kind (ThreadAt x n maker at) is k = let some = k.begun in let none_left = number n 0 is in omega (arith, some, none_left)
-      by_kind (ObjectAt x at) is k = none_is 0 is
-      by_kind (ChunkAt object n at) is k = none_is 0 is
-      by_kind (MutexAt x at) is k = none_is 0 is
-      by_kind (TextAt bytes at) is k = none_is 0 is
-      by_kind (BoxAt n at) is k = none_is 0 is
-      by_kind (ShapeAt shape at) is k = none_is 0 is
-      by_kind (LockAt at) is k = none_is 0 is
-      by_kind TheTurn is k = none_is 0 is
-      by_kind (LinkAt home link to n) is k = none_is 0 is
+  no_main b here is = let some = (numbered b 0 here is).0 in omega (arith, some)
 
   -- no seat claims a number that no thread has
   pub nobody_claims : (n : ℕ) → n ≡ length r.run.refusals → (j : ℕ) (u : Holder) → At s.views j u → Claims u n → ⊥

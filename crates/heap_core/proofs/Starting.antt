@@ -125,13 +125,13 @@ module _ (plan : Plan) (s : State Slot Holder) (r : Kept plan s) (id : ℕ) (k :
 
   -- ---- where there is no line
 
-  abbrev full_entry : ℕ → Id → ℕ → List Val → Entry
-  full_entry step y body values = bare_entry step (Start y body values) (Failed ThreadLimit)
+  abbrev no_line_entry : ℕ → Id → ℕ → List Val → Entry
+  no_line_entry step y body values = bare_entry step (Start y body values) (Failed ThreadLimit)
 
   pub full_kept : (step : ℕ) (y : Id) (body : ℕ) (values : List Val) → IsBare k → y ≡ next_thread k.view.thread k.view.log → Each (Fits r.run.store) values → line_for k.view.generation h.lines ≡ None
-      → Kept plan (whole (set s.words turn_word 0) (set s.homes 0 (some (Some h))) (set s.views id (without_turn (with_plain k (full_entry step y body values)))))
+      → Kept plan (whole (set s.words turn_word 0) (set s.homes 0 (some (Some h))) (set s.views id (without_turn (with_plain k (no_line_entry step y body values)))))
   full_kept step y body values bare next fit no_line =
-      let e : Entry = full_entry step y body values in
+      let e : Entry = no_line_entry step y body values in
       let z : Store = r.run.store in
       let k' : Holder = without_turn (with_plain k e) in
       let run' : Run = run_after r.run k.view.thread e z in
@@ -403,7 +403,7 @@ module _ (plan : Plan) (s : State Slot Holder) (r : Kept plan s) (id : ℕ) (k :
             fresh = λ i c q is. ap (found z) (sym (id_is y i (ap Rattle.heap_core.specs.Blocks.id_of (sym (only c q)) ∙ is))) ∙ absent;
             one = λ i c d q p _ _. only c q ∙ sym (only d p);
             one_thread = λ number c d q p is also. ⊎_elim
-                (λ (old : Has r.blocks d). absurd (nobody number (numbered plan s r d number old also) (number_eq number n (sym is ∙ ap number_of (only c q)))))
+                (λ (old : Has r.blocks d). absurd (nobody number (numbered plan s r d number old also).1 (number_eq number n (sym is ∙ ap number_of (only c q)))))
                 (λ (new : Has (block ∷ []) d). only c q ∙ sym (only d new))
                 (has_either r.blocks (block ∷ []) d p);
           }
@@ -444,7 +444,8 @@ fulls_at plan count id k h step c of live has bare no_line s r size seat small =
 )
 
 -- the step makes the entry of a start that finds no line
-pub fulls_in_turn : (plan : Plan) (count id : ℕ) (me : Me Slot Holder) (h : Handed) (step : ℕ) (call : Held) (e : Entry) → IsStart me.0.view call → e ≡ bare_entry step (asked call) (Failed ThreadLimit) → me.1 ≡ (0, Some h) ∷ [] → me.0.live ≡ true → HasTurn me.0 h true → IsBare me.0
+pub fulls_in_turn : (plan : Plan) (count id : ℕ) (me : Me Slot Holder) (h : Handed) (step : ℕ) (call : Held) (e : Entry) → IsStart me.0.view call → e ≡ bare_entry step (asked call) (Failed ThreadLimit) → me.1 ≡ (0, Some h) ∷ []
+    → me.0.live ≡ true → HasTurn me.0 h true → IsBare me.0
     → line_for me.0.view.generation h.lines ≡ None → Allows (Kept plan) count id me turn_word (λ _. 0) (λ _. MakesInTurn e me)
 fulls_in_turn plan count id me h step call e start is carries live has bare no_line =
     subst (λ (x : Entry). Allows (Kept plan) count id me turn_word (λ _. 0) (λ _. MakesInTurn x me)) (sym is)
@@ -454,7 +455,8 @@ fulls_in_turn plan count id me h step call e start is carries live has bare no_l
 abbrev new_ref : Id → ℕ → Ref
 new_ref id at = record { sort = sort.Thread; id = id; at = at }
 
-starts_at : (plan : Plan) (count id : ℕ) (k : Holder) (h : Handed) (step at line : ℕ) (c : Call) → (of : StartOf k.view c) → k.live ≡ true → HasTurn k h true → LaidFor k (born_of step c h.started (new_ref of.id at) line) → line_for k.view.generation h.lines ≡ Some line
+starts_at : (plan : Plan) (count id : ℕ) (k : Holder) (h : Handed) (step at line : ℕ) (c : Call) → (of : StartOf k.view c) → k.live ≡ true → HasTurn k h true → LaidFor k (born_of step c h.started (new_ref of.id at) line)
+    → line_for k.view.generation h.lines ≡ Some line
     → Allows (Kept plan) count id (k, (0, Some (started_on line h)) ∷ []) turn_word (λ _. 0) (λ _. StartsInTurn (born_of step c h.started (new_ref of.id at) line) (k, (0, Some (started_on line h)) ∷ []))
 starts_at plan count id k h step at line c of live has laid line_is s r size seat small = (
   without_turn (with_born k (born_of step c h.started (new_ref of.id at) line)),
@@ -478,7 +480,8 @@ pub laid_back : (k w : Holder) (b : Born) → w.own ≡ k.own → w.ahead ≡ k.
 laid_back k w b own ahead thread laid = (own ∙ (laid.0 ∙ ap (λ (maker : ℕ). record { at = b.thread.at; words = thread_row maker b } ∷ []) (sym thread)), ahead ∙ laid.1)
 
 -- the step starts this thread
-pub starts_in_turn : (plan : Plan) (count id : ℕ) (me : Me Slot Holder) (h g : Handed) (step line : ℕ) (thread : Ref) (call : Held) (b : Born) → IsStart me.0.view call → NamesNew thread call → b ≡ born_of step (asked call) h.started thread line → me.1 ≡ (0, Some g) ∷ [] → g ≡ started_on line h
+pub starts_in_turn : (plan : Plan) (count id : ℕ) (me : Me Slot Holder) (h g : Handed) (step line : ℕ) (thread : Ref) (call : Held) (b : Born) → IsStart me.0.view call → NamesNew thread call
+    → b ≡ born_of step (asked call) h.started thread line → me.1 ≡ (0, Some g) ∷ [] → g ≡ started_on line h
     → me.0.live ≡ true → HasTurn me.0 h true → LaidFor me.0 (born_of step (asked call) h.started thread line) → line_for me.0.view.generation h.lines ≡ Some line → Allows (Kept plan) count id me turn_word (λ _. 0) (λ _. StartsInTurn b me)
 starts_in_turn plan count id me h g step line thread call b start named is carries started live has laid line_is =
     let same : thread ≡ new_ref (start_of me.0.view call start).id thread.at = names_new me.0.view thread call start named in
@@ -495,7 +498,8 @@ started_is m m' w g b c is put left =
 -- ---- what is answered
 
 -- no line, and no thread can be started
-pub full_replies : (a : Asking) (step generation : ℕ) (id : Id) (k w u : Holder) (h : Handed) → TableSeen k h → generation ≡ k.view.generation → line_for generation h.lines ≡ None → w ≡ k → u ≡ without_turn (with_plain w (bare_entry step a.call (Failed ThreadLimit)))
+pub full_replies : (a : Asking) (step generation : ℕ) (id : Id) (k w u : Holder) (h : Handed) → TableSeen k h → generation ≡ k.view.generation → line_for generation h.lines ≡ None → w ≡ k
+    → u ≡ without_turn (with_plain w (bare_entry step a.call (Failed ThreadLimit)))
     → StartReplies a step id (reply.Failed ThreadLimit) k u
 full_replies a step generation id k w u h seen same none_left looked made = (
   refl,
@@ -504,7 +508,8 @@ full_replies a step generation id k w u h seen same none_left looked made = (
 )
 
 -- a line, and the thread is started
-pub start_replies : (a : Asking) (step generation number line : ℕ) (id : Id) (k w v l u : Holder) (h : Handed) (at : ℕ) (ws laid : List ℕ) → TableSeen k h → generation ≡ k.view.generation → line_for generation h.lines ≡ Some line → number ≡ h.started + 1 → w ≡ k → v ≡ with_region w at ws → l ≡ with_own v at laid
+pub start_replies : (a : Asking) (step generation number line : ℕ) (id : Id) (k w v l u : Holder) (h : Handed) (at : ℕ) (ws laid : List ℕ) → TableSeen k h → generation ≡ k.view.generation → line_for generation h.lines ≡ Some line
+    → number ≡ h.started + 1 → w ≡ k → v ≡ with_region w at ws → l ≡ with_own v at laid
     → u ≡ without_turn (with_born l (born_of step a.call h.started (new_ref id at) line)) → StartReplies a step id (reply.Started number (new_ref id at)) k u
 start_replies a step generation number line id k w v l u h at ws laid seen same line_is next looked took lays made = (
   refl,
@@ -512,6 +517,7 @@ start_replies a step generation number line id k w v l u h at ws laid seen same 
   (
     h.started,
     (seen.run, seen.is_run, seen.knows, seen.full ∙ ap is_none (ap (λ n. line_for n h.lines) (sym same) ∙ line_is), sym seen.started),
+    seen.few,
     next ∙ (let z : h.started + 1 ≡ suc h.started = omega arith in z),
     (line, made ∙ ap (λ (y : Holder). without_turn (with_born y (born_of step a.call h.started (new_ref id at) line))) (lays ∙ ap (λ (y : Holder). with_own y at laid) (took ∙ ap (λ (y : Holder). with_region y at ws) looked))),
   ),

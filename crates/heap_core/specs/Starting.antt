@@ -10,9 +10,9 @@ use Rattle.rb_model.specs.declared.fault.Fault.TheVariants.{ThreadLimit}
 use Rattle.rb_model.specs.declared.value.Id.{Id}
 use Rattle.rb_model.specs.declared.value.Ref.{Ref}
 use Rattle.rb_model.specs.declared.value.Sort.TheVariants as sort
-use Rattle.rb_model.specs.Acts.{Started}
+use Rattle.rb_model.specs.Acts.{Failed, Started}
 use Rattle.rb_model.specs.Immediates.{reference}
-use Rattle.rb_model.specs.Log.{Call, Entry}
+use Rattle.rb_model.specs.Log.{Call, Entry, asked}
 use Rattle.rb_model.specs.Moving.{refs_in_all}
 use Rattle.rb_model.specs.Started.{next_thread}
 use Rattle.rb_shared.specs.declared.answer.Answer.{Answer}
@@ -85,6 +85,14 @@ pub record Born : Type 0 where
 abbrev pub born_of : (step : ℕ) → Call → (started : ℕ) → Ref → (line : ℕ) → Born
 born_of step call started thread line = record { entry = bare_entry step call (Started (suc started) (reference thread)); number = suc started; thread = thread; line = line }
 
+-- the same as code has it, under this turn
+abbrev pub born_by : (step : ℕ) → Held → Handed → Ref → (line : ℕ) → Born
+born_by step call turn thread line = born_of step (asked call) turn.started thread line
+
+-- the entry of a start that finds no line
+abbrev pub full_entry : ℕ → Held → Entry
+full_entry step call = bare_entry step (asked call) (Failed ThreadLimit)
+
 -- the reference is to the thread that the call starts
 abbrev pub NamesNew : Ref → Held → Type 0
 NamesNew thread (held.Start id body values) = (thread.sort ≡ sort.Thread) × (thread.id ≡ id)
@@ -119,11 +127,11 @@ IsFullSeen v = (run : Run) × IsRun v.slots run × runs.Knows v.slots run v × (
 abbrev pub IsNextSeen : View → ℕ → Type 0
 IsNextSeen v started = (run : Run) × IsRun v.slots run × runs.Knows v.slots run v × (is_full v.slots run.store v.thread ≡ false) × (started ≡ length (threads run.store))
 
--- the reply to the start of the thread of this id, and what it leaves of the pass, which has the turn no more
+-- The reply to the start of the thread of this id, and what it leaves of the pass, which has the turn no more. There are fewer threads than words.
 abbrev pub StartReplies : Asking → ℕ → Id → HeldReply → Holder → Holder → Type 0
 StartReplies a step id (reply.Started number thread) k k' =
     (thread.sort ≡ sort.Thread) × (thread.id ≡ id)
-    × ((started : ℕ) × IsNextSeen k.view started × (number ≡ suc started) × ((line : ℕ) × (k' ≡ without_turn (with_born k (born_of step a.call started thread line)))))
+    × ((started : ℕ) × IsNextSeen k.view started × (started < k.size) × (number ≡ suc started) × ((line : ℕ) × (k' ≡ without_turn (with_born k (born_of step a.call started thread line)))))
 StartReplies a step id (reply.Failed fault) k k' = (fault ≡ ThreadLimit) × IsFullSeen k.view × (k' ≡ without_turn (with_plain k (bare_entry step a.call (said (reply.Failed fault)))))
 StartReplies a step id r k k' = ⊥
 

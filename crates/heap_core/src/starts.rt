@@ -1,16 +1,11 @@
 // Threads are started in turn.
 
-ghost use Rattle.std.specs.Prelude.{◌≡◌, ◌<◌, ◌+◌, ℕ, List, [], ◌∷◌, true, false, length, Some, None};
-ghost use Rattle.rb_model.specs.Acts.{Failed};
-ghost use Rattle.rb_model.specs.Log.{asked};
+ghost use Rattle.std.specs.Prelude.{◌≡◌, ◌<◌, [], true, false, length, Some, None};
 ghost use Rattle.rb_model.specs.Moving.{items_of};
-ghost use Rattle.rb_model.specs.declared.fault.Fault.TheVariants.{ThreadLimit};
 ghost use Rattle.heap_core.specs.Handing.{Handed};
 ghost use Rattle.heap_core.specs.Heaps.{IsOf, SameHeap, holder};
-ghost use Rattle.heap_core.specs.Owning.{bare_entry};
 ghost use Rattle.heap_core.specs.Passes.{asking};
-ghost use Rattle.heap_core.specs.Places.{thread_words};
-ghost use Rattle.heap_core.specs.Starting.{IsStart, LaidFor, NamesNew, StartAnswers, TableSeen, born_of, line_for, thread_row, with_born};
+ghost use Rattle.heap_core.specs.Starting.{IsStart, LaidFor, NamesNew, StartAnswers, TableSeen, born_by, full_entry, line_for, with_born};
 ghost use Rattle.heap_core.specs.Turning.{IsBare, with_plain, without_turn};
 ghost use Rattle.heap_core.specs.Turns.{HasTurn};
 ghost use Rattle.heap_core.specs.View.{OwnsOne, with_own};
@@ -93,13 +88,13 @@ impl<K: Sink> Heap<K> {
         requires live { seat.old.me.0.live ≡ true }
         requires bare { IsBare seat.old.me.0 }
         requires start { IsStart seat.old.me.0.view call.now }
-        requires entry { J.entry ≡ bare_entry step (asked call.now) (Failed ThreadLimit) }
+        requires entry { J.entry ≡ full_entry step call.now }
         requires full { line_for seat.old.me.0.view.generation turn.lines ≡ None }
         requires has { HasTurn seat.old.me.0 turn false }
         ensures of { seat.new.table_id ≡ seat.old.table_id }
         ensures seat { seat.new.id ≡ seat.old.id }
         ensures rests { seat.new.me.1 ≡ [] }
-        ensures made { seat.new.me.0 ≡ without_turn (with_plain seat.old.me.0 (bare_entry step (asked call.now) (Failed ThreadLimit))) }
+        ensures made { seat.new.me.0 ≡ without_turn (with_plain seat.old.me.0 (full_entry step call.now)) }
     {
         self.hand_back(seat, turn);
         self.table.shared.store::<MakeInTurn<J>>(seat, TURN_WORD, 0);
@@ -113,7 +108,7 @@ impl<K: Sink> Heap<K> {
         requires full { line_for (holder pass.old).view.generation turn.lines ≡ None }
         requires has { HasTurn (holder pass.old) turn false }
         ensures of { SameHeap pass.old pass.new }
-        ensures made { holder pass.new ≡ without_turn (with_plain (holder pass.old) (bare_entry act.now.step (asked act.now.call.now) (Failed ThreadLimit))) }
+        ensures made { holder pass.new ≡ without_turn (with_plain (holder pass.old) (full_entry act.now.step act.now.call.now)) }
     {
         let badge = mem::replace(&mut pass.badge, Badge::blank());
         let mut seat: Place<K> = badge.into_seat();
@@ -134,17 +129,17 @@ impl<K: Sink> Heap<K> {
         requires of { seat.old.table_id ≡ self.now.table.shared.table_id }
         requires rests { seat.old.me.1 ≡ [] }
         requires live { seat.old.me.0.live ≡ true }
-        requires born { J.born ≡ born_of step (asked call.now) turn.started thread.now line }
+        requires born { J.born ≡ born_by step call.now turn thread.now line }
         requires start { IsStart seat.old.me.0.view call.now }
         requires named { NamesNew thread.now call.now }
-        requires laid { LaidFor seat.old.me.0 (born_of step (asked call.now) turn.started thread.now line) }
+        requires laid { LaidFor seat.old.me.0 (born_by step call.now turn thread.now line) }
         requires free { line_for seat.old.me.0.view.generation turn.lines ≡ Some line }
         requires few { turn.started < 18446744073709551615 }
         requires has { HasTurn seat.old.me.0 turn false }
         ensures of { seat.new.table_id ≡ seat.old.table_id }
         ensures seat { seat.new.id ≡ seat.old.id }
         ensures rests { seat.new.me.1 ≡ [] }
-        ensures made { seat.new.me.0 ≡ without_turn (with_born seat.old.me.0 (born_of step (asked call.now) turn.started thread.now line)) }
+        ensures made { seat.new.me.0 ≡ without_turn (with_born seat.old.me.0 (born_by step call.now turn thread.now line)) }
     {
         turn.start(line);
         self.hand_back(seat, turn);
@@ -158,12 +153,12 @@ impl<K: Sink> Heap<K> {
         requires of { IsOf self.now pass.old }
         requires start { IsStart (holder pass.old).view act.now.call.now }
         requires named { NamesNew thread.now act.now.call.now }
-        requires laid { LaidFor (holder pass.old) (born_of act.now.step (asked act.now.call.now) turn.started thread.now line) }
+        requires laid { LaidFor (holder pass.old) (born_by act.now.step act.now.call.now turn thread.now line) }
         requires free { line_for (holder pass.old).view.generation turn.lines ≡ Some line }
         requires few { turn.started < 18446744073709551615 }
         requires has { HasTurn (holder pass.old) turn false }
         ensures of { SameHeap pass.old pass.new }
-        ensures made { holder pass.new ≡ without_turn (with_born (holder pass.old) (born_of act.now.step (asked act.now.call.now) turn.started thread.now line)) }
+        ensures made { holder pass.new ≡ without_turn (with_born (holder pass.old) (born_by act.now.step act.now.call.now turn thread.now line)) }
     {
         let badge = mem::replace(&mut pass.badge, Badge::blank());
         let mut seat: Place<K> = badge.into_seat();
