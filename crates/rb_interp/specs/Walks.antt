@@ -77,3 +77,19 @@ module _ {O : Type 0} {g : Ghosts O} where
       × ((start : State) (k : List Cont)
       → At S old.context.steps start (g.log old.store) (g.private old.store) (from S k (scope_of (me_of old.context.me) names room) depth old.left)
       → Came S old.context.steps start (g.log new.store) (g.private new.store) (outcome r new.value new.leave) k (scope_of (me_of old.context.me) names room') depth new.left)
+
+  -- What stays of a walker: where the frame ends, and what runs. Of the steps no more are left, and the row is as long as it was.
+  abbrev pub Walked : (old new : Walker O g) → (room room' : List Held) → Type 0
+  Walked old new room room' = (new.base ≡ old.base) × (new.context ≡ old.context) × (new.left ≤ old.left) × (length room' ≡ length room)
+
+  -- the same without a row
+  abbrev pub Stepped : (old new : Walker O g) → Type 0
+  Stepped old new = (new.base ≡ old.base) × (new.context ≡ old.context) × (new.left ≤ old.left)
+
+  -- and where no step is counted
+  abbrev pub Unstepped : (old new : Walker O g) → Type 0
+  Unstepped old new = (new.base ≡ old.base) × (new.context ≡ old.context) × (new.left ≡ old.left)
+
+  -- and where the store stays too
+  abbrev pub Untouched : (old new : Walker O g) → Type 0
+  Untouched old new = (new.base ≡ old.base) × (new.context ≡ old.context) × (new.left ≡ old.left) × (new.store ≡ old.store)

@@ -80,17 +80,14 @@ struct Walker<'p, O: ThreadStore + Drop> {
 
 impl<'p, O: ThreadStore + Drop> Walker<'p, O> {
     ghost use Rattle.rb_interp.specs.Top.{RunsTop};
-    ghost use Rattle.rb_interp.specs.Walks.{Walks, at_node, begun, node_fits};
+    ghost use Rattle.rb_interp.specs.Walks.{Walked, Walks, at_node, begun, node_fits};
 
     /// Evaluates a node.
     #[cycle(walk)]
     #[inline(never)]
     fn walk(&mut self, code: &'p Code, depth: u32, room: &mut [Value]) -> Came
         ensures counted { goes_on (outcome result self.new.value self.new.leave) ≡ true → self.new.left < self.old.left }
-        ensures base { self.new.base ≡ self.old.base }
-        ensures context { self.new.context ≡ self.old.context }
-        ensures room { length room.new ≡ length room.old }
-        ensures less { self.new.left ≤ self.old.left }
+        ensures stays { Walked self.old self.new room.old room.new }
         ensures came { Walks (node_fits code.now) (at_node code.now) self.old self.new room.old room.new depth result }
     {
         self.walk_here(code, depth, room)
@@ -101,10 +98,7 @@ impl<'p, O: ThreadStore + Drop> Walker<'p, O> {
     #[inline(always)]
     fn walk_here(&mut self, code: &'p Code, depth: u32, room: &mut [Value]) -> Came
         ensures counted { goes_on (outcome result self.new.value self.new.leave) ≡ true → self.new.left < self.old.left }
-        ensures base { self.new.base ≡ self.old.base }
-        ensures context { self.new.context ≡ self.old.context }
-        ensures room { length room.new ≡ length room.old }
-        ensures less { self.new.left ≤ self.old.left }
+        ensures stays { Walked self.old self.new room.old room.new }
         ensures came { Walks (node_fits code.now) (at_node code.now) self.old self.new room.old room.new depth result }
     {
         if self.left == 0 {
@@ -122,10 +116,7 @@ impl<'p, O: ThreadStore + Drop> Walker<'p, O> {
     #[inline(always)]
     fn evaluate(&mut self, code: &'p Code, depth: u32, room: &mut [Value]) -> Came
         ensures counted { goes_on (outcome result self.new.value self.new.leave) ≡ true → self.new.left < self.old.left }
-        ensures base { self.new.base ≡ self.old.base }
-        ensures context { self.new.context ≡ self.old.context }
-        ensures room { length room.new ≡ length room.old }
-        ensures less { self.new.left ≤ self.old.left }
+        ensures stays { Walked self.old self.new room.old room.new }
         ensures came { Walks (node_fits code.now) (at_node code.now) self.old self.new room.old room.new depth result }
     {
         if self.left > 0 && depth < MAX_DEPTH {
@@ -142,10 +133,7 @@ impl<'p, O: ThreadStore + Drop> Walker<'p, O> {
     #[inline(always)]
     fn evaluate_leaf(&mut self, code: &'p Code, depth: u32, room: &mut [Value]) -> Came
         ensures counted { goes_on (outcome result self.new.value self.new.leave) ≡ true → self.new.left < self.old.left }
-        ensures base { self.new.base ≡ self.old.base }
-        ensures context { self.new.context ≡ self.old.context }
-        ensures room { length room.new ≡ length room.old }
-        ensures less { self.new.left ≤ self.old.left }
+        ensures stays { Walked self.old self.new room.old room.new }
         ensures came { Walks (node_fits code.now) (at_node code.now) self.old self.new room.old room.new depth result }
     {
         if self.left > 0 && depth < MAX_DEPTH {
@@ -162,10 +150,7 @@ impl<'p, O: ThreadStore + Drop> Walker<'p, O> {
     #[inline(never)]
     fn evaluate_apart(&mut self, code: &'p Code, depth: u32, room: &mut [Value]) -> Came
         ensures counted { goes_on (outcome result self.new.value self.new.leave) ≡ true → self.new.left < self.old.left }
-        ensures base { self.new.base ≡ self.old.base }
-        ensures context { self.new.context ≡ self.old.context }
-        ensures room { length room.new ≡ length room.old }
-        ensures less { self.new.left ≤ self.old.left }
+        ensures stays { Walked self.old self.new room.old room.new }
         ensures came { Walks (node_fits code.now) (at_node code.now) self.old self.new room.old room.new depth result }
     {
         self.evaluate_call(code, depth, room)
@@ -176,10 +161,7 @@ impl<'p, O: ThreadStore + Drop> Walker<'p, O> {
     #[inline(always)]
     fn evaluate_call(&mut self, code: &'p Code, depth: u32, room: &mut [Value]) -> Came
         ensures counted { goes_on (outcome result self.new.value self.new.leave) ≡ true → self.new.left < self.old.left }
-        ensures base { self.new.base ≡ self.old.base }
-        ensures context { self.new.context ≡ self.old.context }
-        ensures room { length room.new ≡ length room.old }
-        ensures less { self.new.left ≤ self.old.left }
+        ensures stays { Walked self.old self.new room.old room.new }
         ensures came { Walks (node_fits code.now) (at_node code.now) self.old self.new room.old room.new depth result }
     {
         match code {
@@ -251,10 +233,7 @@ impl<'p, O: ThreadStore + Drop> Walker<'p, O> {
     #[inline(never)]
     fn evaluate_logic(&mut self, code: &'p Code, depth: u32, room: &mut [Value]) -> Came
         ensures counted { goes_on (outcome result self.new.value self.new.leave) ≡ true → self.new.left < self.old.left }
-        ensures base { self.new.base ≡ self.old.base }
-        ensures context { self.new.context ≡ self.old.context }
-        ensures room { length room.new ≡ length room.old }
-        ensures less { self.new.left ≤ self.old.left }
+        ensures stays { Walked self.old self.new room.old room.new }
         ensures came { Walks (node_fits code.now) (at_node code.now) self.old self.new room.old room.new depth result }
     {
         if self.left > 0 && depth < MAX_DEPTH {
@@ -269,10 +248,7 @@ impl<'p, O: ThreadStore + Drop> Walker<'p, O> {
     #[inline(never)]
     fn evaluate_operand(&mut self, code: &'p Code, depth: u32, room: &mut [Value]) -> Came
         ensures counted { goes_on (outcome result self.new.value self.new.leave) ≡ true → self.new.left < self.old.left }
-        ensures base { self.new.base ≡ self.old.base }
-        ensures context { self.new.context ≡ self.old.context }
-        ensures room { length room.new ≡ length room.old }
-        ensures less { self.new.left ≤ self.old.left }
+        ensures stays { Walked self.old self.new room.old room.new }
         ensures came { Walks (node_fits code.now) (at_node code.now) self.old self.new room.old room.new depth result }
     {
         if self.left > 0 && depth < MAX_DEPTH {
@@ -288,10 +264,7 @@ impl<'p, O: ThreadStore + Drop> Walker<'p, O> {
     #[inline(always)]
     fn evaluate_sent(&mut self, code: &'p Code, depth: u32, room: &mut [Value]) -> Came
         ensures counted { goes_on (outcome result self.new.value self.new.leave) ≡ true → self.new.left < self.old.left }
-        ensures base { self.new.base ≡ self.old.base }
-        ensures context { self.new.context ≡ self.old.context }
-        ensures room { length room.new ≡ length room.old }
-        ensures less { self.new.left ≤ self.old.left }
+        ensures stays { Walked self.old self.new room.old room.new }
         ensures came { Walks (node_fits code.now) (at_node code.now) self.old self.new room.old room.new depth result }
     {
         if self.left > 0 && depth < MAX_DEPTH {
@@ -305,10 +278,7 @@ impl<'p, O: ThreadStore + Drop> Walker<'p, O> {
     #[cycle(walk)]
     #[inline(always)]
     fn begin(&mut self, code: &'p Code, depth: u32, room: &mut [Value]) -> Came
-        ensures base { self.new.base ≡ self.old.base }
-        ensures context { self.new.context ≡ self.old.context }
-        ensures room { length room.new ≡ length room.old }
-        ensures less { self.new.left ≤ self.old.left }
+        ensures stays { Walked self.old self.new room.old room.new }
         ensures came { Walks (node_fits code.now) (begun code.now) self.old self.new room.old room.new depth result }
     {
         match code {

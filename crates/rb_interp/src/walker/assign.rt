@@ -1,6 +1,6 @@
 // Assignments with operators, and operators on values.
 
-ghost use Rattle.std.specs.Prelude.{◌≡◌, ◌≤◌, ◌<◌, ℕ, false, [], ◌∷◌, length, slice_get, Some, None};
+ghost use Rattle.std.specs.Prelude.{◌≡◌, ◌<◌, ℕ, false, [], ◌∷◌, slice_get, Some, None};
 ghost use Rattle.rb_model.specs.Values.{Int, plain};
 ghost use Rattle.rb_machine.specs.Scopes.{text_of};
 ghost use Rattle.rb_machine.specs.Control.{On, Then, Give, Step, MemberOf, ReadOf, RightOf, WriteTo, OfLocal, OfAttribute};
@@ -22,7 +22,7 @@ use rb_walk::target::writer_of;
 impl<'p, O: ThreadStore + Drop> Walker<'p, O> {
     ghost use Rattle.rb_interp.specs.Answers.{AnswersBy};
     ghost use Rattle.rb_interp.specs.Calls.{Writing};
-    ghost use Rattle.rb_interp.specs.Walks.{Kept, Walks, WalksTo, at_node_then, node_fits};
+    ghost use Rattle.rb_interp.specs.Walks.{Kept, Untouched, Walked, Walks, WalksTo, at_node_then, node_fits};
 
     /// An assignment to a local.
     #[cycle(walk)]
@@ -34,10 +34,7 @@ impl<'p, O: ThreadStore + Drop> Walker<'p, O> {
         depth: u32,
         room: &mut [Value],
     ) -> Came
-        ensures base { self.new.base ≡ self.old.base }
-        ensures context { self.new.context ≡ self.old.context }
-        ensures room { length room.new ≡ length room.old }
-        ensures less { self.new.left ≤ self.old.left }
+        ensures stays { Walked self.old self.new room.old room.new }
         ensures kept { (name : NameId) → Kept (at_slot slot name (node_fits value.now)) self.old room.old room.new }
         ensures came { (name : NameId) (step : Step) → Assigns name step → WalksTo (at_slot slot name (node_fits value.now)) (at_node_then value.now (λ S. step)) self.old self.new room.old room.new depth result }
     {
@@ -60,10 +57,7 @@ impl<'p, O: ThreadStore + Drop> Walker<'p, O> {
         depth: u32,
         room: &mut [Value],
     ) -> Came
-        ensures base { self.new.base ≡ self.old.base }
-        ensures context { self.new.context ≡ self.old.context }
-        ensures room { length room.new ≡ length room.old }
-        ensures less { self.new.left ≤ self.old.left }
+        ensures stays { Walked self.old self.new room.old room.new }
         ensures came { (name : NameId) → Walks (at_slot slot name (node_fits value.now)) (λ S k sc d n. read_place S (OfLocal name) op (erase value.now) at k sc d n) self.old self.new room.old room.new depth result }
     {
         let current = self.read(slot, room);
@@ -106,10 +100,7 @@ impl<'p, O: ThreadStore + Drop> Walker<'p, O> {
         room: &mut [Value],
     ) -> Came
         requires came { is_left current ≡ false }
-        ensures base { self.new.base ≡ self.old.base }
-        ensures context { self.new.context ≡ self.old.context }
-        ensures room { length room.new ≡ length room.old }
-        ensures less { self.new.left ≤ self.old.left }
+        ensures stays { Walked self.old self.new room.old room.new }
         ensures came { Walks (node_fits value.now) (at_node_then value.now (λ S. RightOf (value_of current self.old.value) op at)) self.old self.new room.old room.new depth result }
     {
         match current {
@@ -130,10 +121,7 @@ impl<'p, O: ThreadStore + Drop> Walker<'p, O> {
         depth: u32,
         room: &mut [Value],
     ) -> Came
-        ensures base { self.new.base ≡ self.old.base }
-        ensures context { self.new.context ≡ self.old.context }
-        ensures room { length room.new ≡ length room.old }
-        ensures less { self.new.left ≤ self.old.left }
+        ensures stays { Walked self.old self.new room.old room.new }
         ensures came { Walks (node_fits value.now) (at_node_then value.now (λ S. RightOf (Int m) op at)) self.old self.new room.old room.new depth result }
     {
         let came = self.evaluate(value, depth, room);
@@ -156,10 +144,7 @@ impl<'p, O: ThreadStore + Drop> Walker<'p, O> {
         room: &mut [Value],
     ) -> Came
         requires came { is_left current ≡ false }
-        ensures base { self.new.base ≡ self.old.base }
-        ensures context { self.new.context ≡ self.old.context }
-        ensures room { length room.new ≡ length room.old }
-        ensures less { self.new.left ≤ self.old.left }
+        ensures stays { Walked self.old self.new room.old room.new }
         ensures came { Walks (node_fits value.now) (at_node_then value.now (λ S. RightOf (value_of current self.old.value) op at)) self.old self.new room.old room.new depth result }
     {
         let method = method_of(op);
@@ -182,10 +167,7 @@ impl<'p, O: ThreadStore + Drop> Walker<'p, O> {
         at: Span,
     ) -> Came
         ensures gives { AnswersBy method (Int m) (value_of came self.old.value ∷ []) at self.old self.new result }
-        ensures base { self.new.base ≡ self.old.base }
-        ensures left { self.new.left ≡ self.old.left }
-        ensures context { self.new.context ≡ self.old.context }
-        ensures store { self.new.store ≡ self.old.store }
+        ensures stays { Untouched self.old self.new }
     {
         match came {
             Came::Int(n) => match operation_by(method, m, n) {
@@ -200,10 +182,7 @@ impl<'p, O: ThreadStore + Drop> Walker<'p, O> {
     #[inline(always)]
     pub(super) fn operated_with(&mut self, op: AssignOp, m: i64, came: Came, at: Span) -> Came
         ensures gives { AnswersBy (method_of op) (Int m) (value_of came self.old.value ∷ []) at self.old self.new result }
-        ensures base { self.new.base ≡ self.old.base }
-        ensures left { self.new.left ≡ self.old.left }
-        ensures context { self.new.context ≡ self.old.context }
-        ensures store { self.new.store ≡ self.old.store }
+        ensures stays { Untouched self.old self.new }
     {
         match op {
             AssignOp::Plus => self.operated_by(Some(Builtin::Plus), m, came, at),
@@ -215,10 +194,7 @@ impl<'p, O: ThreadStore + Drop> Walker<'p, O> {
     #[inline(never)]
     fn operated_apart(&mut self, method: Option<Builtin>, m: i64, came: Came, at: Span) -> Came
         ensures gives { AnswersBy method (Int m) (value_of came self.old.value ∷ []) at self.old self.new result }
-        ensures base { self.new.base ≡ self.old.base }
-        ensures left { self.new.left ≡ self.old.left }
-        ensures context { self.new.context ≡ self.old.context }
-        ensures store { self.new.store ≡ self.old.store }
+        ensures stays { Untouched self.old self.new }
     {
         self.operated_by(method, m, came, at)
     }
@@ -233,10 +209,7 @@ impl<'p, O: ThreadStore + Drop> Walker<'p, O> {
         at: Span,
     ) -> Came
         ensures gives { AnswersBy method (Int m) (value_of came self.old.value ∷ []) at self.old self.new result }
-        ensures base { self.new.base ≡ self.old.base }
-        ensures left { self.new.left ≡ self.old.left }
-        ensures context { self.new.context ≡ self.old.context }
-        ensures store { self.new.store ≡ self.old.store }
+        ensures stays { Untouched self.old self.new }
     {
         let arg = self.take(came);
         self.operated(method, &Value::Int(m), arg, at)
@@ -252,10 +225,7 @@ impl<'p, O: ThreadStore + Drop> Walker<'p, O> {
         at: Span,
     ) -> Came
         ensures gives { AnswersBy method (plain receiver.now) (plain arg ∷ []) at self.old self.new result }
-        ensures base { self.new.base ≡ self.old.base }
-        ensures left { self.new.left ≡ self.old.left }
-        ensures context { self.new.context ≡ self.old.context }
-        ensures store { self.new.store ≡ self.old.store }
+        ensures stays { Untouched self.old self.new }
     {
         match operation_on(method, receiver, &arg) {
             Some(answer) => self.answer(answer, at),
@@ -280,10 +250,7 @@ impl<'p, O: ThreadStore + Drop> Walker<'p, O> {
         depth: u32,
         room: &mut [Value],
     ) -> Came
-        ensures base { self.new.base ≡ self.old.base }
-        ensures context { self.new.context ≡ self.old.context }
-        ensures room { length room.new ≡ length room.old }
-        ensures less { self.new.left ≤ self.old.left }
+        ensures stays { Walked self.old self.new room.old room.new }
         ensures came { Walks (attribute number writer name (both (node_fits receiver.now) (node_fits value.now))) (at_node_then receiver.now (λ S. MemberOf (text_of S name) op (erase value.now) at)) self.old self.new room.old room.new depth result }
     {
         let came = self.walk(receiver, depth, room);
@@ -312,10 +279,7 @@ impl<'p, O: ThreadStore + Drop> Walker<'p, O> {
         room: &mut [Value],
     ) -> Came
         requires came { is_left current ≡ false }
-        ensures base { self.new.base ≡ self.old.base }
-        ensures context { self.new.context ≡ self.old.context }
-        ensures room { length room.new ≡ length room.old }
-        ensures less { self.new.left ≤ self.old.left }
+        ensures stays { Walked self.old self.new room.old room.new }
         ensures kept { Kept (node_fits value.now) self.old room.old room.new }
         ensures came { (name : NameId) → WalksTo (written_by writer name (node_fits value.now)) (λ S k sc d n. On (Give (value_of current self.old.value)) (Then (ReadOf (OfAttribute (plain receiver.now) (text_of S name)) op (erase value.now) at) ∷ k) sc d n) self.old self.new room.old room.new depth result }
     {
@@ -353,10 +317,7 @@ impl<'p, O: ThreadStore + Drop> Walker<'p, O> {
         depth: u32,
         room: &mut [Value],
     ) -> Came
-        ensures base { self.new.base ≡ self.old.base }
-        ensures context { self.new.context ≡ self.old.context }
-        ensures room { length room.new ≡ length room.old }
-        ensures less { self.new.left ≤ self.old.left }
+        ensures stays { Walked self.old self.new room.old room.new }
         ensures kept { Kept (node_fits value.now) self.old room.old room.new }
         ensures came { (name : NameId) → WalksTo (written_by writer name (node_fits value.now)) (at_node_then value.now (λ S. WriteTo (OfAttribute (plain receiver.now) (text_of S name)) at)) self.old self.new room.old room.new depth result }
     {
@@ -379,10 +340,7 @@ impl<'p, O: ThreadStore + Drop> Walker<'p, O> {
         room: &mut [Value],
     ) -> Came
         requires came { is_left came ≡ false }
-        ensures base { self.new.base ≡ self.old.base }
-        ensures context { self.new.context ≡ self.old.context }
-        ensures room { length room.new ≡ length room.old }
-        ensures less { self.new.left ≤ self.old.left }
+        ensures stays { Walked self.old self.new room.old room.new }
         ensures kept { (i : ℕ) → i < self.old.base → slice_get room.new i ≡ slice_get room.old i }
         ensures came { Writing (plain receiver.now) writer (value_of came self.old.value) at self.old self.new room.old room.new depth result }
     {

@@ -29,7 +29,7 @@ use rb_walk::target::{Target, target_of};
 
 impl<'p, O: ThreadStore + Drop> Walker<'p, O> {
     ghost use Rattle.rb_interp.specs.Calls.{Passes, StoresWith};
-    ghost use Rattle.rb_interp.specs.Walks.{Kept, Walks, at_node_then, node_fits, nodes_fit};
+    ghost use Rattle.rb_interp.specs.Walks.{Kept, Walked, Walks, at_node_then, node_fits, nodes_fit};
 
     /// A call with one argument: the receiver first.
     #[cycle(walk)]
@@ -44,10 +44,7 @@ impl<'p, O: ThreadStore + Drop> Walker<'p, O> {
         depth: u32,
         room: &mut [Value],
     ) -> Came
-        ensures base { self.new.base ≡ self.old.base }
-        ensures context { self.new.context ≡ self.old.context }
-        ensures room { length room.new ≡ length room.old }
-        ensures less { self.new.left ≤ self.old.left }
+        ensures stays { Walked self.old self.new room.old room.new }
         ensures came { Walks (numbered method name (both (node_fits left.now) (node_fits right.now))) (at_node_then left.now (λ S. ReceiverOf (text_of S name) (erase right.now ∷ []) None at)) self.old self.new room.old room.new depth result }
     {
         let came = self.evaluate(left, depth, room);
@@ -75,10 +72,7 @@ impl<'p, O: ThreadStore + Drop> Walker<'p, O> {
         depth: u32,
         room: &mut [Value],
     ) -> Came
-        ensures base { self.new.base ≡ self.old.base }
-        ensures context { self.new.context ≡ self.old.context }
-        ensures room { length room.new ≡ length room.old }
-        ensures less { self.new.left ≤ self.old.left }
+        ensures stays { Walked self.old self.new room.old room.new }
         ensures came { (name : NameId) → Walks (numbered method name (node_fits right.now)) (at_node_then right.now (λ S. Argument (OnReceiver (Int m) (text_of S name) None) [] [] at)) self.old self.new room.old room.new depth result }
     {
         let came = self.evaluate(right, depth, room);
@@ -103,10 +97,7 @@ impl<'p, O: ThreadStore + Drop> Walker<'p, O> {
         room: &mut [Value],
     ) -> Came
         requires came { is_left came ≡ false }
-        ensures base { self.new.base ≡ self.old.base }
-        ensures context { self.new.context ≡ self.old.context }
-        ensures room { length room.new ≡ length room.old }
-        ensures less { self.new.left ≤ self.old.left }
+        ensures stays { Walked self.old self.new room.old room.new }
         ensures came { Walks (numbered method name (node_fits right.now)) (at_node_then right.now (λ S. Argument (OnReceiver (value_of came self.old.value) (text_of S name) None) [] [] at)) self.old self.new room.old room.new depth result }
     {
         if self.left > 0 && depth < MAX_DEPTH {
@@ -144,10 +135,7 @@ impl<'p, O: ThreadStore + Drop> Walker<'p, O> {
         room: &mut [Value],
     ) -> Came
         requires target { IsTarget self.old.context.script.now (me_of (Some target.object)) name target.object target.method.now }
-        ensures base { self.new.base ≡ self.old.base }
-        ensures context { self.new.context ≡ self.old.context }
-        ensures room { length room.new ≡ length room.old }
-        ensures less { self.new.left ≤ self.old.left }
+        ensures stays { Walked self.old self.new room.old room.new }
         ensures came { Walks (node_fits right.now) (at_node_then right.now (λ S. Argument (OnReceiver (me_of (Some target.entry.object)) (text_of S name) None) [] [] at)) self.old self.new room.old room.new depth result }
     {
         let came = self.evaluate(right, depth, room);
@@ -178,10 +166,7 @@ impl<'p, O: ThreadStore + Drop> Walker<'p, O> {
         room: &mut [Value],
     ) -> Came
         requires alone { HasNone self.old.context.script.now (me_of (Some thing)) name }
-        ensures base { self.new.base ≡ self.old.base }
-        ensures context { self.new.context ≡ self.old.context }
-        ensures room { length room.new ≡ length room.old }
-        ensures less { self.new.left ≤ self.old.left }
+        ensures stays { Walked self.old self.new room.old room.new }
         ensures came { Walks (numbered method name (node_fits right.now)) (at_node_then right.now (λ S. Argument (OnReceiver (me_of (Some thing)) (text_of S name) None) [] [] at)) self.old self.new room.old room.new depth result }
     {
         let came = self.evaluate(right, depth, room);
@@ -205,10 +190,7 @@ impl<'p, O: ThreadStore + Drop> Walker<'p, O> {
         depth: u32,
         room: &mut [Value],
     ) -> Came
-        ensures base { self.new.base ≡ self.old.base }
-        ensures context { self.new.context ≡ self.old.context }
-        ensures room { length room.new ≡ length room.old }
-        ensures less { self.new.left ≤ self.old.left }
+        ensures stays { Walked self.old self.new room.old room.new }
         ensures came { Walks (numbered method name (both (node_fits receiver.now) (nodes_fit args.now))) (at_node_then receiver.now (λ S. ReceiverOf (text_of S name) (map erase args.now) None at)) self.old self.new room.old room.new depth result }
     {
         let came = self.walk_here(receiver, depth, room);
@@ -251,10 +233,7 @@ impl<'p, O: ThreadStore + Drop> Walker<'p, O> {
         room: &mut [Value],
     ) -> Came
         requires target { IsTarget self.old.context.script.now (me_of (Some target.object)) name target.object target.method.now }
-        ensures base { self.new.base ≡ self.old.base }
-        ensures context { self.new.context ≡ self.old.context }
-        ensures room { length room.new ≡ length room.old }
-        ensures less { self.new.left ≤ self.old.left }
+        ensures stays { Walked self.old self.new room.old room.new }
         ensures came { Walks (nodes_fit args.now) (λ S k sc d n. On (Passing (OnReceiver (me_of (Some target.entry.object)) (text_of S name) None) [] (map erase args.now) at) k sc d n) self.old self.new room.old room.new depth result }
     {
         let before = self.base;
@@ -288,10 +267,7 @@ impl<'p, O: ThreadStore + Drop> Walker<'p, O> {
         room: &mut [Value],
     ) -> Came
         requires alone { HasNone self.old.context.script.now (me_of (Some thing)) name }
-        ensures base { self.new.base ≡ self.old.base }
-        ensures context { self.new.context ≡ self.old.context }
-        ensures room { length room.new ≡ length room.old }
-        ensures less { self.new.left ≤ self.old.left }
+        ensures stays { Walked self.old self.new room.old room.new }
         ensures came { Walks (numbered method name (both (node_fits index.now) (node_fits value.now))) (at_node_then index.now (λ S. Argument (Storing (me_of (Some thing)) (text_of S name)) [] (erase value.now ∷ []) at)) self.old self.new room.old room.new depth result }
     {
         let first = self.evaluate(index, depth, room);
@@ -320,10 +296,7 @@ impl<'p, O: ThreadStore + Drop> Walker<'p, O> {
         depth: u32,
         room: &mut [Value],
     ) -> Came
-        ensures base { self.new.base ≡ self.old.base }
-        ensures context { self.new.context ≡ self.old.context }
-        ensures room { length room.new ≡ length room.old }
-        ensures less { self.new.left ≤ self.old.left }
+        ensures stays { Walked self.old self.new room.old room.new }
         ensures came { Walks (numbered method name (both (node_fits receiver.now) (nodes_fit args.now))) (at_node_then receiver.now (λ S. ReceiverToStore (text_of S name) (map erase args.now) at)) self.old self.new room.old room.new depth result }
     {
         let came = self.walk(receiver, depth, room);
@@ -374,10 +347,7 @@ impl<'p, O: ThreadStore + Drop> Walker<'p, O> {
         room: &mut [Value],
     ) -> Came
         requires target { IsTarget self.old.context.script.now (me_of (Some target.object)) name target.object target.method.now }
-        ensures base { self.new.base ≡ self.old.base }
-        ensures context { self.new.context ≡ self.old.context }
-        ensures room { length room.new ≡ length room.old }
-        ensures less { self.new.left ≤ self.old.left }
+        ensures stays { Walked self.old self.new room.old room.new }
         ensures came { Walks (node_fits value.now) (at_node_then value.now (λ S. Argument (Storing (me_of (Some target.entry.object)) (text_of S name)) [] [] at)) self.old self.new room.old room.new depth result }
     {
         let came = self.evaluate(value, depth, room);
@@ -410,10 +380,7 @@ impl<'p, O: ThreadStore + Drop> Walker<'p, O> {
         depth: u32,
         room: &mut [Value],
     ) -> Came
-        ensures base { self.new.base ≡ self.old.base }
-        ensures context { self.new.context ≡ self.old.context }
-        ensures room { length room.new ≡ length room.old }
-        ensures less { self.new.left ≤ self.old.left }
+        ensures stays { Walked self.old self.new room.old room.new }
         ensures kept { (i : ℕ) → i < self.old.base → slice_get room.new i ≡ slice_get room.old i }
         ensures came { StoresWith (me_of (Some target.entry.object)) target.entry.method.now count at self.old self.new room.old room.new depth result }
     {
@@ -440,10 +407,7 @@ impl<'p, O: ThreadStore + Drop> Walker<'p, O> {
         depth: u32,
         room: &mut [Value],
     ) -> Came
-        ensures base { self.new.base ≡ self.old.base }
-        ensures context { self.new.context ≡ self.old.context }
-        ensures room { length room.new ≡ length room.old }
-        ensures less { self.new.left ≤ self.old.left }
+        ensures stays { Walked self.old self.new room.old room.new }
         ensures came { Walks (numbered method name (both (node_fits receiver.now) (both (nodes_fit args.now) (λ S. block_fits S block.now)))) (at_node_then receiver.now (λ S. ReceiverOf (text_of S name) (map erase args.now) (Some (erase_block block.now)) at)) self.old self.new room.old room.new depth result }
     {
         let came = self.walk(receiver, depth, room);
@@ -485,10 +449,7 @@ impl<'p, O: ThreadStore + Drop> Walker<'p, O> {
         depth: u32,
         room: &mut [Value],
     ) -> Came
-        ensures base { self.new.base ≡ self.old.base }
-        ensures context { self.new.context ≡ self.old.context }
-        ensures room { length room.new ≡ length room.old }
-        ensures less { self.new.left ≤ self.old.left }
+        ensures stays { Walked self.old self.new room.old room.new }
         ensures came { Walks (λ S. block_fits S block.now) (λ S k sc d n. On (Turning (Counting first (last +ℤ pos 1) (Int answer)) (erase_block block.now)) k sc d n) self.old self.new room.old room.new depth result }
     {
         if first > last {
@@ -530,10 +491,7 @@ impl<'p, O: ThreadStore + Drop> Walker<'p, O> {
         room: &mut [Value],
     ) -> Came
         requires alone { HasNone self.old.context.script.now (me_of self.old.context.me) name }
-        ensures base { self.new.base ≡ self.old.base }
-        ensures context { self.new.context ≡ self.old.context }
-        ensures room { length room.new ≡ length room.old }
-        ensures less { self.new.left ≤ self.old.left }
+        ensures stays { Walked self.old self.new room.old room.new }
         ensures came { Walks (called number name (nodes_fit args.now)) (λ S k sc d n. On (Passing (ByName name) [] (map erase args.now) at) k sc d n) self.old self.new room.old room.new depth result }
     {
         let script = self.context.script.script();
@@ -560,10 +518,7 @@ impl<'p, O: ThreadStore + Drop> Walker<'p, O> {
         depth: u32,
         room: &mut [Value],
     ) -> Came
-        ensures base { self.new.base ≡ self.old.base }
-        ensures context { self.new.context ≡ self.old.context }
-        ensures room { length room.new ≡ length room.old }
-        ensures less { self.new.left ≤ self.old.left }
+        ensures stays { Walked self.old self.new room.old room.new }
         ensures came { Walks (printing form name (nodes_fit args.now)) (λ S k sc d n. On (Passing (ByName name) [] (map erase args.now) at) k sc d n) self.old self.new room.old room.new depth result }
     {
         match self.own_target(name) {
@@ -584,10 +539,7 @@ impl<'p, O: ThreadStore + Drop> Walker<'p, O> {
         room: &mut [Value],
     ) -> Came
         requires alone { HasNone self.old.context.script.now (me_of self.old.context.me) name }
-        ensures base { self.new.base ≡ self.old.base }
-        ensures context { self.new.context ≡ self.old.context }
-        ensures room { length room.new ≡ length room.old }
-        ensures less { self.new.left ≤ self.old.left }
+        ensures stays { Walked self.old self.new room.old room.new }
         ensures came { Walks (printing form name (nodes_fit args.now)) (λ S k sc d n. On (Passing (ByName name) [] (map erase args.now) at) k sc d n) self.old self.new room.old room.new depth result }
     {
         let before = self.base;
@@ -662,10 +614,7 @@ impl<'p, O: ThreadStore + Drop> Walker<'p, O> {
         depth: u32,
         room: &mut [Value],
     ) -> Came
-        ensures base { self.new.base ≡ self.old.base }
-        ensures context { self.new.context ≡ self.old.context }
-        ensures room { length room.new ≡ length room.old }
-        ensures less { self.new.left ≤ self.old.left }
+        ensures stays { Walked self.old self.new room.old room.new }
         ensures came { Walks (λ S. every (map (piece_fits S) pieces.now)) (λ S k sc d n. On (Joining [] (map erase_piece pieces.now) at) k sc d n) self.old self.new room.old room.new depth result }
     {
         match written(pieces) {
@@ -684,10 +633,7 @@ impl<'p, O: ThreadStore + Drop> Walker<'p, O> {
         depth: u32,
         room: &mut [Value],
     ) -> Came
-        ensures base { self.new.base ≡ self.old.base }
-        ensures context { self.new.context ≡ self.old.context }
-        ensures room { length room.new ≡ length room.old }
-        ensures less { self.new.left ≤ self.old.left }
+        ensures stays { Walked self.old self.new room.old room.new }
         ensures came { Walks (λ S. every (map (piece_fits S) pieces.now)) (λ S k sc d n. On (Joining [] (map erase_piece pieces.now) at) k sc d n) self.old self.new room.old room.new depth result }
     {
         let mut bytes = Vec::new(self.context.alloc);

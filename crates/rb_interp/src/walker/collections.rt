@@ -1,6 +1,6 @@
 // Arrays and hashes: new ones, what they answer without a block, and how they are written.
 
-ghost use Rattle.std.specs.Prelude.{◌≡◌, ◌≤◌, ◌∷◌, [], List, None, Some, pos, false, map, IfOk, IfErr, IfSome};
+ghost use Rattle.std.specs.Prelude.{◌≡◌, ◌∷◌, [], List, None, Some, pos, false, map, IfOk, IfErr, IfSome};
 ghost use Rattle.rb_tree.specs.declared.span.NameId.{NameId};
 ghost use Rattle.rb_model.specs.Values.{Int, To, plain, same, truth};
 ghost use Rattle.rb_model.specs.Things.{Elements};
@@ -30,13 +30,12 @@ use rb_walk::slots::last_of;
 const MAX_ELEMENTS: i64 = 16_777_216;
 
 impl<'p, O: ThreadStore + Drop> Walker<'p, O> {
+    ghost use Rattle.rb_interp.specs.Walks.{Stepped, Unstepped};
     ghost use Rattle.rb_interp.specs.Answers.{CallsBuiltin, ComesAtOnce, ComesTo, StoresBy};
 
     /// Makes a thing, and gives a reference to it.
     pub(super) fn make(&mut self, make: Make) -> Came
-        ensures base { self.new.base ≡ self.old.base }
-        ensures left { self.new.left ≡ self.old.left }
-        ensures context { self.new.context ≡ self.old.context }
+        ensures stays { Unstepped self.old self.new }
         ensures log { O.log self.new.store ≡ O.log self.old.store }
         ensures came { ComesAtOnce (making (made make)) self.old self.new result }
     {
@@ -48,9 +47,7 @@ impl<'p, O: ThreadStore + Drop> Walker<'p, O> {
 
     /// A new array of these values.
     pub(super) fn list(&mut self, values: &[Value]) -> Came
-        ensures base { self.new.base ≡ self.old.base }
-        ensures left { self.new.left ≡ self.old.left }
-        ensures context { self.new.context ≡ self.old.context }
+        ensures stays { Unstepped self.old self.new }
         ensures log { O.log self.new.store ≡ O.log self.old.store }
         ensures came { ComesAtOnce (making (Elements (map plain values.now))) self.old self.new result }
     {
@@ -62,9 +59,7 @@ impl<'p, O: ThreadStore + Drop> Walker<'p, O> {
 
     /// A new hash of keys and values by turns.
     pub(super) fn pairs(&mut self, values: &[Value], at: Span) -> Came
-        ensures base { self.new.base ≡ self.old.base }
-        ensures left { self.new.left ≡ self.old.left }
-        ensures context { self.new.context ≡ self.old.context }
+        ensures stays { Unstepped self.old self.new }
         ensures log { O.log self.new.store ≡ O.log self.old.store }
         ensures came { ComesAtOnce (pairing (map plain values.now) at) self.old self.new result }
     {
@@ -79,9 +74,7 @@ impl<'p, O: ThreadStore + Drop> Walker<'p, O> {
 
     /// A new array of so many times a value.
     pub(super) fn fill(&mut self, count: &Value, value: &Value, at: Span) -> Came
-        ensures base { self.new.base ≡ self.old.base }
-        ensures left { self.new.left ≡ self.old.left }
-        ensures context { self.new.context ≡ self.old.context }
+        ensures stays { Unstepped self.old self.new }
         ensures log { O.log self.new.store ≡ O.log self.old.store }
         ensures came { ComesAtOnce (filling (plain count.now) (plain value.now) at) self.old self.new result }
     {
@@ -102,9 +95,7 @@ impl<'p, O: ThreadStore + Drop> Walker<'p, O> {
 
     /// A new thing of a class that is built in.
     pub(super) fn build(&mut self, class: BuiltinClass, args: &[Value], at: Span) -> Came
-        ensures base { self.new.base ≡ self.old.base }
-        ensures left { self.new.left ≡ self.old.left }
-        ensures context { self.new.context ≡ self.old.context }
+        ensures stays { Unstepped self.old self.new }
         ensures log { O.log self.new.store ≡ O.log self.old.store }
         ensures came { ComesAtOnce (building class (map plain args.now) at) self.old self.new result }
     {
@@ -120,9 +111,7 @@ impl<'p, O: ThreadStore + Drop> Walker<'p, O> {
 
     /// Reads a collection by one copy. Where none comes the thread ends.
     pub(super) fn copied(&mut self, thing: Ref) -> Result<Reply, Came>
-        ensures base { self.new.base ≡ self.old.base }
-        ensures left { self.new.left ≡ self.old.left }
-        ensures context { self.new.context ≡ self.old.context }
+        ensures stays { Unstepped self.old self.new }
         ensures reads { IfOk result (λ reply. Reads self.old.context.steps thing (said reply) self.old.left (O.log self.old.store) (O.log self.new.store) (O.private self.old.store) (O.private self.new.store)) }
         ensures ends { IfErr result (λ came. ReadsNone self.old.context.steps thing self.old.left (O.log self.old.store) (O.log self.new.store) (O.private self.old.store) (O.private self.new.store) (outcome came self.new.value self.new.leave)) }
         ensures over { IfErr result (λ came. IsOver (outcome came self.new.value self.new.leave)) }
@@ -138,9 +127,7 @@ impl<'p, O: ThreadStore + Drop> Walker<'p, O> {
 
     /// An array of the keys or the values of a hash.
     fn read_hash(&mut self, thing: Ref, purpose: Purpose, at: Span) -> Came
-        ensures base { self.new.base ≡ self.old.base }
-        ensures left { self.new.left ≡ self.old.left }
-        ensures context { self.new.context ≡ self.old.context }
+        ensures stays { Unstepped self.old self.new }
         ensures came { ComesAtOnce (answering (table.Reads (thing_of thing) (use_of purpose)) at) self.old self.new result }
     {
         match self.copied(thing) {
@@ -156,9 +143,7 @@ impl<'p, O: ThreadStore + Drop> Walker<'p, O> {
 
     /// What is answered behind the reply of a thing.
     fn ask_behind(&mut self, thing: Ref, act: Act, behind: Behind, at: Span) -> Came
-        ensures base { self.new.base ≡ self.old.base }
-        ensures left { self.new.left ≡ self.old.left }
-        ensures context { self.new.context ≡ self.old.context }
+        ensures stays { Unstepped self.old self.new }
         ensures came { ComesAtOnce (answering (table.Asks (thing_of thing) (doing act) (step_of behind thing)) at) self.old self.new result }
     {
         let came = self.ask_apart(thing, act, at);
@@ -189,9 +174,7 @@ impl<'p, O: ThreadStore + Drop> Walker<'p, O> {
 
     /// What a method without a block answers.
     fn do_deed(&mut self, deed: Deed, at: Span, depth: u32) -> Came
-        ensures base { self.new.base ≡ self.old.base }
-        ensures less { self.new.left ≤ self.old.left }
-        ensures context { self.new.context ≡ self.old.context }
+        ensures stays { Stepped self.old self.new }
         ensures came { ComesTo (answering (answer_of deed) at) self.old self.new depth result }
     {
         match deed {
@@ -214,9 +197,7 @@ impl<'p, O: ThreadStore + Drop> Walker<'p, O> {
         at: Span,
         depth: u32,
     ) -> Came
-        ensures base { self.new.base ≡ self.old.base }
-        ensures less { self.new.left ≤ self.old.left }
-        ensures context { self.new.context ≡ self.old.context }
+        ensures stays { Stepped self.old self.new }
         ensures came { CallsBuiltin method (plain receiver.now) (map plain args.now) at self.old self.new depth result }
     {
         if let Some(answer) = ready_answer(method, receiver, args) {
@@ -238,9 +219,7 @@ impl<'p, O: ThreadStore + Drop> Walker<'p, O> {
         at: Span,
         depth: u32,
     ) -> Came
-        ensures base { self.new.base ≡ self.old.base }
-        ensures less { self.new.left ≤ self.old.left }
-        ensures context { self.new.context ≡ self.old.context }
+        ensures stays { Stepped self.old self.new }
         ensures came { CallsBuiltin method (plain receiver.now) (map plain args.now) at self.old self.new depth result }
     {
         match deed_of(
@@ -265,9 +244,7 @@ impl<'p, O: ThreadStore + Drop> Walker<'p, O> {
         at: Span,
         depth: u32,
     ) -> Came
-        ensures base { self.new.base ≡ self.old.base }
-        ensures less { self.new.left ≤ self.old.left }
-        ensures context { self.new.context ≡ self.old.context }
+        ensures stays { Stepped self.old self.new }
         ensures came { CallsBuiltin method (plain receiver.now) (plain arg ∷ []) at self.old self.new depth result }
     {
         match collection_of(receiver) {
@@ -304,9 +281,7 @@ impl<'p, O: ThreadStore + Drop> Walker<'p, O> {
         at: Span,
         depth: u32,
     ) -> Came
-        ensures base { self.new.base ≡ self.old.base }
-        ensures less { self.new.left ≤ self.old.left }
-        ensures context { self.new.context ≡ self.old.context }
+        ensures stays { Stepped self.old self.new }
         ensures came { CallsBuiltin method (To (thing_of thing)) (Int index ∷ []) at self.old self.new depth result }
     {
         if is_element(thing, method) {
@@ -326,9 +301,7 @@ impl<'p, O: ThreadStore + Drop> Walker<'p, O> {
         depth: u32,
     ) -> Came
         requires came { is_left came ≡ false }
-        ensures base { self.new.base ≡ self.old.base }
-        ensures less { self.new.left ≤ self.old.left }
-        ensures context { self.new.context ≡ self.old.context }
+        ensures stays { Stepped self.old self.new }
         ensures came { CallsBuiltin method (To (thing_of thing)) (value_of came self.old.value ∷ []) at self.old self.new depth result }
     {
         match came {
@@ -346,9 +319,7 @@ impl<'p, O: ThreadStore + Drop> Walker<'p, O> {
         at: Span,
         depth: u32,
     ) -> Came
-        ensures base { self.new.base ≡ self.old.base }
-        ensures less { self.new.left ≤ self.old.left }
-        ensures context { self.new.context ≡ self.old.context }
+        ensures stays { Stepped self.old self.new }
         ensures came { CallsBuiltin method (To (thing_of thing)) [] at self.old self.new depth result }
     {
         let Some(side) = side_for(thing, method) else {
@@ -372,9 +343,7 @@ impl<'p, O: ThreadStore + Drop> Walker<'p, O> {
         depth: u32,
     ) -> Came
         requires came { is_left came ≡ false }
-        ensures base { self.new.base ≡ self.old.base }
-        ensures less { self.new.left ≤ self.old.left }
-        ensures context { self.new.context ≡ self.old.context }
+        ensures stays { Stepped self.old self.new }
         ensures came { CallsBuiltin method (To (thing_of thing)) (value_of came self.old.value ∷ []) at self.old self.new depth result }
     {
         if is_push(thing, method) && self.store.push_immediate(thing.id, immediate_of(came)) {
@@ -393,9 +362,7 @@ impl<'p, O: ThreadStore + Drop> Walker<'p, O> {
         at: Span,
         depth: u32,
     ) -> Came
-        ensures base { self.new.base ≡ self.old.base }
-        ensures less { self.new.left ≤ self.old.left }
-        ensures context { self.new.context ≡ self.old.context }
+        ensures stays { Stepped self.old self.new }
         ensures came { CallsBuiltin method (To (thing_of thing)) (plain arg ∷ []) at self.old self.new depth result }
     {
         if let Some(index) = index_for(thing, method, &arg) {
@@ -412,9 +379,7 @@ impl<'p, O: ThreadStore + Drop> Walker<'p, O> {
     /// Gives an element of an array a value, and gives the value on.
     #[inline(always)]
     fn put(&mut self, array: Ref, index: i64, value: &Value, at: Span) -> Came
-        ensures base { self.new.base ≡ self.old.base }
-        ensures left { self.new.left ≡ self.old.left }
-        ensures context { self.new.context ≡ self.old.context }
+        ensures stays { Unstepped self.old self.new }
         ensures came { ComesAtOnce (putting (thing_of array) index (plain value.now) at) self.old self.new result }
     {
         let Ok(last) = value.share() else {
@@ -434,9 +399,7 @@ impl<'p, O: ThreadStore + Drop> Walker<'p, O> {
     #[inline(always)]
     fn put_came(&mut self, array: Ref, index: i64, came: Came, at: Span) -> Came
         requires came { is_left came ≡ false }
-        ensures base { self.new.base ≡ self.old.base }
-        ensures left { self.new.left ≡ self.old.left }
-        ensures context { self.new.context ≡ self.old.context }
+        ensures stays { Unstepped self.old self.new }
         ensures came { ComesAtOnce (putting (thing_of array) index (value_of came self.old.value) at) self.old self.new result }
     {
         if self
@@ -452,9 +415,7 @@ impl<'p, O: ThreadStore + Drop> Walker<'p, O> {
     /// Gives an element of an array a value that nobody else has, and gives the value on.
     #[inline(never)]
     fn put_own(&mut self, array: Ref, index: i64, value: Value, at: Span) -> Came
-        ensures base { self.new.base ≡ self.old.base }
-        ensures left { self.new.left ≡ self.old.left }
-        ensures context { self.new.context ≡ self.old.context }
+        ensures stays { Unstepped self.old self.new }
         ensures came { ComesAtOnce (putting (thing_of array) index (plain value) at) self.old self.new result }
     {
         let Ok(copy) = value.share() else {
@@ -471,9 +432,7 @@ impl<'p, O: ThreadStore + Drop> Walker<'p, O> {
     #[inline(never)]
     fn put_pair(&mut self, hash: Ref, key: Value, came: Came, at: Span) -> Came
         requires came { is_left came ≡ false }
-        ensures base { self.new.base ≡ self.old.base }
-        ensures left { self.new.left ≡ self.old.left }
-        ensures context { self.new.context ≡ self.old.context }
+        ensures stays { Unstepped self.old self.new }
         ensures came { ComesAtOnce (keeping (thing_of hash) (plain key) (value_of came self.old.value) at) self.old self.new result }
     {
         let value = self.take(came);
@@ -499,9 +458,7 @@ impl<'p, O: ThreadStore + Drop> Walker<'p, O> {
         depth: u32,
     ) -> Came
         requires came { is_left came ≡ false }
-        ensures base { self.new.base ≡ self.old.base }
-        ensures less { self.new.left ≤ self.old.left }
-        ensures context { self.new.context ≡ self.old.context }
+        ensures stays { Stepped self.old self.new }
         ensures came { StoresBy method (To (thing_of thing)) (plain index ∷ value_of came self.old.value ∷ []) at self.old self.new depth result }
     {
         if let Some(place) = place_for(thing, method, &index) {
@@ -525,9 +482,7 @@ impl<'p, O: ThreadStore + Drop> Walker<'p, O> {
         at: Span,
         depth: u32,
     ) -> Came
-        ensures base { self.new.base ≡ self.old.base }
-        ensures less { self.new.left ≤ self.old.left }
-        ensures context { self.new.context ≡ self.old.context }
+        ensures stays { Stepped self.old self.new }
         ensures came { StoresBy method (To (thing_of thing)) (plain index ∷ plain value ∷ []) at self.old self.new depth result }
     {
         let args = [index, value];
@@ -543,9 +498,7 @@ impl<'p, O: ThreadStore + Drop> Walker<'p, O> {
         at: Span,
         depth: u32,
     ) -> Came
-        ensures base { self.new.base ≡ self.old.base }
-        ensures less { self.new.left ≤ self.old.left }
-        ensures context { self.new.context ≡ self.old.context }
+        ensures stays { Stepped self.old self.new }
         ensures came { StoresBy method (plain receiver.now) (map plain args.now) at self.old self.new depth result }
     {
         if let Some((array, index, value)) = put_of(receiver, method, args) {
@@ -571,9 +524,7 @@ impl<'p, O: ThreadStore + Drop> Walker<'p, O> {
         depth: u32,
     ) -> Came
         requires came { is_left came ≡ false }
-        ensures base { self.new.base ≡ self.old.base }
-        ensures less { self.new.left ≤ self.old.left }
-        ensures context { self.new.context ≡ self.old.context }
+        ensures stays { Stepped self.old self.new }
         ensures came { ComesTo (writing_element (value_of came self.old.value) (plain receiver.now) (plain index) at) self.old self.new depth result }
     {
         if let Some(thing) = collection_of(receiver) {

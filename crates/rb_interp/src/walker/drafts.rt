@@ -60,15 +60,13 @@ pub(super) fn is_finished(want: &Want) -> bool
 }
 
 impl<'p, O: ThreadStore + Drop> Walker<'p, O> {
+    ghost use Rattle.rb_interp.specs.Walks.{Stepped, Unstepped, Untouched};
     ghost use Rattle.rb_interp.specs.Answers.{ComesAtOnce, ComesOut, ComesTo};
 
     /// Gives bytes as a text.
     pub(super) fn give_bytes(&mut self, bytes: Vec<u8>) -> Came
         ensures gives { OrMemory (Gave (Str bytes.items)) (outcome result self.new.value self.new.leave) }
-        ensures base { self.new.base ≡ self.old.base }
-        ensures left { self.new.left ≡ self.old.left }
-        ensures context { self.new.context ≡ self.old.context }
-        ensures store { self.new.store ≡ self.old.store }
+        ensures stays { Untouched self.old self.new }
     {
         match SharedText::from_vec(self.context.alloc, bytes) {
             Ok(text) => self.give(Value::Str(text)),
@@ -79,10 +77,7 @@ impl<'p, O: ThreadStore + Drop> Walker<'p, O> {
     /// The thread ends since there is no text.
     pub(super) fn end_text(&mut self, fault: RenderFault, at: Span) -> Came
         ensures gives { outcome result self.new.value self.new.leave ≡ text_end fault at }
-        ensures base { self.new.base ≡ self.old.base }
-        ensures left { self.new.left ≡ self.old.left }
-        ensures context { self.new.context ≡ self.old.context }
-        ensures store { self.new.store ≡ self.old.store }
+        ensures stays { Untouched self.old self.new }
     {
         match fault {
             RenderFault::TooLong => self.raise(Fault::TextTooLong, at),
@@ -92,9 +87,7 @@ impl<'p, O: ThreadStore + Drop> Walker<'p, O> {
 
     /// Opens a collection in a text that is made, by one copy of it.
     fn open(&mut self, draft: &mut Draft, thing: Ref, at: Span) -> Came
-        ensures base { self.new.base ≡ self.old.base }
-        ensures left { self.new.left ≡ self.old.left }
-        ensures context { self.new.context ≡ self.old.context }
+        ensures stays { Unstepped self.old self.new }
         ensures work { is_left result ≡ false → work_of draft.new ≤ 1 + length draft.old.begun }
         ensures opens { Opens self.old.context.steps (thing_of thing) draft.old draft.new at self.old.left (O.log self.old.store) (O.log self.new.store) (O.private self.old.store) (O.private self.new.store) result (outcome result self.new.value self.new.leave) }
     {
@@ -109,9 +102,7 @@ impl<'p, O: ThreadStore + Drop> Walker<'p, O> {
 
     /// Does what a text needs next.
     pub(super) fn advance(&mut self, draft: &mut Draft, want: &Want, at: Span, depth: u32) -> Came
-        ensures base { self.new.base ≡ self.old.base }
-        ensures less { self.new.left ≤ self.old.left }
-        ensures context { self.new.context ≡ self.old.context }
+        ensures stays { Stepped self.old self.new }
         ensures shortens { Shortens self.old.context.program.now want.now draft.old draft.new self.old.left self.new.left result }
         ensures came { Advances self.old.context.steps self.old.context.program.now want.now draft.old draft.new at depth self.old.left self.new.left (O.log self.old.store) (O.log self.new.store) (O.private self.old.store) (O.private self.new.store) result (outcome result self.new.value self.new.leave) }
     {
@@ -138,9 +129,7 @@ impl<'p, O: ThreadStore + Drop> Walker<'p, O> {
     /// The inspected form of a collection, as a text.
     pub(super) fn inspected(&mut self, thing: Ref, at: Span, depth: u32) -> Came
         ensures text { as_text self.old.context.program.now (outcome result self.new.value self.new.leave) ≡ outcome result self.new.value self.new.leave }
-        ensures base { self.new.base ≡ self.old.base }
-        ensures less { self.new.left ≤ self.old.left }
-        ensures context { self.new.context ≡ self.old.context }
+        ensures stays { Stepped self.old self.new }
         ensures came { ComesTo (drafting (draft_of Inspected (To (thing_of thing))) at) self.old self.new depth result }
     {
         let mut draft = Draft::new(self.context.alloc, TextForm::Inspected, Value::Ref(thing));
@@ -162,9 +151,7 @@ impl<'p, O: ThreadStore + Drop> Walker<'p, O> {
     /// The value that came, as its text is told where no method is asked for it.
     pub(super) fn told_plain(&mut self, came: Came, at: Span, depth: u32) -> Came
         requires came { is_left came ≡ false }
-        ensures base { self.new.base ≡ self.old.base }
-        ensures less { self.new.left ≤ self.old.left }
-        ensures context { self.new.context ≡ self.old.context }
+        ensures stays { Stepped self.old self.new }
         ensures came { ComesOut (showing (value_of came self.old.value) at) self.old self.new depth (as_text self.old.context.program.now (outcome result self.new.value self.new.leave)) }
     {
         let Came::Other = came else {
@@ -178,9 +165,7 @@ impl<'p, O: ThreadStore + Drop> Walker<'p, O> {
 
     /// The value of a call of `p`: nil, its one argument, or an array of them.
     fn value_of_p(&mut self, values: &[Value]) -> Came
-        ensures base { self.new.base ≡ self.old.base }
-        ensures left { self.new.left ≡ self.old.left }
-        ensures context { self.new.context ≡ self.old.context }
+        ensures stays { Unstepped self.old self.new }
         ensures log { O.log self.new.store ≡ O.log self.old.store }
         ensures came { (shown : Val) → ComesAtOnce (valuing shown (map plain values.now)) self.old self.new result }
     {
@@ -194,9 +179,7 @@ impl<'p, O: ThreadStore + Drop> Walker<'p, O> {
     /// Adds the inspected form of a collection as a line.
     fn add_collection(&mut self, bytes: &mut Vec<u8>, thing: Ref, at: Span, depth: u32) -> Came
         requires collection { is_collection (To (thing_of thing)) ≡ true }
-        ensures base { self.new.base ≡ self.old.base }
-        ensures less { self.new.left ≤ self.old.left }
-        ensures context { self.new.context ≡ self.old.context }
+        ensures stays { Stepped self.old self.new }
         ensures fits { is_left result ≡ false → length bytes.new.items ≤ max_bytes }
         ensures came { InspectsOne self.old.context.steps self.old.context.program.now (To (thing_of thing)) bytes.old.items bytes.new.items at depth self.old.left self.new.left (O.log self.old.store) (O.log self.new.store) (O.private self.old.store) (O.private self.new.store) result (outcome result self.new.value self.new.leave) }
     {
@@ -213,9 +196,7 @@ impl<'p, O: ThreadStore + Drop> Walker<'p, O> {
 
     /// Adds the inspected form of a value as a line.
     fn add_inspected(&mut self, bytes: &mut Vec<u8>, value: &Value, at: Span, depth: u32) -> Came
-        ensures base { self.new.base ≡ self.old.base }
-        ensures less { self.new.left ≤ self.old.left }
-        ensures context { self.new.context ≡ self.old.context }
+        ensures stays { Stepped self.old self.new }
         ensures fits { is_left result ≡ false → length bytes.new.items ≤ max_bytes }
         ensures came { InspectsOne self.old.context.steps self.old.context.program.now (plain value.now) bytes.old.items bytes.new.items at depth self.old.left self.new.left (O.log self.old.store) (O.log self.new.store) (O.private self.old.store) (O.private self.new.store) result (outcome result self.new.value self.new.leave) }
     {
@@ -230,9 +211,7 @@ impl<'p, O: ThreadStore + Drop> Walker<'p, O> {
 
     /// Prints the inspected forms of values.
     pub(super) fn inspect_values(&mut self, values: &[Value], at: Span, depth: u32) -> Came
-        ensures base { self.new.base ≡ self.old.base }
-        ensures less { self.new.left ≤ self.old.left }
-        ensures context { self.new.context ≡ self.old.context }
+        ensures stays { Stepped self.old self.new }
         ensures came { ComesTo (inspecting_behind (map plain values.now) [] (map plain values.now) at) self.old self.new depth result }
     {
         let mut bytes = Vec::new(self.context.alloc);

@@ -1,6 +1,6 @@
 // Literals of arrays and hashes, new ones by `new`, and assignments with an operator to elements.
 
-ghost use Rattle.std.specs.Prelude.{◌≡◌, ◌≤◌, false, [], ◌∷◌, length, map, Some, IfSome};
+ghost use Rattle.std.specs.Prelude.{◌≡◌, false, [], ◌∷◌, map, Some, IfSome};
 ghost use Rattle.rb_tree.specs.declared.span.Span.{Span as At};
 ghost use Rattle.rb_model.specs.Values.{plain};
 ghost use Rattle.rb_model.specs.Immediates.{value_told};
@@ -24,7 +24,7 @@ use rb_walk::slots::passed;
 use rb_walk::target::local_collection;
 
 impl<'p, O: ThreadStore + Drop> Walker<'p, O> {
-    ghost use Rattle.rb_interp.specs.Walks.{Walks, at_node_then, node_fits, nodes_fit};
+    ghost use Rattle.rb_interp.specs.Walks.{Walked, Walks, at_node_then, node_fits, nodes_fit};
 
     /// The list that an element of the array of a local is, at an index that is a leaf. Nothing is done for it, and no step is counted.
     #[inline(always)]
@@ -140,10 +140,7 @@ impl<'p, O: ThreadStore + Drop> Walker<'p, O> {
     /// The literal of an array.
     #[cycle(walk)]
     pub(super) fn array(&mut self, items: &'p [Code], depth: u32, room: &mut [Value]) -> Came
-        ensures base { self.new.base ≡ self.old.base }
-        ensures context { self.new.context ≡ self.old.context }
-        ensures room { length room.new ≡ length room.old }
-        ensures less { self.new.left ≤ self.old.left }
+        ensures stays { Walked self.old self.new room.old room.new }
         ensures came { (at : At) → Walks (nodes_fit items.now) (λ S k sc d n. On (Passing Listing [] (map erase items.now) at) k sc d n) self.old self.new room.old room.new depth result }
     {
         let before = self.base;
@@ -164,10 +161,7 @@ impl<'p, O: ThreadStore + Drop> Walker<'p, O> {
         depth: u32,
         room: &mut [Value],
     ) -> Came
-        ensures base { self.new.base ≡ self.old.base }
-        ensures context { self.new.context ≡ self.old.context }
-        ensures room { length room.new ≡ length room.old }
-        ensures less { self.new.left ≤ self.old.left }
+        ensures stays { Walked self.old self.new room.old room.new }
         ensures came { Walks (nodes_fit items.now) (λ S k sc d n. On (Passing Pairing [] (map erase items.now) at) k sc d n) self.old self.new room.old room.new depth result }
     {
         let before = self.base;
@@ -190,10 +184,7 @@ impl<'p, O: ThreadStore + Drop> Walker<'p, O> {
         depth: u32,
         room: &mut [Value],
     ) -> Came
-        ensures base { self.new.base ≡ self.old.base }
-        ensures context { self.new.context ≡ self.old.context }
-        ensures room { length room.new ≡ length room.old }
-        ensures less { self.new.left ≤ self.old.left }
+        ensures stays { Walked self.old self.new room.old room.new }
         ensures came { Walks (built_by class name (nodes_fit args.now)) (λ S k sc d n. On (Passing (Creating name) [] (map erase args.now) at) k sc d n) self.old self.new room.old room.new depth result }
     {
         let before = self.base;
@@ -217,10 +208,7 @@ impl<'p, O: ThreadStore + Drop> Walker<'p, O> {
         depth: u32,
         room: &mut [Value],
     ) -> Came
-        ensures base { self.new.base ≡ self.old.base }
-        ensures context { self.new.context ≡ self.old.context }
-        ensures room { length room.new ≡ length room.old }
-        ensures less { self.new.left ≤ self.old.left }
+        ensures stays { Walked self.old self.new room.old room.new }
         ensures came { Walks (both (node_fits receiver.now) (both (node_fits index.now) (node_fits value.now))) (at_node_then receiver.now (λ S. IndexedBy (erase index.now) op (erase value.now) at)) self.old self.new room.old room.new depth result }
     {
         let came = self.walk(receiver, depth, room);
@@ -257,10 +245,7 @@ impl<'p, O: ThreadStore + Drop> Walker<'p, O> {
         room: &mut [Value],
     ) -> Came
         requires came { is_left current ≡ false }
-        ensures base { self.new.base ≡ self.old.base }
-        ensures context { self.new.context ≡ self.old.context }
-        ensures room { length room.new ≡ length room.old }
-        ensures less { self.new.left ≤ self.old.left }
+        ensures stays { Walked self.old self.new room.old room.new }
         ensures came { Walks (node_fits value.now) (λ S k sc d n. On (Give (value_of current self.old.value)) (Then (ReadOf (OfElement (plain receiver.now) (plain index)) op (erase value.now) at) ∷ k) sc d n) self.old self.new room.old room.new depth result }
     {
         match op {
@@ -297,10 +282,7 @@ impl<'p, O: ThreadStore + Drop> Walker<'p, O> {
         depth: u32,
         room: &mut [Value],
     ) -> Came
-        ensures base { self.new.base ≡ self.old.base }
-        ensures context { self.new.context ≡ self.old.context }
-        ensures room { length room.new ≡ length room.old }
-        ensures less { self.new.left ≤ self.old.left }
+        ensures stays { Walked self.old self.new room.old room.new }
         ensures came { Walks (node_fits value.now) (at_node_then value.now (λ S. WriteTo (OfElement (plain receiver.now) (plain index)) at)) self.old self.new room.old room.new depth result }
     {
         let came = self.walk(value, depth, room);

@@ -1,6 +1,6 @@
 // Branches, loops and bodies, and how they are left.
 
-ghost use Rattle.std.specs.Prelude.{◌≡◌, ◌≤◌, ◌<◌, true, false, length, map, Some};
+ghost use Rattle.std.specs.Prelude.{◌≡◌, ◌<◌, true, false, map, Some};
 ghost use Rattle.std.specs.Option.{option_map};
 ghost use Rattle.rb_tree.specs.declared.span.NameId.{NameId};
 ghost use Rattle.rb_model.specs.Values.{Nil};
@@ -22,7 +22,7 @@ use rb_walk::slots::place;
 use std::mem;
 
 impl<'p, O: ThreadStore + Drop> Walker<'p, O> {
-    ghost use Rattle.rb_interp.specs.Walks.{Kept, Walks, WalksTested, WalksUnread, at_node, at_node_then, node_fits, nodes_fit};
+    ghost use Rattle.rb_interp.specs.Walks.{Kept, Untouched, Walked, Walks, WalksTested, WalksUnread, at_node, at_node_then, node_fits, nodes_fit};
 
     /// `first && second`
     #[cycle(walk)]
@@ -34,10 +34,7 @@ impl<'p, O: ThreadStore + Drop> Walker<'p, O> {
         depth: u32,
         room: &mut [Value],
     ) -> Came
-        ensures base { self.new.base ≡ self.old.base }
-        ensures context { self.new.context ≡ self.old.context }
-        ensures room { length room.new ≡ length room.old }
-        ensures less { self.new.left ≤ self.old.left }
+        ensures stays { Walked self.old self.new room.old room.new }
         ensures came { Walks (both (node_fits first.now) (node_fits second.now)) (at_node_then first.now (λ S. RightOfAnd (erase second.now))) self.old self.new room.old room.new depth result }
     {
         let came = self.evaluate_call(first, depth, room);
@@ -60,10 +57,7 @@ impl<'p, O: ThreadStore + Drop> Walker<'p, O> {
         depth: u32,
         room: &mut [Value],
     ) -> Came
-        ensures base { self.new.base ≡ self.old.base }
-        ensures context { self.new.context ≡ self.old.context }
-        ensures room { length room.new ≡ length room.old }
-        ensures less { self.new.left ≤ self.old.left }
+        ensures stays { Walked self.old self.new room.old room.new }
         ensures came { Walks (both (node_fits first.now) (node_fits second.now)) (at_node_then first.now (λ S. RightOfOr (erase second.now))) self.old self.new room.old room.new depth result }
     {
         let came = self.evaluate_call(first, depth, room);
@@ -80,10 +74,7 @@ impl<'p, O: ThreadStore + Drop> Walker<'p, O> {
     #[cycle(walk)]
     #[inline(always)]
     pub(super) fn negate(&mut self, value: &'p Code, depth: u32, room: &mut [Value]) -> Came
-        ensures base { self.new.base ≡ self.old.base }
-        ensures context { self.new.context ≡ self.old.context }
-        ensures room { length room.new ≡ length room.old }
-        ensures less { self.new.left ≤ self.old.left }
+        ensures stays { Walked self.old self.new room.old room.new }
         ensures came { Walks (node_fits value.now) (at_node_then value.now (λ S. Negate)) self.old self.new room.old room.new depth result }
     {
         let came = self.evaluate_call(value, depth, room);
@@ -102,10 +93,7 @@ impl<'p, O: ThreadStore + Drop> Walker<'p, O> {
     #[inline(always)]
     fn test(&mut self, code: &'p Code, depth: u32, room: &mut [Value]) -> Came
         ensures counted { goes_on (outcome result self.new.value self.new.leave) ≡ true → self.new.left < self.old.left }
-        ensures base { self.new.base ≡ self.old.base }
-        ensures context { self.new.context ≡ self.old.context }
-        ensures room { length room.new ≡ length room.old }
-        ensures less { self.new.left ≤ self.old.left }
+        ensures stays { Walked self.old self.new room.old room.new }
         ensures kept { Kept (node_fits code.now) self.old room.old room.new }
         ensures came { WalksTested (node_fits code.now) (at_node code.now) self.old self.new room.old room.new depth result }
     {
@@ -127,10 +115,7 @@ impl<'p, O: ThreadStore + Drop> Walker<'p, O> {
         depth: u32,
         room: &mut [Value],
     ) -> Came
-        ensures base { self.new.base ≡ self.old.base }
-        ensures context { self.new.context ≡ self.old.context }
-        ensures room { length room.new ≡ length room.old }
-        ensures less { self.new.left ≤ self.old.left }
+        ensures stays { Walked self.old self.new room.old room.new }
         ensures came { Walks (both (node_fits condition.now) (both (nodes_fit first.now) (nodes_fit second.now))) (at_node_then condition.now (λ S. Choose (map erase first.now) (map erase second.now))) self.old self.new room.old room.new depth result }
     {
         let came = self.test(condition, depth, room);
@@ -149,10 +134,7 @@ impl<'p, O: ThreadStore + Drop> Walker<'p, O> {
     #[cycle(walk)]
     #[inline(always)]
     pub(super) fn body(&mut self, nodes: &'p [Code], depth: u32, room: &mut [Value]) -> Came
-        ensures base { self.new.base ≡ self.old.base }
-        ensures context { self.new.context ≡ self.old.context }
-        ensures room { length room.new ≡ length room.old }
-        ensures less { self.new.left ≤ self.old.left }
+        ensures stays { Walked self.old self.new room.old room.new }
         ensures came { Walks (nodes_fit nodes.now) (λ S k sc d n. On (Following Nil (map erase nodes.now)) k sc d n) self.old self.new room.old room.new depth result }
     {
         let Some((last, before)) = nodes.split_last() else {
@@ -171,10 +153,7 @@ impl<'p, O: ThreadStore + Drop> Walker<'p, O> {
     #[cycle(walk)]
     #[inline(always)]
     pub(super) fn passage(&mut self, nodes: &'p [Code], depth: u32, room: &mut [Value]) -> Came
-        ensures base { self.new.base ≡ self.old.base }
-        ensures context { self.new.context ≡ self.old.context }
-        ensures room { length room.new ≡ length room.old }
-        ensures less { self.new.left ≤ self.old.left }
+        ensures stays { Walked self.old self.new room.old room.new }
         ensures kept { Kept (nodes_fit nodes.now) self.old room.old room.new }
         ensures came { WalksUnread (nodes_fit nodes.now) (λ S k sc d n. On (Following Nil (map erase nodes.now)) k sc d n) self.old self.new room.old room.new depth result }
     {
@@ -191,10 +170,7 @@ impl<'p, O: ThreadStore + Drop> Walker<'p, O> {
     #[cycle(walk)]
     #[inline(always)]
     fn statement(&mut self, code: &'p Code, depth: u32, room: &mut [Value]) -> Came
-        ensures base { self.new.base ≡ self.old.base }
-        ensures context { self.new.context ≡ self.old.context }
-        ensures room { length room.new ≡ length room.old }
-        ensures less { self.new.left ≤ self.old.left }
+        ensures stays { Walked self.old self.new room.old room.new }
         ensures kept { Kept (node_fits code.now) self.old room.old room.new }
         ensures came { WalksUnread (node_fits code.now) (at_node code.now) self.old self.new room.old room.new depth result }
     {
@@ -211,10 +187,7 @@ impl<'p, O: ThreadStore + Drop> Walker<'p, O> {
     #[cycle(walk)]
     #[inline(never)]
     fn keep_local(&mut self, slot: u32, value: &'p Code, depth: u32, room: &mut [Value]) -> Came
-        ensures base { self.new.base ≡ self.old.base }
-        ensures context { self.new.context ≡ self.old.context }
-        ensures room { length room.new ≡ length room.old }
-        ensures less { self.new.left ≤ self.old.left }
+        ensures stays { Walked self.old self.new room.old room.new }
         ensures kept { (name : NameId) → Kept (at_slot slot name (node_fits value.now)) self.old room.old room.new }
         ensures came { (name : NameId) → WalksUnread (at_slot slot name (node_fits value.now)) (at_node_then value.now (λ S. AssignTo name)) self.old self.new room.old room.new depth result }
     {
@@ -238,10 +211,7 @@ impl<'p, O: ThreadStore + Drop> Walker<'p, O> {
     #[cycle(walk)]
     #[inline(never)]
     fn keep_copy(&mut self, slot: u32, value: &'p Code, depth: u32, room: &mut [Value]) -> Came
-        ensures base { self.new.base ≡ self.old.base }
-        ensures context { self.new.context ≡ self.old.context }
-        ensures room { length room.new ≡ length room.old }
-        ensures less { self.new.left ≤ self.old.left }
+        ensures stays { Walked self.old self.new room.old room.new }
         ensures kept { (name : NameId) → Kept (at_slot slot name (node_fits value.now)) self.old room.old room.new }
         ensures came { (name : NameId) → WalksUnread (at_slot slot name (node_fits value.now)) (at_node_then value.now (λ S. AssignTo name)) self.old self.new room.old room.new depth result }
     {
@@ -259,10 +229,7 @@ impl<'p, O: ThreadStore + Drop> Walker<'p, O> {
     #[cycle(walk)]
     #[inline(never)]
     fn keep_any(&mut self, slot: u32, value: &'p Code, depth: u32, room: &mut [Value]) -> Came
-        ensures base { self.new.base ≡ self.old.base }
-        ensures context { self.new.context ≡ self.old.context }
-        ensures room { length room.new ≡ length room.old }
-        ensures less { self.new.left ≤ self.old.left }
+        ensures stays { Walked self.old self.new room.old room.new }
         ensures kept { (name : NameId) → Kept (at_slot slot name (node_fits value.now)) self.old room.old room.new }
         ensures came { (name : NameId) → WalksUnread (at_slot slot name (node_fits value.now)) (at_node_then value.now (λ S. AssignTo name)) self.old self.new room.old room.new depth result }
     {
@@ -287,10 +254,7 @@ impl<'p, O: ThreadStore + Drop> Walker<'p, O> {
         depth: u32,
         room: &mut [Value],
     ) -> Came
-        ensures base { self.new.base ≡ self.old.base }
-        ensures context { self.new.context ≡ self.old.context }
-        ensures room { length room.new ≡ length room.old }
-        ensures less { self.new.left ≤ self.old.left }
+        ensures stays { Walked self.old self.new room.old room.new }
         ensures came { Walks (both (node_fits condition.now) (nodes_fit body.now)) (λ S k sc d n. On (Looping (erase condition.now) (map erase body.now)) k sc d n) self.old self.new room.old room.new depth result }
     {
         'turns: loop {
@@ -319,10 +283,7 @@ impl<'p, O: ThreadStore + Drop> Walker<'p, O> {
         depth: u32,
         room: &mut [Value],
     ) -> Came
-        ensures base { self.new.base ≡ self.old.base }
-        ensures context { self.new.context ≡ self.old.context }
-        ensures room { length room.new ≡ length room.old }
-        ensures less { self.new.left ≤ self.old.left }
+        ensures stays { Walked self.old self.new room.old room.new }
         ensures came { Walks (λ S. if_some (option_map (fits S) value.now)) (λ S k sc d n. begin_return S (option_map erase value.now) k sc d n) self.old self.new room.old room.new depth result }
     {
         let Some(value) = value else {
@@ -336,10 +297,7 @@ impl<'p, O: ThreadStore + Drop> Walker<'p, O> {
     /// A return with a value.
     #[cycle(walk)]
     pub(super) fn leave_with(&mut self, value: &'p Code, depth: u32, room: &mut [Value]) -> Came
-        ensures base { self.new.base ≡ self.old.base }
-        ensures context { self.new.context ≡ self.old.context }
-        ensures room { length room.new ≡ length room.old }
-        ensures less { self.new.left ≤ self.old.left }
+        ensures stays { Walked self.old self.new room.old room.new }
         ensures came { Walks (node_fits value.now) (at_node_then value.now (λ S. ReturnOf)) self.old self.new room.old room.new depth result }
     {
         let came = self.walk(value, depth, room);
@@ -378,10 +336,7 @@ impl<'p, O: ThreadStore + Drop> Walker<'p, O> {
     #[inline(always)]
     pub(super) fn out_of_call(&mut self, came: Came) -> Came
         ensures gives { outcome result self.new.value self.new.leave ≡ call_exit (outcome came self.old.value self.old.leave) }
-        ensures base { self.new.base ≡ self.old.base }
-        ensures left { self.new.left ≡ self.old.left }
-        ensures context { self.new.context ≡ self.old.context }
-        ensures store { self.new.store ≡ self.old.store }
+        ensures stays { Untouched self.old self.new }
     {
         if !is_left(came) {
             return came;
@@ -393,10 +348,7 @@ impl<'p, O: ThreadStore + Drop> Walker<'p, O> {
     #[inline(never)]
     fn out_of_exit(&mut self, came: Came) -> Came
         ensures gives { is_left came ≡ true → outcome result self.new.value self.new.leave ≡ call_exit (outcome came self.old.value self.old.leave) }
-        ensures base { self.new.base ≡ self.old.base }
-        ensures left { self.new.left ≡ self.old.left }
-        ensures context { self.new.context ≡ self.old.context }
-        ensures store { self.new.store ≡ self.old.store }
+        ensures stays { Untouched self.old self.new }
     {
         match self.leave {
             Leave::Break | Leave::Next => Came::Nil,

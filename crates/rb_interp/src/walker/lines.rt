@@ -44,14 +44,12 @@ fn depth_inside(depth: u32, begun: usize) -> Option<u32>
 }
 
 impl<'p, O: ThreadStore + Drop> Walker<'p, O> {
+    ghost use Rattle.rb_interp.specs.Walks.{Untouched, Walked};
     ghost use Rattle.rb_interp.specs.Texts.{AdvancesLine, AsksLine, GivesLines};
 
     /// Adds the text of the value that came to a text, as a line.
     fn add_line(&mut self, draft: &mut Draft, came: Came, at: Span) -> Came
-        ensures base { self.new.base ≡ self.old.base }
-        ensures left { self.new.left ≡ self.old.left }
-        ensures context { self.new.context ≡ self.old.context }
-        ensures store { self.new.store ≡ self.old.store }
+        ensures stays { Untouched self.old self.new }
         ensures work { is_left result ≡ false → work_of draft.new ≤ length draft.old.begun }
         ensures came { JoinsLine self.old.context.steps (shown self.old.context.program.now (value_of came self.old.value)) draft.old draft.new at self.old.left (O.log self.old.store) (O.private self.old.store) result (outcome result self.new.value self.new.leave) }
     {
@@ -73,10 +71,7 @@ impl<'p, O: ThreadStore + Drop> Walker<'p, O> {
         depth: u32,
         room: &mut [Value],
     ) -> Came
-        ensures base { self.new.base ≡ self.old.base }
-        ensures context { self.new.context ≡ self.old.context }
-        ensures room { length room.new ≡ length room.old }
-        ensures less { self.new.left ≤ self.old.left }
+        ensures stays { Walked self.old self.new room.old room.new }
         ensures kept { (i : ℕ) → i < self.old.base → slice_get room.new i ≡ slice_get room.old i }
         ensures work { is_left result ≡ false → work_of draft.new ≤ length draft.old.begun }
         ensures came { AsksLine (plain value.now) draft.old draft.new at self.old self.new room.old room.new depth result }
@@ -106,10 +101,7 @@ impl<'p, O: ThreadStore + Drop> Walker<'p, O> {
         depth: u32,
         room: &mut [Value],
     ) -> Came
-        ensures base { self.new.base ≡ self.old.base }
-        ensures context { self.new.context ≡ self.old.context }
-        ensures room { length room.new ≡ length room.old }
-        ensures less { self.new.left ≤ self.old.left }
+        ensures stays { Walked self.old self.new room.old room.new }
         ensures kept { (i : ℕ) → i < self.old.base → slice_get room.new i ≡ slice_get room.old i }
         ensures shortens { Shortens self.old.context.program.now want.now draft.old draft.new self.old.left self.new.left result }
         ensures came { AdvancesLine want.now draft.old draft.new at self.old self.new room.old room.new depth result }
@@ -124,10 +116,7 @@ impl<'p, O: ThreadStore + Drop> Walker<'p, O> {
     #[cycle(walk)]
     #[inline(never)]
     pub(super) fn lines(&mut self, array: Ref, at: Span, depth: u32, room: &mut [Value]) -> Came
-        ensures base { self.new.base ≡ self.old.base }
-        ensures context { self.new.context ≡ self.old.context }
-        ensures room { length room.new ≡ length room.old }
-        ensures less { self.new.left ≤ self.old.left }
+        ensures stays { Walked self.old self.new room.old room.new }
         ensures kept { (i : ℕ) → i < self.old.base → slice_get room.new i ≡ slice_get room.old i }
         ensures text { as_text self.old.context.program.now (outcome result self.new.value self.new.leave) ≡ outcome result self.new.value self.new.leave }
         ensures came { GivesLines array at self.old self.new room.old room.new depth result }

@@ -26,7 +26,7 @@ use rb_walk::target::{
 impl<'p, O: ThreadStore + Drop> Walker<'p, O> {
     ghost use Rattle.rb_interp.specs.Answers.{AsksTo};
     ghost use Rattle.rb_interp.specs.Calls.{AssignsAtOnce, Enters, EntersApart, EntersAtOnce, EntersUnread, EntersWith, Invokes, RunsIn};
-    ghost use Rattle.rb_interp.specs.Walks.{Walks, nodes_fit};
+    ghost use Rattle.rb_interp.specs.Walks.{Stepped, Unstepped, Walked, Walks, nodes_fit};
 
     /// The method of the class of `self` that a name finds.
     #[inline(always)]
@@ -64,10 +64,8 @@ impl<'p, O: ThreadStore + Drop> Walker<'p, O> {
         depth: u32,
         frame: &mut [Value],
     ) -> Came
-        ensures base { self.new.base ≡ self.old.base }
-        ensures context { self.new.context ≡ self.old.context }
+        ensures stays { Stepped self.old self.new }
         ensures room { length frame.new ≡ length frame.old }
-        ensures less { self.new.left ≤ self.old.left }
         ensures came { RunsIn (me_of me) method.now frame.old self.old self.new depth result }
     {
         let before = self.base;
@@ -91,9 +89,7 @@ impl<'p, O: ThreadStore + Drop> Walker<'p, O> {
         args: &[Value],
         depth: u32,
     ) -> Came
-        ensures base { self.new.base ≡ self.old.base }
-        ensures context { self.new.context ≡ self.old.context }
-        ensures less { self.new.left ≤ self.old.left }
+        ensures stays { Stepped self.old self.new }
         ensures came { EntersApart (me_of me) method.now (map plain args.now) self.old self.new depth result }
     {
         let slots = method.size as usize + method.waits as usize + SPARE_SLOTS;
@@ -115,10 +111,7 @@ impl<'p, O: ThreadStore + Drop> Walker<'p, O> {
         depth: u32,
         room: &mut [Value],
     ) -> Came
-        ensures base { self.new.base ≡ self.old.base }
-        ensures context { self.new.context ≡ self.old.context }
-        ensures room { length room.new ≡ length room.old }
-        ensures less { self.new.left ≤ self.old.left }
+        ensures stays { Walked self.old self.new room.old room.new }
         ensures kept { (i : ℕ) → i < self.old.base → slice_get room.new i ≡ slice_get room.old i }
         ensures came { Enters (me_of me) method.now count at self.old self.new room.old room.new depth result }
     {
@@ -146,10 +139,7 @@ impl<'p, O: ThreadStore + Drop> Walker<'p, O> {
         depth: u32,
         room: &mut [Value],
     ) -> Came
-        ensures base { self.new.base ≡ self.old.base }
-        ensures context { self.new.context ≡ self.old.context }
-        ensures room { length room.new ≡ length room.old }
-        ensures less { self.new.left ≤ self.old.left }
+        ensures stays { Walked self.old self.new room.old room.new }
         ensures kept { (i : ℕ) → i < self.old.base → slice_get room.new i ≡ slice_get room.old i }
         ensures came { EntersWith (me_of (Some target.entry.object)) target.entry.method.now (plain arg) at self.old self.new room.old room.new depth result }
     {
@@ -170,9 +160,7 @@ impl<'p, O: ThreadStore + Drop> Walker<'p, O> {
     ) -> Option<Came>
         ensures none { result ≡ None → self.new ≡ self.old }
         ensures count { IfSome result (λ _. count ≡ 0) }
-        ensures base { self.new.base ≡ self.old.base }
-        ensures context { self.new.context ≡ self.old.context }
-        ensures less { self.new.left ≤ self.old.left }
+        ensures stays { Stepped self.old self.new }
         ensures came { IfSome result (λ came. EntersAtOnce (me_of (Some target.entry.object)) target.entry.method.now [] self.old self.new depth (outcome came self.new.value self.new.leave)) }
     {
         if count != 0 || self.left == 0 || depth >= MAX_DEPTH {
@@ -189,9 +177,7 @@ impl<'p, O: ThreadStore + Drop> Walker<'p, O> {
     #[inline(always)]
     fn entered_writer(&mut self, target: Target<'p>, args: &[Value], depth: u32) -> Option<Came>
         ensures none { result ≡ None → self.new ≡ self.old }
-        ensures base { self.new.base ≡ self.old.base }
-        ensures context { self.new.context ≡ self.old.context }
-        ensures less { self.new.left ≤ self.old.left }
+        ensures stays { Stepped self.old self.new }
         ensures came { IfSome result (λ came. EntersAtOnce (me_of (Some target.entry.object)) target.entry.method.now (map plain args.now) self.old self.new depth (outcome came self.new.value self.new.leave)) }
     {
         let n = only_integer(args)?;
@@ -209,9 +195,7 @@ impl<'p, O: ThreadStore + Drop> Walker<'p, O> {
         depth: u32,
     ) -> Option<Came>
         ensures none { result ≡ None → self.new ≡ self.old }
-        ensures base { self.new.base ≡ self.old.base }
-        ensures context { self.new.context ≡ self.old.context }
-        ensures less { self.new.left ≤ self.old.left }
+        ensures stays { Stepped self.old self.new }
         ensures integer { IfSome result (λ _. (v w : Held) → value_of came v ≡ value_of came w) }
         ensures came { IfSome result (λ done. (v : Held) → EntersAtOnce (me_of (Some target.entry.object)) target.entry.method.now (value_of came v ∷ []) self.old self.new depth (outcome done self.new.value self.new.leave)) }
     {
@@ -238,9 +222,7 @@ impl<'p, O: ThreadStore + Drop> Walker<'p, O> {
     ) -> Option<Came>
         requires came { is_left came ≡ false }
         ensures none { result ≡ None → self.new ≡ self.old }
-        ensures base { self.new.base ≡ self.old.base }
-        ensures context { self.new.context ≡ self.old.context }
-        ensures less { self.new.left ≤ self.old.left }
+        ensures stays { Stepped self.old self.new }
         ensures settled { IfSome result (λ done. Settles (value_of came self.old.value) (outcome done self.new.value self.new.leave)) }
         ensures came { IfSome result (λ done. EntersAtOnce (me_of (Some target.entry.object)) target.entry.method.now (value_of came self.old.value ∷ []) self.old self.new depth (outcome done self.new.value self.new.leave)) }
     {
@@ -264,9 +246,7 @@ impl<'p, O: ThreadStore + Drop> Walker<'p, O> {
         ensures still { result ≡ None → self.new.left ≡ self.old.left }
         ensures kept { result ≡ None → O.private self.new.store ≡ O.private self.old.store }
         ensures value { self.new.value ≡ self.old.value }
-        ensures base { self.new.base ≡ self.old.base }
-        ensures context { self.new.context ≡ self.old.context }
-        ensures less { self.new.left ≤ self.old.left }
+        ensures stays { Stepped self.old self.new }
         ensures log { O.log self.new.store ≡ O.log self.old.store }
         ensures came { IfSome result (λ sum. (v : Held) → EntersAtOnce (me_of (Some target.entry.object)) target.entry.method.now (value_of came v ∷ []) self.old self.new depth (Gave (Int sum))) }
     {
@@ -294,10 +274,7 @@ impl<'p, O: ThreadStore + Drop> Walker<'p, O> {
         depth: u32,
         room: &mut [Value],
     ) -> Came
-        ensures base { self.new.base ≡ self.old.base }
-        ensures context { self.new.context ≡ self.old.context }
-        ensures room { length room.new ≡ length room.old }
-        ensures less { self.new.left ≤ self.old.left }
+        ensures stays { Walked self.old self.new room.old room.new }
         ensures kept { (i : ℕ) → i < self.old.base → slice_get room.new i ≡ slice_get room.old i }
         ensures came { Enters (me_of (Some target.entry.object)) target.entry.method.now count at self.old self.new room.old room.new depth result }
     {
@@ -318,10 +295,7 @@ impl<'p, O: ThreadStore + Drop> Walker<'p, O> {
         depth: u32,
         room: &mut [Value],
     ) -> Came
-        ensures base { self.new.base ≡ self.old.base }
-        ensures context { self.new.context ≡ self.old.context }
-        ensures room { length room.new ≡ length room.old }
-        ensures less { self.new.left ≤ self.old.left }
+        ensures stays { Walked self.old self.new room.old room.new }
         ensures kept { (i : ℕ) → i < self.old.base → slice_get room.new i ≡ slice_get room.old i }
         ensures came { EntersWith (me_of (Some target.entry.object)) target.entry.method.now (plain arg) at self.old self.new room.old room.new depth result }
     {
@@ -335,9 +309,7 @@ impl<'p, O: ThreadStore + Drop> Walker<'p, O> {
     /// Gives a value to an instance variable of an object.
     #[inline(always)]
     fn assign(&mut self, object: Ref, assignment: Assignment, value: &Value) -> Came
-        ensures base { self.new.base ≡ self.old.base }
-        ensures left { self.new.left ≡ self.old.left }
-        ensures context { self.new.context ≡ self.old.context }
+        ensures stays { Unstepped self.old self.new }
         ensures came { AsksTo (me_of (Some object)) (SetField assignment.field (plain value.now)) assignment.at self.old self.new result }
     {
         let Value::Int(n) = value else {
@@ -353,9 +325,7 @@ impl<'p, O: ThreadStore + Drop> Walker<'p, O> {
     /// The same of any value.
     #[inline(never)]
     fn assign_any(&mut self, object: Ref, assignment: Assignment, value: &Value) -> Came
-        ensures base { self.new.base ≡ self.old.base }
-        ensures left { self.new.left ≡ self.old.left }
-        ensures context { self.new.context ≡ self.old.context }
+        ensures stays { Unstepped self.old self.new }
         ensures came { AsksTo (me_of (Some object)) (SetField assignment.field (plain value.now)) assignment.at self.old self.new result }
     {
         let Ok(copy) = value.share() else {
@@ -375,9 +345,7 @@ impl<'p, O: ThreadStore + Drop> Walker<'p, O> {
         requires assigns { OnlyAssigns (length args.now) method.now }
         requires steps { 2 * length method.now.body ≤ self.old.left }
         requires depth { depth < 999 }
-        ensures base { self.new.base ≡ self.old.base }
-        ensures context { self.new.context ≡ self.old.context }
-        ensures less { self.new.left ≤ self.old.left }
+        ensures stays { Stepped self.old self.new }
         ensures came { AssignsAtOnce (me_of (Some object)) method.now (map plain args.now) self.old self.new depth result }
     {
         let statements = method.body.as_slice();
@@ -405,9 +373,7 @@ impl<'p, O: ThreadStore + Drop> Walker<'p, O> {
         depth: u32,
     ) -> Option<Came>
         ensures none { result ≡ None → self.new ≡ self.old }
-        ensures base { self.new.base ≡ self.old.base }
-        ensures context { self.new.context ≡ self.old.context }
-        ensures less { self.new.left ≤ self.old.left }
+        ensures stays { Stepped self.old self.new }
         ensures came { IfSome result (λ came. AssignsAtOnce (me_of (Some object)) method.now (map plain args.now) self.old self.new depth came) }
     {
         if self.left / 2 < method.body.len() as u64 || depth >= MAX_DEPTH - 1 {
@@ -432,10 +398,7 @@ impl<'p, O: ThreadStore + Drop> Walker<'p, O> {
         depth: u32,
         room: &mut [Value],
     ) -> Came
-        ensures base { self.new.base ≡ self.old.base }
-        ensures context { self.new.context ≡ self.old.context }
-        ensures room { length room.new ≡ length room.old }
-        ensures less { self.new.left ≤ self.old.left }
+        ensures stays { Walked self.old self.new room.old room.new }
         ensures kept { (i : ℕ) → i < self.old.base → slice_get room.new i ≡ slice_get room.old i }
         ensures came { EntersUnread (me_of (Some object)) method.now count at self.old self.new room.old room.new depth result }
     {
@@ -458,10 +421,7 @@ impl<'p, O: ThreadStore + Drop> Walker<'p, O> {
         depth: u32,
         room: &mut [Value],
     ) -> Came
-        ensures base { self.new.base ≡ self.old.base }
-        ensures context { self.new.context ≡ self.old.context }
-        ensures room { length room.new ≡ length room.old }
-        ensures less { self.new.left ≤ self.old.left }
+        ensures stays { Walked self.old self.new room.old room.new }
         ensures kept { (i : ℕ) → i < self.old.base → slice_get room.new i ≡ slice_get room.old i }
         ensures came { Invokes (plain receiver.now) method name count at self.old self.new room.old room.new depth result }
     {
@@ -487,10 +447,7 @@ impl<'p, O: ThreadStore + Drop> Walker<'p, O> {
         room: &mut [Value],
     ) -> Came
         requires target { IsTarget self.old.context.script.now (me_of self.old.context.me) name target.object target.method.now }
-        ensures base { self.new.base ≡ self.old.base }
-        ensures context { self.new.context ≡ self.old.context }
-        ensures room { length room.new ≡ length room.old }
-        ensures less { self.new.left ≤ self.old.left }
+        ensures stays { Walked self.old self.new room.old room.new }
         ensures came { Walks (nodes_fit args.now) (λ S k sc d n. On (Passing (ByName name) [] (map erase args.now) at) k sc d n) self.old self.new room.old room.new depth result }
     {
         let before = self.base;
@@ -519,10 +476,7 @@ impl<'p, O: ThreadStore + Drop> Walker<'p, O> {
         depth: u32,
         room: &mut [Value],
     ) -> Came
-        ensures base { self.new.base ≡ self.old.base }
-        ensures context { self.new.context ≡ self.old.context }
-        ensures room { length room.new ≡ length room.old }
-        ensures less { self.new.left ≤ self.old.left }
+        ensures stays { Walked self.old self.new room.old room.new }
         ensures came { Walks (unnamed name (nodes_fit args.now)) (λ S k sc d n. On (Passing (ByName name) [] (map erase args.now) at) k sc d n) self.old self.new room.old room.new depth result }
     {
         if let Some(target) = self.own_target(name) {

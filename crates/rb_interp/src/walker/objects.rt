@@ -1,6 +1,6 @@
 // Objects: `self`, instance variables and new objects.
 
-ghost use Rattle.std.specs.Prelude.{◌≡◌, ◌≤◌, ◌<◌, ℕ, false, [], length, map, slice_get, Some, None, IfErr, IfSome};
+ghost use Rattle.std.specs.Prelude.{◌≡◌, ◌<◌, ℕ, false, [], map, slice_get, Some, None, IfErr, IfSome};
 ghost use Rattle.rb_model.specs.Values.{Int};
 ghost use Rattle.rb_model.specs.Doing.{doing};
 ghost use Rattle.rb_model.specs.Acts.{At, GetField};
@@ -22,15 +22,12 @@ use rb_walk::leaf::small;
 impl<'p, O: ThreadStore + Drop> Walker<'p, O> {
     ghost use Rattle.rb_interp.specs.Answers.{AsksTo, WritesField};
     ghost use Rattle.rb_interp.specs.Calls.{Creates};
-    ghost use Rattle.rb_interp.specs.Walks.{Kept, Walks, WalksTo, at_node_then, node_fits, nodes_fit};
+    ghost use Rattle.rb_interp.specs.Walks.{Kept, Stepped, Unstepped, Untouched, Walked, Walks, WalksTo, at_node_then, node_fits, nodes_fit};
 
     /// Gives `self`.
     pub(super) fn give_self(&mut self) -> Came
         ensures gives { outcome result self.new.value self.new.leave ≡ Gave (me_of self.old.context.me) }
-        ensures base { self.new.base ≡ self.old.base }
-        ensures left { self.new.left ≡ self.old.left }
-        ensures context { self.new.context ≡ self.old.context }
-        ensures store { self.new.store ≡ self.old.store }
+        ensures stays { Untouched self.old self.new }
     {
         match self.context.me {
             None => Came::Nil,
@@ -41,9 +38,7 @@ impl<'p, O: ThreadStore + Drop> Walker<'p, O> {
     /// Asks something of a thing.
     #[inline(always)]
     pub(super) fn ask(&mut self, thing: Ref, act: Act, at: Span) -> Came
-        ensures base { self.new.base ≡ self.old.base }
-        ensures left { self.new.left ≡ self.old.left }
-        ensures context { self.new.context ≡ self.old.context }
+        ensures stays { Unstepped self.old self.new }
         ensures came { AsksTo (me_of (Some thing)) (doing act) at self.old self.new result }
     {
         if !self.store.holds(thing.id) {
@@ -66,9 +61,7 @@ impl<'p, O: ThreadStore + Drop> Walker<'p, O> {
     // It stands beside `ask`, since a value that goes from one to the other takes more instructions than one that is kept where it comes.
     #[inline(always)]
     pub(super) fn fetch(&mut self, thing: Ref, act: Act, at: Span) -> Result<Value, Came>
-        ensures base { self.new.base ≡ self.old.base }
-        ensures left { self.new.left ≡ self.old.left }
-        ensures context { self.new.context ≡ self.old.context }
+        ensures stays { Unstepped self.old self.new }
         ensures over { IfErr result (λ came. IsOver (outcome came self.new.value self.new.leave)) }
         ensures came { Asks self.old.context.steps (me_of (Some thing)) (doing act) at self.old.left (O.log self.old.store) (O.log self.new.store) (O.private self.old.store) (O.private self.new.store) (fetched result self.new.value self.new.leave) }
     {
@@ -90,9 +83,7 @@ impl<'p, O: ThreadStore + Drop> Walker<'p, O> {
     /// The same apart, where what is asked is known only then.
     #[inline(never)]
     pub(super) fn ask_apart(&mut self, thing: Ref, act: Act, at: Span) -> Came
-        ensures base { self.new.base ≡ self.old.base }
-        ensures left { self.new.left ≡ self.old.left }
-        ensures context { self.new.context ≡ self.old.context }
+        ensures stays { Unstepped self.old self.new }
         ensures came { AsksTo (me_of (Some thing)) (doing act) at self.old self.new result }
     {
         self.ask(thing, act, at)
@@ -101,9 +92,7 @@ impl<'p, O: ThreadStore + Drop> Walker<'p, O> {
     /// Asks an array for the element at an index.
     #[inline(always)]
     pub(super) fn element(&mut self, array: Ref, index: i64, at: Span) -> Came
-        ensures base { self.new.base ≡ self.old.base }
-        ensures left { self.new.left ≡ self.old.left }
-        ensures context { self.new.context ≡ self.old.context }
+        ensures stays { Unstepped self.old self.new }
         ensures came { AsksTo (me_of (Some array)) (At index) at self.old self.new result }
     {
         let element = self.store.immediate_element(array.id, index);
@@ -116,9 +105,7 @@ impl<'p, O: ThreadStore + Drop> Walker<'p, O> {
     /// The same of any element.
     #[inline(never)]
     fn element_apart(&mut self, array: Ref, index: i64, at: Span) -> Came
-        ensures base { self.new.base ≡ self.old.base }
-        ensures left { self.new.left ≡ self.old.left }
-        ensures context { self.new.context ≡ self.old.context }
+        ensures stays { Unstepped self.old self.new }
         ensures came { AsksTo (me_of (Some array)) (At index) at self.old self.new result }
     {
         match self.store.element(array.id, index) {
@@ -130,9 +117,7 @@ impl<'p, O: ThreadStore + Drop> Walker<'p, O> {
     /// An instance variable of an object, if it is one.
     #[inline(always)]
     pub(super) fn field(&mut self, owner: Option<Ref>, name: NameId, at: Span) -> Came
-        ensures base { self.new.base ≡ self.old.base }
-        ensures left { self.new.left ≡ self.old.left }
-        ensures context { self.new.context ≡ self.old.context }
+        ensures stays { Unstepped self.old self.new }
         ensures came { AsksTo (me_of owner) (GetField name) at self.old self.new result }
     {
         match owner {
@@ -144,9 +129,7 @@ impl<'p, O: ThreadStore + Drop> Walker<'p, O> {
     /// An instance variable of `self`.
     #[inline(never)]
     pub(super) fn field_apart(&mut self, name: NameId, at: Span) -> Came
-        ensures base { self.new.base ≡ self.old.base }
-        ensures left { self.new.left ≡ self.old.left }
-        ensures context { self.new.context ≡ self.old.context }
+        ensures stays { Unstepped self.old self.new }
         ensures came { AsksTo (me_of self.old.context.me) (GetField name) at self.old self.new result }
     {
         self.field(self.context.me, name, at)
@@ -162,9 +145,7 @@ impl<'p, O: ThreadStore + Drop> Walker<'p, O> {
         at: Span,
     ) -> Came
         requires came { is_left came ≡ false }
-        ensures base { self.new.base ≡ self.old.base }
-        ensures left { self.new.left ≡ self.old.left }
-        ensures context { self.new.context ≡ self.old.context }
+        ensures stays { Unstepped self.old self.new }
         ensures came { WritesField (me_of owner) name (value_of came self.old.value) at self.old self.new result }
     {
         let Some(object) = owner else {
@@ -179,9 +160,7 @@ impl<'p, O: ThreadStore + Drop> Walker<'p, O> {
     /// Writes an integer to an instance variable of an object, and gives it on.
     #[inline(always)]
     pub(super) fn write_integer(&mut self, object: Ref, name: NameId, n: i64, at: Span) -> Came
-        ensures base { self.new.base ≡ self.old.base }
-        ensures left { self.new.left ≡ self.old.left }
-        ensures context { self.new.context ≡ self.old.context }
+        ensures stays { Unstepped self.old self.new }
         ensures came { WritesField (me_of (Some object)) name (Int n) at self.old self.new result }
     {
         let done = self.ask(object, Act::SetField(name, Value::Int(n)), at);
@@ -195,9 +174,7 @@ impl<'p, O: ThreadStore + Drop> Walker<'p, O> {
     #[inline(never)]
     pub(super) fn write_value(&mut self, object: Ref, name: NameId, came: Came, at: Span) -> Came
         requires came { is_left came ≡ false }
-        ensures base { self.new.base ≡ self.old.base }
-        ensures left { self.new.left ≡ self.old.left }
-        ensures context { self.new.context ≡ self.old.context }
+        ensures stays { Unstepped self.old self.new }
         ensures settled { Settles (value_of came self.old.value) (outcome result self.new.value self.new.leave) }
         ensures came { WritesField (me_of (Some object)) name (value_of came self.old.value) at self.old self.new result }
     {
@@ -223,10 +200,7 @@ impl<'p, O: ThreadStore + Drop> Walker<'p, O> {
         depth: u32,
         room: &mut [Value],
     ) -> Came
-        ensures base { self.new.base ≡ self.old.base }
-        ensures context { self.new.context ≡ self.old.context }
-        ensures room { length room.new ≡ length room.old }
-        ensures less { self.new.left ≤ self.old.left }
+        ensures stays { Walked self.old self.new room.old room.new }
         ensures kept { Kept (node_fits value.now) self.old room.old room.new }
         ensures came { (step : Step) → Fields (me_of self.old.context.me) (me_of owner) name at step → WalksTo (node_fits value.now) (at_node_then value.now (λ S. step)) self.old self.new room.old room.new depth result }
     {
@@ -249,9 +223,7 @@ impl<'p, O: ThreadStore + Drop> Walker<'p, O> {
     ) -> Option<i64>
         ensures still { result ≡ None → self.new.left ≡ self.old.left }
         ensures kept { result ≡ None → O.private self.new.store ≡ O.private self.old.store }
-        ensures base { self.new.base ≡ self.old.base }
-        ensures context { self.new.context ≡ self.old.context }
-        ensures less { self.new.left ≤ self.old.left }
+        ensures stays { Stepped self.old self.new }
         ensures log { O.log self.new.store ≡ O.log self.old.store }
         ensures came { IfSome result (λ sum. UpdatesField self.old.context.script.now self.old.context.steps (me_of self.old.context.me) name op value.now depth self.old.left self.new.left room.now (O.log self.old.store) (O.private self.old.store) (O.private self.new.store) (Int sum)) }
     {
@@ -281,10 +253,7 @@ impl<'p, O: ThreadStore + Drop> Walker<'p, O> {
         depth: u32,
         room: &mut [Value],
     ) -> Came
-        ensures base { self.new.base ≡ self.old.base }
-        ensures context { self.new.context ≡ self.old.context }
-        ensures room { length room.new ≡ length room.old }
-        ensures less { self.new.left ≤ self.old.left }
+        ensures stays { Walked self.old self.new room.old room.new }
         ensures came { (place : Place) → IsVariable (me_of self.old.context.me) (me_of owner) name place → Walks (node_fits value.now) (λ S k sc d n. read_place S place op (erase value.now) at k sc d n) self.old self.new room.old room.new depth result }
     {
         let current = self.field(owner, name, at);
@@ -326,10 +295,7 @@ impl<'p, O: ThreadStore + Drop> Walker<'p, O> {
         depth: u32,
         room: &mut [Value],
     ) -> Came
-        ensures base { self.new.base ≡ self.old.base }
-        ensures context { self.new.context ≡ self.old.context }
-        ensures room { length room.new ≡ length room.old }
-        ensures less { self.new.left ≤ self.old.left }
+        ensures stays { Walked self.old self.new room.old room.new }
         ensures came { Walks (made_by class first name (nodes_fit args.now)) (λ S k sc d n. On (Passing (Creating name) [] (map erase args.now) at) k sc d n) self.old self.new room.old room.new depth result }
     {
         let before = self.base;
@@ -357,10 +323,7 @@ impl<'p, O: ThreadStore + Drop> Walker<'p, O> {
         room: &mut [Value],
     ) -> Came
         requires class { object.sort ≡ Sort.Object class }
-        ensures base { self.new.base ≡ self.old.base }
-        ensures context { self.new.context ≡ self.old.context }
-        ensures room { length room.new ≡ length room.old }
-        ensures less { self.new.left ≤ self.old.left }
+        ensures stays { Walked self.old self.new room.old room.new }
         ensures kept { (i : ℕ) → i < self.old.base → slice_get room.new i ≡ slice_get room.old i }
         ensures came { Creates (me_of (Some object)) class first count at self.old self.new room.old room.new depth result }
     {

@@ -1,6 +1,6 @@
 // Operands that are integers of objects, read where they stand, and operations over them.
 
-ghost use Rattle.std.specs.Prelude.{◌≡◌, ◌≤◌, false, List, length, IfSome};
+ghost use Rattle.std.specs.Prelude.{false, List, IfSome};
 ghost use Rattle.rb_model.specs.declared.value.Value.{Value as Held};
 ghost use Rattle.rb_builtin.specs.Integers as integers;
 ghost use Rattle.rb_walk.specs.Carries.{me_of};
@@ -18,7 +18,7 @@ use rb_walk::leaf::{computed, is_long, local_at, operation_by, steps_of};
 use rb_walk::target::reader_of;
 
 impl<'p, O: ThreadStore + Drop> Walker<'p, O> {
-    ghost use Rattle.rb_interp.specs.Walks.{Walks, begun, node_fits};
+    ghost use Rattle.rb_interp.specs.Walks.{Walked, Walks, begun, node_fits};
 
     /// The integer that an instance variable of an object has. Nothing is done for it.
     #[inline(always)]
@@ -129,10 +129,7 @@ impl<'p, O: ThreadStore + Drop> Walker<'p, O> {
         depth: u32,
         room: &mut [Value],
     ) -> Came
-        ensures base { self.new.base ≡ self.old.base }
-        ensures context { self.new.context ≡ self.old.context }
-        ensures room { length room.new ≡ length room.old }
-        ensures less { self.new.left ≤ self.old.left }
+        ensures stays { Walked self.old self.new room.old room.new }
         ensures came { Walks (node_fits code.now) (begun code.now) self.old self.new room.old room.new depth result }
     {
         match code {

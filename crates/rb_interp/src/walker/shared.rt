@@ -1,7 +1,7 @@
 // What is shared: things that are not the thread's own, global variables, and threads that are started. The ways here are said to be cold, so that what
 // is private costs less beside them.
 
-ghost use Rattle.std.specs.Prelude.{◌≡◌, ◌≤◌, [], length, map, Some, None, IfErr, IfOk};
+ghost use Rattle.std.specs.Prelude.{◌≡◌, [], map, Some, None, IfErr, IfOk};
 ghost use Rattle.rb_model.specs.Values.{plain};
 ghost use Rattle.rb_model.specs.Doing.{doing, said};
 ghost use Rattle.rb_model.specs.Ends.{over};
@@ -30,15 +30,12 @@ use std::mem;
 impl<'p, O: ThreadStore + Drop> Walker<'p, O> {
     ghost use Rattle.rb_interp.specs.Answers.{AsksTo};
     ghost use Rattle.rb_interp.specs.Calls.{Owns};
-    ghost use Rattle.rb_interp.specs.Walks.{Kept, Walks, begun, node_fits, nodes_fit};
+    ghost use Rattle.rb_interp.specs.Walks.{Kept, Unstepped, Untouched, Walked, Walks, begun, node_fits, nodes_fit};
 
     /// The thread ends so.
     fn end(&mut self, how: End) -> Came
         ensures gives { outcome result self.new.value self.new.leave ≡ Over (over how) }
-        ensures base { self.new.base ≡ self.old.base }
-        ensures left { self.new.left ≡ self.old.left }
-        ensures context { self.new.context ≡ self.old.context }
-        ensures store { self.new.store ≡ self.old.store }
+        ensures stays { Untouched self.old self.new }
     {
         self.leave = Leave::Over(how);
         Came::Left
@@ -48,10 +45,7 @@ impl<'p, O: ThreadStore + Drop> Walker<'p, O> {
     fn took_over(&mut self, how: End, at: Span) -> Result<Value, Came>
         ensures gives { fetched result self.new.value self.new.leave ≡ outcome_by (said (Reply.Ended how)) at }
         ensures over { IfErr result (λ came. IsOver (outcome came self.new.value self.new.leave)) }
-        ensures base { self.new.base ≡ self.old.base }
-        ensures left { self.new.left ≡ self.old.left }
-        ensures context { self.new.context ≡ self.old.context }
-        ensures store { self.new.store ≡ self.old.store }
+        ensures stays { Untouched self.old self.new }
     {
         match how {
             End::Value(value) => Ok(value),
@@ -63,10 +57,7 @@ impl<'p, O: ThreadStore + Drop> Walker<'p, O> {
     fn taken(&mut self, reply: Reply, at: Span) -> Result<Value, Came>
         ensures gives { fetched result self.new.value self.new.leave ≡ outcome_by (said reply) at }
         ensures over { IfErr result (λ came. IsOver (outcome came self.new.value self.new.leave)) }
-        ensures base { self.new.base ≡ self.old.base }
-        ensures left { self.new.left ≡ self.old.left }
-        ensures context { self.new.context ≡ self.old.context }
-        ensures store { self.new.store ≡ self.old.store }
+        ensures stays { Untouched self.old self.new }
     {
         match reply {
             Reply::Value(value) => Ok(value),
@@ -82,9 +73,7 @@ impl<'p, O: ThreadStore + Drop> Walker<'p, O> {
     #[inline(never)]
     pub(super) fn reply_of(&mut self, thing: Ref, act: Act) -> Result<Reply, Came>
         requires shared { held (O.private self.old.store) thing.id ≡ None }
-        ensures base { self.new.base ≡ self.old.base }
-        ensures left { self.new.left ≡ self.old.left }
-        ensures context { self.new.context ≡ self.old.context }
+        ensures stays { Unstepped self.old self.new }
         ensures over { IfErr result (λ came. IsOver (outcome came self.new.value self.new.leave)) }
         ensures replies { IfOk result (λ reply. Replied self.old.context.steps (Ask (reference thing) (doing act)) (said reply) self.old.left (O.log self.old.store) (O.log self.new.store) (O.private self.old.store) (O.private self.new.store)) }
         ensures ends { IfErr result (λ came. Unreplied self.old.context.steps (Ask (reference thing) (doing act)) self.old.left (O.log self.old.store) (O.log self.new.store) (O.private self.old.store) (O.private self.new.store) (outcome came self.new.value self.new.leave)) }
@@ -101,9 +90,7 @@ impl<'p, O: ThreadStore + Drop> Walker<'p, O> {
     #[inline(never)]
     pub(super) fn fetch_shared(&mut self, thing: Ref, act: Act, at: Span) -> Result<Value, Came>
         requires shared { held (O.private self.old.store) thing.id ≡ None }
-        ensures base { self.new.base ≡ self.old.base }
-        ensures left { self.new.left ≡ self.old.left }
-        ensures context { self.new.context ≡ self.old.context }
+        ensures stays { Unstepped self.old self.new }
         ensures over { IfErr result (λ came. IsOver (outcome came self.new.value self.new.leave)) }
         ensures came { Asks self.old.context.steps (me_of (Some thing)) (doing act) at self.old.left (O.log self.old.store) (O.log self.new.store) (O.private self.old.store) (O.private self.new.store) (fetched result self.new.value self.new.leave) }
     {
@@ -118,9 +105,7 @@ impl<'p, O: ThreadStore + Drop> Walker<'p, O> {
     #[inline(never)]
     pub(super) fn ask_shared(&mut self, thing: Ref, act: Act, at: Span) -> Came
         requires shared { held (O.private self.old.store) thing.id ≡ None }
-        ensures base { self.new.base ≡ self.old.base }
-        ensures left { self.new.left ≡ self.old.left }
-        ensures context { self.new.context ≡ self.old.context }
+        ensures stays { Unstepped self.old self.new }
         ensures came { AsksTo (me_of (Some thing)) (doing act) at self.old self.new result }
     {
         match self.fetch_shared(thing, act, at) {
@@ -134,10 +119,7 @@ impl<'p, O: ThreadStore + Drop> Walker<'p, O> {
     #[cold]
     #[inline(never)]
     pub(super) fn begin_global(&mut self, code: &'p Code, depth: u32, room: &mut [Value]) -> Came
-        ensures base { self.new.base ≡ self.old.base }
-        ensures context { self.new.context ≡ self.old.context }
-        ensures room { length room.new ≡ length room.old }
-        ensures less { self.new.left ≤ self.old.left }
+        ensures stays { Walked self.old self.new room.old room.new }
         ensures came { Walks (node_fits code.now) (begun code.now) self.old self.new room.old room.new depth result }
     {
         match code {
@@ -165,10 +147,7 @@ impl<'p, O: ThreadStore + Drop> Walker<'p, O> {
         depth: u32,
         room: &mut [Value],
     ) -> Came
-        ensures base { self.new.base ≡ self.old.base }
-        ensures context { self.new.context ≡ self.old.context }
-        ensures room { length room.new ≡ length room.old }
-        ensures less { self.new.left ≤ self.old.left }
+        ensures stays { Walked self.old self.new room.old room.new }
         ensures came { Walks (capturing body slots.now (nodes_fit args.now)) (λ S k sc d n. On (Passing (Threading body) [] (map erase args.now) at) k sc d n) self.old self.new room.old room.new depth result }
     {
         let before = self.base;
@@ -182,9 +161,7 @@ impl<'p, O: ThreadStore + Drop> Walker<'p, O> {
 
     /// Starts a thread with these arguments.
     fn start(&mut self, args: &[Value], body: u32, slots: &[u32], at: Span, room: &[Value]) -> Came
-        ensures base { self.new.base ≡ self.old.base }
-        ensures left { self.new.left ≡ self.old.left }
-        ensures context { self.new.context ≡ self.old.context }
+        ensures stays { Unstepped self.old self.new }
         ensures came { Starts self.old.context.program.now self.old.context.steps (me_of self.old.context.me) body slots.now (map plain args.now) at self.old.left room.now (O.log self.old.store) (O.log self.new.store) (O.private self.old.store) (O.private self.new.store) (outcome result self.new.value self.new.leave) }
     {
         // Never none, as each start has its body.
@@ -208,9 +185,7 @@ impl<'p, O: ThreadStore + Drop> Walker<'p, O> {
 
     /// What is replied to the start of a thread. Where no reply comes this thread ends.
     fn started(&mut self, body: u32, values: Vec<Value>) -> Result<Reply, Came>
-        ensures base { self.new.base ≡ self.old.base }
-        ensures left { self.new.left ≡ self.old.left }
-        ensures context { self.new.context ≡ self.old.context }
+        ensures stays { Unstepped self.old self.new }
         ensures replies { IfOk result (λ reply. Replied self.old.context.steps (Begin body (map plain values.items)) (said reply) self.old.left (O.log self.old.store) (O.log self.new.store) (O.private self.old.store) (O.private self.new.store)) }
         ensures ends { IfErr result (λ came. Unreplied self.old.context.steps (Begin body (map plain values.items)) self.old.left (O.log self.old.store) (O.log self.new.store) (O.private self.old.store) (O.private self.new.store) (outcome came self.new.value self.new.leave)) }
     {
@@ -236,10 +211,7 @@ impl<'p, O: ThreadStore + Drop> Walker<'p, O> {
         depth: u32,
         room: &mut [Value],
     ) -> Came
-        ensures base { self.new.base ≡ self.old.base }
-        ensures context { self.new.context ≡ self.old.context }
-        ensures room { length room.new ≡ length room.old }
-        ensures less { self.new.left ≤ self.old.left }
+        ensures stays { Walked self.old self.new room.old room.new }
         ensures came { Walks (λ S. block_fits S block.now) (locking (thing_of mutex) (erase_block block.now) at) self.old self.new room.old room.new depth result }
     {
         let taken = self.ask_apart(mutex, Act::Lock, at);
@@ -253,10 +225,7 @@ impl<'p, O: ThreadStore + Drop> Walker<'p, O> {
     /// The body of a block that owns a mutex. It begins with a step, where one is left.
     #[cycle(walk)]
     fn owning(&mut self, block: &'p CodeBlock, depth: u32, room: &mut [Value]) -> Came
-        ensures base { self.new.base ≡ self.old.base }
-        ensures context { self.new.context ≡ self.old.context }
-        ensures room { length room.new ≡ length room.old }
-        ensures less { self.new.left ≤ self.old.left }
+        ensures stays { Walked self.old self.new room.old room.new }
         ensures kept { Kept (λ S. block_fits S block.now) self.old room.old room.new }
         ensures came { Owns block.now self.old self.new room.old room.new depth result }
     {
@@ -275,9 +244,7 @@ impl<'p, O: ThreadStore + Drop> Walker<'p, O> {
 
     /// Gives a mutex back behind its block, and gives on what came of that.
     fn give_back(&mut self, mutex: Ref, came: Came, at: Span) -> Came
-        ensures base { self.new.base ≡ self.old.base }
-        ensures left { self.new.left ≡ self.old.left }
-        ensures context { self.new.context ≡ self.old.context }
+        ensures stays { Unstepped self.old self.new }
         ensures came { GivesBack self.old.context.steps (thing_of mutex) at self.old.left (O.log self.old.store) (O.log self.new.store) (O.private self.old.store) (O.private self.new.store) (outcome came self.old.value self.old.leave) (outcome result self.new.value self.new.leave) }
     {
         if !is_left(came) {
@@ -303,9 +270,7 @@ impl<'p, O: ThreadStore + Drop> Walker<'p, O> {
 
     /// Gives a mutex back, and a value on.
     fn unlock(&mut self, mutex: Ref, value: Value, at: Span) -> Came
-        ensures base { self.new.base ≡ self.old.base }
-        ensures left { self.new.left ≡ self.old.left }
-        ensures context { self.new.context ≡ self.old.context }
+        ensures stays { Unstepped self.old self.new }
         ensures settled { Settles (plain value) (outcome result self.new.value self.new.leave) }
         ensures came { Unlocks self.old.context.steps (thing_of mutex) at (plain value) self.old.left (O.log self.old.store) (O.log self.new.store) (O.private self.old.store) (O.private self.new.store) (outcome result self.new.value self.new.leave) }
     {

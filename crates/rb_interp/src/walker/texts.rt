@@ -31,6 +31,7 @@ fn add_taken(
 }
 
 impl<'p, O: ThreadStore + Drop> Walker<'p, O> {
+    ghost use Rattle.rb_interp.specs.Walks.{Untouched, Walked};
     ghost use Rattle.rb_interp.specs.Texts.{Tells, TellsSlot, WritesArray, WritesOne, WritesTexts};
 
     /// A value that came, as its text is told: what `to_s` of its class answers, where that is a string, and else the value as it is.
@@ -38,10 +39,7 @@ impl<'p, O: ThreadStore + Drop> Walker<'p, O> {
     #[inline(never)]
     pub(super) fn told(&mut self, came: Came, at: Span, depth: u32, room: &mut [Value]) -> Came
         requires came { is_left came ≡ false }
-        ensures base { self.new.base ≡ self.old.base }
-        ensures context { self.new.context ≡ self.old.context }
-        ensures room { length room.new ≡ length room.old }
-        ensures less { self.new.left ≤ self.old.left }
+        ensures stays { Walked self.old self.new room.old room.new }
         ensures kept { (i : ℕ) → i < self.old.base → slice_get room.new i ≡ slice_get room.old i }
         ensures came { Tells (value_of came self.old.value) at self.old self.new room.old room.new depth result }
     {
@@ -64,10 +62,7 @@ impl<'p, O: ThreadStore + Drop> Walker<'p, O> {
     /// The value of a slot, as its text is told.
     #[cycle(walk)]
     pub(super) fn told_at(&mut self, slot: usize, at: Span, depth: u32, room: &mut [Value]) -> Came
-        ensures base { self.new.base ≡ self.old.base }
-        ensures context { self.new.context ≡ self.old.context }
-        ensures room { length room.new ≡ length room.old }
-        ensures less { self.new.left ≤ self.old.left }
+        ensures stays { Walked self.old self.new room.old room.new }
         ensures kept { (i : ℕ) → i < self.old.base → slice_get room.new i ≡ slice_get room.old i }
         ensures came { TellsSlot slot at self.old self.new room.old room.new depth result }
     {
@@ -92,10 +87,7 @@ impl<'p, O: ThreadStore + Drop> Walker<'p, O> {
         depth: u32,
         room: &mut [Value],
     ) -> Came
-        ensures base { self.new.base ≡ self.old.base }
-        ensures context { self.new.context ≡ self.old.context }
-        ensures room { length room.new ≡ length room.old }
-        ensures less { self.new.left ≤ self.old.left }
+        ensures stays { Walked self.old self.new room.old room.new }
         ensures kept { (i : ℕ) → i < self.old.base → slice_get room.new i ≡ slice_get room.old i }
         ensures came { WritesTexts (style_of style) self.old.base count at self.old self.new room.old room.new depth result }
     {
@@ -122,10 +114,7 @@ impl<'p, O: ThreadStore + Drop> Walker<'p, O> {
     ) -> Came
         requires behind { self.old.base ≡ first + count }
         requires within { first + count ≤ length room.old }
-        ensures base { self.new.base ≡ self.old.base }
-        ensures context { self.new.context ≡ self.old.context }
-        ensures room { length room.new ≡ length room.old }
-        ensures less { self.new.left ≤ self.old.left }
+        ensures stays { Walked self.old self.new room.old room.new }
         ensures kept { (i : ℕ) → i < self.old.base → slice_get room.new i ≡ slice_get room.old i }
         ensures came { WritesTexts (style_of style) first count at self.old self.new room.old room.new depth result }
     {
@@ -154,10 +143,7 @@ impl<'p, O: ThreadStore + Drop> Walker<'p, O> {
         depth: u32,
         room: &mut [Value],
     ) -> Came
-        ensures base { self.new.base ≡ self.old.base }
-        ensures context { self.new.context ≡ self.old.context }
-        ensures room { length room.new ≡ length room.old }
-        ensures less { self.new.left ≤ self.old.left }
+        ensures stays { Walked self.old self.new room.old room.new }
         ensures kept { (i : ℕ) → i < self.old.base → slice_get room.new i ≡ slice_get room.old i }
         ensures fits { is_left result ≡ false → length bytes.new.items ≤ max_bytes }
         ensures came { WritesOne (style_of style) slot bytes.old.items bytes.new.items at self.old self.new room.old room.new depth result }
@@ -182,10 +168,7 @@ impl<'p, O: ThreadStore + Drop> Walker<'p, O> {
         depth: u32,
         room: &mut [Value],
     ) -> Came
-        ensures base { self.new.base ≡ self.old.base }
-        ensures context { self.new.context ≡ self.old.context }
-        ensures room { length room.new ≡ length room.old }
-        ensures less { self.new.left ≤ self.old.left }
+        ensures stays { Walked self.old self.new room.old room.new }
         ensures kept { (i : ℕ) → i < self.old.base → slice_get room.new i ≡ slice_get room.old i }
         ensures fits { is_left result ≡ false → length bytes.new.items ≤ max_bytes }
         ensures came { WritesArray array bytes.old.items bytes.new.items at self.old self.new room.old room.new depth result }
@@ -199,10 +182,7 @@ impl<'p, O: ThreadStore + Drop> Walker<'p, O> {
 
     /// Adds the text of the value that came behind what is printed; nil where it goes on.
     fn add_came(&mut self, style: Style, came: Came, bytes: &mut Vec<u8>, at: Span) -> Came
-        ensures base { self.new.base ≡ self.old.base }
-        ensures left { self.new.left ≡ self.old.left }
-        ensures context { self.new.context ≡ self.old.context }
-        ensures store { self.new.store ≡ self.old.store }
+        ensures stays { Untouched self.old self.new }
         ensures fits { is_left result ≡ false → length bytes.new.items ≤ max_bytes }
         ensures came { JoinsText self.old.context.steps (styled (style_of style) (shown self.old.context.program.now (value_of came self.old.value))) bytes.old.items bytes.new.items at self.old.left (O.log self.old.store) (O.private self.old.store) result (outcome result self.new.value self.new.leave) }
     {

@@ -25,15 +25,13 @@ use rb_walk::slots::put;
 use std::mem;
 
 impl<'p, O: ThreadStore + Drop> Walker<'p, O> {
+    ghost use Rattle.rb_interp.specs.Walks.{Unstepped, Untouched};
     ghost use Rattle.rb_interp.specs.Answers.{AnswersBy};
 
     /// The value that came. It is taken out of the walker.
     pub(super) fn take(&mut self, came: Came) -> Value
         ensures value { plain result ≡ value_of came self.old.value }
-        ensures base { self.new.base ≡ self.old.base }
-        ensures left { self.new.left ≡ self.old.left }
-        ensures context { self.new.context ≡ self.old.context }
-        ensures store { self.new.store ≡ self.old.store }
+        ensures stays { Untouched self.old self.new }
         ensures leave { self.new.leave ≡ self.old.leave }
     {
         match came {
@@ -70,10 +68,7 @@ impl<'p, O: ThreadStore + Drop> Walker<'p, O> {
     #[inline(never)]
     pub(super) fn give(&mut self, value: Value) -> Came
         ensures gives { outcome result self.new.value self.new.leave ≡ Gave (plain value) }
-        ensures base { self.new.base ≡ self.old.base }
-        ensures left { self.new.left ≡ self.old.left }
-        ensures context { self.new.context ≡ self.old.context }
-        ensures store { self.new.store ≡ self.old.store }
+        ensures stays { Untouched self.old self.new }
     {
         match value {
             Value::Nil => Came::Nil,
@@ -91,10 +86,7 @@ impl<'p, O: ThreadStore + Drop> Walker<'p, O> {
     #[inline(always)]
     pub(super) fn hand(&mut self, value: Value) -> Came
         ensures gives { outcome result self.new.value self.new.leave ≡ Gave (plain value) }
-        ensures base { self.new.base ≡ self.old.base }
-        ensures left { self.new.left ≡ self.old.left }
-        ensures context { self.new.context ≡ self.old.context }
-        ensures store { self.new.store ≡ self.old.store }
+        ensures stays { Untouched self.old self.new }
     {
         match value {
             Value::Int(n) => Came::Int(n),
@@ -107,10 +99,7 @@ impl<'p, O: ThreadStore + Drop> Walker<'p, O> {
     #[inline(always)]
     pub(super) fn give_thing(&mut self, thing: Ref) -> Came
         ensures gives { outcome result self.new.value self.new.leave ≡ Gave (me_of (Some thing)) }
-        ensures base { self.new.base ≡ self.old.base }
-        ensures left { self.new.left ≡ self.old.left }
-        ensures context { self.new.context ≡ self.old.context }
-        ensures store { self.new.store ≡ self.old.store }
+        ensures stays { Untouched self.old self.new }
     {
         self.value = Value::Ref(thing);
         Came::Other
@@ -120,10 +109,7 @@ impl<'p, O: ThreadStore + Drop> Walker<'p, O> {
     #[inline(never)]
     pub(super) fn over(&mut self, cut: Cut) -> Came
         ensures gives { outcome result self.new.value self.new.leave ≡ Over (end_by cut) }
-        ensures base { self.new.base ≡ self.old.base }
-        ensures left { self.new.left ≡ self.old.left }
-        ensures context { self.new.context ≡ self.old.context }
-        ensures store { self.new.store ≡ self.old.store }
+        ensures stays { Untouched self.old self.new }
     {
         self.leave = Leave::Over(end_by(cut));
         Came::Left
@@ -133,10 +119,7 @@ impl<'p, O: ThreadStore + Drop> Walker<'p, O> {
     #[inline(never)]
     pub(super) fn raise(&mut self, fault: Fault, at: Span) -> Came
         ensures gives { outcome result self.new.value self.new.leave ≡ Over (Raised fault at) }
-        ensures base { self.new.base ≡ self.old.base }
-        ensures left { self.new.left ≡ self.old.left }
-        ensures context { self.new.context ≡ self.old.context }
-        ensures store { self.new.store ≡ self.old.store }
+        ensures stays { Untouched self.old self.new }
     {
         self.leave = Leave::Over(End::Raised(fault, at));
         Came::Left
@@ -146,10 +129,7 @@ impl<'p, O: ThreadStore + Drop> Walker<'p, O> {
     #[inline(always)]
     pub(super) fn read(&mut self, slot: u32, room: &[Value]) -> Came
         ensures gives { (v : Held) → slice_get room.now slot ≡ Some v → OrMemory (Gave (plain v)) (outcome result self.new.value self.new.leave) }
-        ensures base { self.new.base ≡ self.old.base }
-        ensures left { self.new.left ≡ self.old.left }
-        ensures context { self.new.context ≡ self.old.context }
-        ensures store { self.new.store ≡ self.old.store }
+        ensures stays { Untouched self.old self.new }
     {
         match room.get(slot as usize) {
             None | Some(Value::Nil) => Came::Nil,
@@ -166,10 +146,7 @@ impl<'p, O: ThreadStore + Drop> Walker<'p, O> {
     #[inline(never)]
     pub(super) fn read_shared(&mut self, value: &Value) -> Came
         ensures gives { OrMemory (Gave (plain value.now)) (outcome result self.new.value self.new.leave) }
-        ensures base { self.new.base ≡ self.old.base }
-        ensures left { self.new.left ≡ self.old.left }
-        ensures context { self.new.context ≡ self.old.context }
-        ensures store { self.new.store ≡ self.old.store }
+        ensures stays { Untouched self.old self.new }
     {
         match value.share() {
             Ok(value) => self.give(value),
@@ -181,10 +158,7 @@ impl<'p, O: ThreadStore + Drop> Walker<'p, O> {
     #[inline(never)]
     pub(super) fn share_text(&mut self, text: &SharedText) -> Came
         ensures gives { OrMemory (Gave (Str text.now)) (outcome result self.new.value self.new.leave) }
-        ensures base { self.new.base ≡ self.old.base }
-        ensures left { self.new.left ≡ self.old.left }
-        ensures context { self.new.context ≡ self.old.context }
-        ensures store { self.new.store ≡ self.old.store }
+        ensures stays { Untouched self.old self.new }
     {
         match text.share() {
             Ok(copy) => {
@@ -200,10 +174,7 @@ impl<'p, O: ThreadStore + Drop> Walker<'p, O> {
     pub(super) fn write(&mut self, slot: u32, came: Came, room: &mut [Value]) -> Came
         requires came { is_left came ≡ false }
         ensures written { Writes slot (value_of came self.old.value) room.old room.new (outcome result self.new.value self.new.leave) }
-        ensures base { self.new.base ≡ self.old.base }
-        ensures left { self.new.left ≡ self.old.left }
-        ensures context { self.new.context ≡ self.old.context }
-        ensures store { self.new.store ≡ self.old.store }
+        ensures stays { Untouched self.old self.new }
     {
         if slot as usize >= room.len() {
             return self.over(Cut::Memory);
@@ -222,10 +193,7 @@ impl<'p, O: ThreadStore + Drop> Walker<'p, O> {
     pub(super) fn write_any(&mut self, slot: u32, came: Came, room: &mut [Value]) -> Came
         requires came { is_left came ≡ false }
         ensures written { Writes slot (value_of came self.old.value) room.old room.new (outcome result self.new.value self.new.leave) }
-        ensures base { self.new.base ≡ self.old.base }
-        ensures left { self.new.left ≡ self.old.left }
-        ensures context { self.new.context ≡ self.old.context }
-        ensures store { self.new.store ≡ self.old.store }
+        ensures stays { Untouched self.old self.new }
     {
         if slot as usize >= room.len() {
             return self.over(Cut::Memory);
@@ -250,10 +218,7 @@ impl<'p, O: ThreadStore + Drop> Walker<'p, O> {
     pub(super) fn move_to(&mut self, slot: usize, came: Came, room: &mut [Value])
         requires within { slot < length room.old }
         ensures passed { Passed slot (value_of came self.old.value) room.old room.new }
-        ensures base { self.new.base ≡ self.old.base }
-        ensures left { self.new.left ≡ self.old.left }
-        ensures context { self.new.context ≡ self.old.context }
-        ensures store { self.new.store ≡ self.old.store }
+        ensures stays { Untouched self.old self.new }
     {
         match came {
             Came::Int(n) => put(room, slot, n),
@@ -266,10 +231,7 @@ impl<'p, O: ThreadStore + Drop> Walker<'p, O> {
     fn move_any(&mut self, slot: usize, came: Came, room: &mut [Value])
         requires within { slot < length room.old }
         ensures passed { Passed slot (value_of came self.old.value) room.old room.new }
-        ensures base { self.new.base ≡ self.old.base }
-        ensures left { self.new.left ≡ self.old.left }
-        ensures context { self.new.context ≡ self.old.context }
-        ensures store { self.new.store ≡ self.old.store }
+        ensures stays { Untouched self.old self.new }
     {
         match came {
             Came::Other => match &self.value {
@@ -284,10 +246,7 @@ impl<'p, O: ThreadStore + Drop> Walker<'p, O> {
     #[inline(always)]
     pub(super) fn answer(&mut self, answer: IntegerAnswer, at: Span) -> Came
         ensures gives { outcome result self.new.value self.new.leave ≡ outcome_of (integers.answer_of answer) at }
-        ensures base { self.new.base ≡ self.old.base }
-        ensures left { self.new.left ≡ self.old.left }
-        ensures context { self.new.context ≡ self.old.context }
-        ensures store { self.new.store ≡ self.old.store }
+        ensures stays { Untouched self.old self.new }
     {
         match answer {
             IntegerAnswer::Int(n) => Came::Int(n),
@@ -308,10 +267,7 @@ impl<'p, O: ThreadStore + Drop> Walker<'p, O> {
         at: Span,
     ) -> Came
         ensures gives { AnswersBy method (plain receiver.now) (map plain args.now) at self.old self.new result }
-        ensures base { self.new.base ≡ self.old.base }
-        ensures left { self.new.left ≡ self.old.left }
-        ensures context { self.new.context ≡ self.old.context }
-        ensures store { self.new.store ≡ self.old.store }
+        ensures stays { Untouched self.old self.new }
     {
         match deed_of(
             self.context.alloc,
@@ -343,10 +299,7 @@ impl<'p, O: ThreadStore + Drop> Walker<'p, O> {
         at: Span,
     ) -> Came
         ensures gives { AnswersBy method (plain receiver.now) (map plain args.now) at self.old self.new result }
-        ensures base { self.new.base ≡ self.old.base }
-        ensures left { self.new.left ≡ self.old.left }
-        ensures context { self.new.context ≡ self.old.context }
-        ensures store { self.new.store ≡ self.old.store }
+        ensures stays { Untouched self.old self.new }
     {
         match ready_answer(method, receiver, args) {
             Some(answer) => self.answer(answer, at),
@@ -356,9 +309,7 @@ impl<'p, O: ThreadStore + Drop> Walker<'p, O> {
 
     /// Shows bytes by one print, where there are any, and gives nil or a value.
     pub(super) fn show(&mut self, form: Form, args: &[Value], at: Span) -> Came
-        ensures base { self.new.base ≡ self.old.base }
-        ensures left { self.new.left ≡ self.old.left }
-        ensures context { self.new.context ≡ self.old.context }
+        ensures stays { Unstepped self.old self.new }
         ensures private { O.private self.new.store ≡ O.private self.old.store }
         ensures came { Shows self.old.context.program.now self.old.context.steps form (map plain args.now) at self.old.left (O.log self.old.store) (O.log self.new.store) (outcome result self.new.value self.new.leave) }
     {
@@ -372,9 +323,7 @@ impl<'p, O: ThreadStore + Drop> Walker<'p, O> {
     /// Shows bytes, which are not too many, by one print, where there are any.
     pub(super) fn show_bytes(&mut self, bytes: Vec<u8>) -> Came
         requires fits { length bytes.items ≤ max_bytes }
-        ensures base { self.new.base ≡ self.old.base }
-        ensures left { self.new.left ≡ self.old.left }
-        ensures context { self.new.context ≡ self.old.context }
+        ensures stays { Unstepped self.old self.new }
         ensures private { O.private self.new.store ≡ O.private self.old.store }
         ensures came { ShowsBytes self.old.context.steps bytes.items self.old.left (O.log self.old.store) (O.log self.new.store) (outcome result self.new.value self.new.leave) }
     {

@@ -1,6 +1,6 @@
 // Calls with a block: what they come to before an iteration, and iterations over arrays and hashes.
 
-ghost use Rattle.std.specs.Prelude.{◌≡◌, ◌≤◌, ◌<◌, true, false, [], ◌∷◌, length, map, None, IfSome};
+ghost use Rattle.std.specs.Prelude.{◌≡◌, ◌<◌, true, false, [], ◌∷◌, length, map, None, IfSome};
 ghost use Rattle.rb_model.specs.Values.{Value as Val, To, plain};
 ghost use Rattle.rb_model.specs.Doing.{pair};
 ghost use Rattle.rb_machine.specs.Control.{On, Turning, Reading, Walking, EachPair, ForEach};
@@ -36,7 +36,7 @@ fn second_value(pass: Pass, index: u32) -> Value
 impl<'p, O: ThreadStore + Drop> Walker<'p, O> {
     ghost use Rattle.rb_interp.specs.Answers.{ComesAtOnce};
     ghost use Rattle.rb_interp.specs.Calls.{Iterates};
-    ghost use Rattle.rb_interp.specs.Walks.{Kept, Walks};
+    ghost use Rattle.rb_interp.specs.Walks.{Kept, Unstepped, Untouched, Walked, Walks};
 
     /// What the call of a method of a value with a block comes to before an iteration.
     pub(super) fn iterations(
@@ -48,10 +48,7 @@ impl<'p, O: ThreadStore + Drop> Walker<'p, O> {
         at: Span,
     ) -> Iterations
         ensures opens { Opens self.old.context.program.now self.old.context.steps method (plain receiver.now) (map plain args.now) params at self.old.left (O.log self.old.store) result self.new.value self.new.leave }
-        ensures base { self.new.base ≡ self.old.base }
-        ensures left { self.new.left ≡ self.old.left }
-        ensures context { self.new.context ≡ self.old.context }
-        ensures store { self.new.store ≡ self.old.store }
+        ensures stays { Untouched self.old self.new }
     {
         let Some(count) = count_of(params) else {
             return Iterations::Done(self.over(Cut::Memory));
@@ -72,10 +69,7 @@ impl<'p, O: ThreadStore + Drop> Walker<'p, O> {
     /// What a call with a block comes to that is answered so.
     fn opened(&mut self, deed: Deed, at: Span) -> Iterations
         ensures opens { OpensBy (answer_of deed) self.old.context.steps at self.old.left (O.log self.old.store) result self.new.value self.new.leave }
-        ensures base { self.new.base ≡ self.old.base }
-        ensures left { self.new.left ≡ self.old.left }
-        ensures context { self.new.context ≡ self.old.context }
-        ensures store { self.new.store ≡ self.old.store }
+        ensures stays { Untouched self.old self.new }
     {
         match deed {
             Deed::Give(value) => Iterations::Done(self.give(value)),
@@ -95,10 +89,7 @@ impl<'p, O: ThreadStore + Drop> Walker<'p, O> {
     #[inline(always)]
     fn value_on(&mut self, came: Came) -> Value
         ensures value { plain result ≡ value_on (outcome came self.old.value self.old.leave) }
-        ensures base { self.new.base ≡ self.old.base }
-        ensures left { self.new.left ≡ self.old.left }
-        ensures context { self.new.context ≡ self.old.context }
-        ensures store { self.new.store ≡ self.old.store }
+        ensures stays { Untouched self.old self.new }
     {
         if is_left(came) {
             return Value::Nil;
@@ -118,10 +109,7 @@ impl<'p, O: ThreadStore + Drop> Walker<'p, O> {
         room: &mut [Value],
     ) -> Came
         ensures counted { goes_on (outcome result self.new.value self.new.leave) ≡ true → self.new.left < self.old.left }
-        ensures base { self.new.base ≡ self.old.base }
-        ensures context { self.new.context ≡ self.old.context }
-        ensures room { length room.new ≡ length room.old }
-        ensures less { self.new.left ≤ self.old.left }
+        ensures stays { Walked self.old self.new room.old room.new }
         ensures kept { Kept (λ S. block_fits S block.now) self.old room.old room.new }
         ensures came { Iterates block.now (plain first ∷ plain second ∷ []) self.old self.new room.old room.new depth result }
     {
@@ -159,9 +147,7 @@ impl<'p, O: ThreadStore + Drop> Walker<'p, O> {
     fn next_element(&mut self, array: Ref, next: u32, at: Span) -> Option<Came>
         ensures some { IfSome result (λ came. FindsElement self.old.context.steps array next at self.old.left (O.log self.old.store) (O.log self.new.store) (O.private self.old.store) (O.private self.new.store) came (outcome came self.new.value self.new.leave)) }
         ensures none { result ≡ None → FindsNone self.old.context.steps array next at self.old.left (O.log self.old.store) (O.log self.new.store) (O.private self.old.store) (O.private self.new.store) }
-        ensures base { self.new.base ≡ self.old.base }
-        ensures left { self.new.left ≡ self.old.left }
-        ensures context { self.new.context ≡ self.old.context }
+        ensures stays { Unstepped self.old self.new }
     {
         let length = self.ask(array, Act::Len, at);
         if is_left(length) {
@@ -175,9 +161,7 @@ impl<'p, O: ThreadStore + Drop> Walker<'p, O> {
 
     /// What a walk over an array answers in the end: the array, or what it made.
     fn finish(&mut self, array: Ref, pass: Pass, made: Vec<Value>) -> Came
-        ensures base { self.new.base ≡ self.old.base }
-        ensures left { self.new.left ≡ self.old.left }
-        ensures context { self.new.context ≡ self.old.context }
+        ensures stays { Unstepped self.old self.new }
         ensures log { O.log self.new.store ≡ O.log self.old.store }
         ensures came { (last : Val) → ComesAtOnce (finishing array (walking pass (map plain made.items) last)) self.old self.new result }
     {
@@ -199,10 +183,7 @@ impl<'p, O: ThreadStore + Drop> Walker<'p, O> {
         depth: u32,
         room: &mut [Value],
     ) -> Came
-        ensures base { self.new.base ≡ self.old.base }
-        ensures context { self.new.context ≡ self.old.context }
-        ensures room { length room.new ≡ length room.old }
-        ensures less { self.new.left ≤ self.old.left }
+        ensures stays { Walked self.old self.new room.old room.new }
         ensures came { Walks (λ S. block_fits S block.now) (λ S k sc d n. On (Turning (Walking (thing_of array) 0 (walk_of pass) at) (erase_block block.now)) k sc d n) self.old self.new room.old room.new depth result }
     {
         let mut made = Vec::new(self.context.alloc);
@@ -245,10 +226,7 @@ impl<'p, O: ThreadStore + Drop> Walker<'p, O> {
         depth: u32,
         room: &mut [Value],
     ) -> Came
-        ensures base { self.new.base ≡ self.old.base }
-        ensures context { self.new.context ≡ self.old.context }
-        ensures room { length room.new ≡ length room.old }
-        ensures less { self.new.left ≤ self.old.left }
+        ensures stays { Walked self.old self.new room.old room.new }
         ensures came { Walks (λ S. block_fits S block.now) (λ S k sc d n. On (Turning (EachPair (map pair pairs.items) (To (thing_of hash))) (erase_block block.now)) k sc d n) self.old self.new room.old room.new depth result }
     {
         'pairs: for (key, value) in pairs {
@@ -270,10 +248,7 @@ impl<'p, O: ThreadStore + Drop> Walker<'p, O> {
         depth: u32,
         room: &mut [Value],
     ) -> Came
-        ensures base { self.new.base ≡ self.old.base }
-        ensures context { self.new.context ≡ self.old.context }
-        ensures room { length room.new ≡ length room.old }
-        ensures less { self.new.left ≤ self.old.left }
+        ensures stays { Walked self.old self.new room.old room.new }
         ensures came { Walks (λ S. block_fits S block.now) (λ S k sc d n. On (Reading (thing_of hash) (ForEach (To (thing_of hash)) (erase_block block.now)) at) k sc d n) self.old self.new room.old room.new depth result }
     {
         match self.copied(hash) {

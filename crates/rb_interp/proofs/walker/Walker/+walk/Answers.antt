@@ -76,7 +76,7 @@ use Rattle.rb_interp.proofs.walker.Walker.+walk.Goals as goal
 pub walk_here-returns-then-self-eq0-clause-came : goal.walk_here-returns-then-self-eq0-clause-came
 walk_here-returns-then-self-eq0-clause-came g m c = λ S names size st e l. (
   λ i p q. refl,
-  λ start k a. rw (c.over.ensures.gives, c.over.ensures.left, c.over.ensures.store) (too_many c.if-self-eq0.true a),
+  λ start k a. rw (c.over.ensures.gives, c.over.ensures.stays.2, c.over.ensures.stays.3) (too_many c.if-self-eq0.true a),
 )
 
 pub walk_here-returns-then-depth-ge-MAX_DEPTH-clause-came : goal.walk_here-returns-then-depth-ge-MAX_DEPTH-clause-came
@@ -84,7 +84,7 @@ walk_here-returns-then-depth-ge-MAX_DEPTH-clause-came g m c = λ S names size st
   λ i p q. refl,
   λ start k a.
       let o = c.raise.ensures in
-      rw (o.gives, o.left, o.store, c.place_of.ensures) (too_deep (omega (arith, c.if-self-eq0.false)) c.if-depth-ge-MAX_DEPTH.true a),
+      rw (o.gives, o.stays.2, o.stays.3, c.place_of.ensures) (too_deep (omega (arith, c.if-self-eq0.false)) c.if-depth-ge-MAX_DEPTH.true a),
 )
 
 pub walk_here-returns-clause-came : goal.walk_here-returns-clause-came
@@ -122,7 +122,7 @@ begin-returns-in-Int-clause-came g m c = λ S names size st e l. (
 pub begin_other-returns-in-Sym-clause-came : goal.begin_other-returns-in-Sym-clause-came
 begin_other-returns-in-Sym-clause-came g m c = λ S names size st e l. (
   λ i p q. refl,
-  λ start k a. rw (c.give.ensures.gives, c.give.ensures.left, c.give.ensures.store) (begins _ _ k _ _ _ (shows-sym c.args.code.now c.in-Sym.name c.in-Sym.field-1 c.in-Sym.is) a),
+  λ start k a. rw (c.give.ensures.gives, c.give.ensures.stays.2, c.give.ensures.stays.3) (begins _ _ k _ _ _ (shows-sym c.args.code.now c.in-Sym.name c.in-Sym.field-1 c.in-Sym.is) a),
 )
 
 pub begin_other-returns-in-Break-clause-came : goal.begin_other-returns-in-Break-clause-came
@@ -197,9 +197,9 @@ both-returns-then-not-is_true_now-clause-came g m c = λ S names size st e l. (
 pub both-returns-clause-came : goal.both-returns-clause-came
 both-returns-clause-came g m c = λ S names size st e l.
     let w = c.evaluate_call-came in
-    let under = moved _ _ w.ensures.base w.ensures.room (sub (fits S c.args.second.now) l (snd _ _ l.fits)) in
-    let f = rw w.ensures.context at c.evaluate_call.ensures.came in (
-      λ i p q. (f S names size st e under).0 i p (omega (arith, q, w.ensures.base)) ∙ (w.ensures.came S names size st e (sub (fits S c.args.first.now) l (fst _ _ l.fits))).0 i p q,
+    let under = moved _ _ w.ensures.stays.0 w.ensures.stays.3 (sub (fits S c.args.second.now) l (snd _ _ l.fits)) in
+    let f = rw w.ensures.stays.1 at c.evaluate_call.ensures.came in (
+      λ i p q. (f S names size st e under).0 i p (omega (arith, q, w.ensures.stays.0)) ∙ (w.ensures.came S names size st e (sub (fits S c.args.first.now) l (fst _ _ l.fits))).0 i p q,
       λ start k a.
           let came = (w.ensures.came S names size st e (sub (fits S c.args.first.now) l (fst _ _ l.fits))).1 start (Then (RightOfAnd (erase c.args.second.now)) ∷ k) a in
           let none = sym c.is_left.ensures ∙ c.if-is_left.false in
@@ -232,9 +232,9 @@ either-returns-then-is_true_now-clause-came g m c = λ S names size st e l. (
 pub either-returns-clause-came : goal.either-returns-clause-came
 either-returns-clause-came g m c = λ S names size st e l.
     let w = c.evaluate_call-came in
-    let under = moved _ _ w.ensures.base w.ensures.room (sub (fits S c.args.second.now) l (snd _ _ l.fits)) in
-    let f = rw w.ensures.context at c.evaluate_call.ensures.came in (
-      λ i p q. (f S names size st e under).0 i p (omega (arith, q, w.ensures.base)) ∙ (w.ensures.came S names size st e (sub (fits S c.args.first.now) l (fst _ _ l.fits))).0 i p q,
+    let under = moved _ _ w.ensures.stays.0 w.ensures.stays.3 (sub (fits S c.args.second.now) l (snd _ _ l.fits)) in
+    let f = rw w.ensures.stays.1 at c.evaluate_call.ensures.came in (
+      λ i p q. (f S names size st e under).0 i p (omega (arith, q, w.ensures.stays.0)) ∙ (w.ensures.came S names size st e (sub (fits S c.args.first.now) l (fst _ _ l.fits))).0 i p q,
       λ start k a.
           let came = (w.ensures.came S names size st e (sub (fits S c.args.first.now) l (fst _ _ l.fits))).1 start (Then (RightOfOr (erase c.args.second.now)) ∷ k) a in
           let none = sym c.is_left.ensures ∙ c.if-is_left.false in
@@ -303,9 +303,9 @@ pub choose-returns-clause-came : goal.choose-returns-clause-came
 choose-returns-clause-came g m c = elim c.if-is_true_now.branch [
   | choose-then-is_true_now x ↦ λ S names size st e l.
       let w = c.test-came in
-      let under = moved _ _ w.ensures.base w.ensures.room (sub (every (map (fits S) c.args.first.now)) l (fst _ _ (snd _ _ l.fits))) in
-      let f = rw (x.chosen-is, w.ensures.context) at c.body.ensures.came in (
-        λ i p q. (f S names size st e under).0 i p (omega (arith, q, w.ensures.base)) ∙ w.ensures.kept S names size st e (sub (fits S c.args.condition.now) l (fst _ _ l.fits)) i p q,
+      let under = moved _ _ w.ensures.stays.0 w.ensures.stays.3 (sub (every (map (fits S) c.args.first.now)) l (fst _ _ (snd _ _ l.fits))) in
+      let f = rw (x.chosen-is, w.ensures.stays.1) at c.body.ensures.came in (
+        λ i p q. (f S names size st e under).0 i p (omega (arith, q, w.ensures.stays.0)) ∙ w.ensures.kept S names size st e (sub (fits S c.args.condition.now) l (fst _ _ l.fits)) i p q,
         λ start k a.
             let none = sym c.is_left.ensures ∙ c.if-is_left.false in
             let some = w.ensures.came.1 none in
@@ -315,9 +315,9 @@ choose-returns-clause-came g m c = elim c.if-is_true_now.branch [
       )
   | choose-else-is_true_now x ↦ λ S names size st e l.
       let w = c.test-came in
-      let under = moved _ _ w.ensures.base w.ensures.room (sub (every (map (fits S) c.args.second.now)) l (snd _ _ (snd _ _ l.fits))) in
-      let f = rw (x.chosen-is, w.ensures.context) at c.body.ensures.came in (
-        λ i p q. (f S names size st e under).0 i p (omega (arith, q, w.ensures.base)) ∙ w.ensures.kept S names size st e (sub (fits S c.args.condition.now) l (fst _ _ l.fits)) i p q,
+      let under = moved _ _ w.ensures.stays.0 w.ensures.stays.3 (sub (every (map (fits S) c.args.second.now)) l (snd _ _ (snd _ _ l.fits))) in
+      let f = rw (x.chosen-is, w.ensures.stays.1) at c.body.ensures.came in (
+        λ i p q. (f S names size st e under).0 i p (omega (arith, q, w.ensures.stays.0)) ∙ w.ensures.kept S names size st e (sub (fits S c.args.condition.now) l (fst _ _ l.fits)) i p q,
         λ start k a.
             let none = sym c.is_left.ensures ∙ c.if-is_left.false in
             let some = w.ensures.came.1 none in
@@ -392,10 +392,10 @@ body-nodes-preserved g m c =
     let short = in_front c.in-Some.before.now c.in-Some.last.now c.node-item.result c.nodes.node-index whole c.nodes-test.true c.node-item.is in
     let some = w.came.1 (sym c.is_left.ensures ∙ c.if-is_left.false) in
     record {
-      base = w.base ∙ old.base;
-      context = w.context ∙ old.context;
-      room = w.room ∙ old.room;
-      less = omega (arith, w.less, old.less);
+      base = w.stays.0 ∙ old.base;
+      context = w.stays.1 ∙ old.context;
+      room = w.stays.3 ∙ old.room;
+      less = omega (arith, w.stays.2, old.less);
       kept = λ S names size st e l i p q.
           let loop = c.nodes in
           let inv = loop.invariant in
@@ -471,10 +471,10 @@ passage-nodes-preserved g m c =
     let old = c.nodes.invariant in
     let some = w.came.1 (sym c.is_left.ensures ∙ c.if-is_left.false) in
     record {
-      base = w.base ∙ old.base;
-      context = w.context ∙ old.context;
-      room = w.room ∙ old.room;
-      less = omega (arith, w.less, old.less);
+      base = w.stays.0 ∙ old.base;
+      context = w.stays.1 ∙ old.context;
+      room = w.stays.3 ∙ old.room;
+      less = omega (arith, w.stays.2, old.less);
       kept = λ S names size st e l i p q.
           let loop = c.nodes in
           let inv = loop.invariant in
@@ -594,7 +594,7 @@ keep_any-returns-then-slot-room-clause-came g m c = λ name.
     only_left _ (over_left c.over.result c.over.new.self.value c.over.new.self.leave _ o.gives) (λ S start k names size st e l a.
     let came = (w.ensures.came S names size st e (sub (fits S c.args.value.now) l (snd _ _ l.fits))).1 start (Then (AssignTo name) ∷ k) a in
     let v = given w.result w.new.self.value w.new.self.leave (sym c.is_left.ensures ∙ c.if-is_left.false) came in
-    rw (o.gives, o.left, o.store) (_, v, refl))
+    rw (o.gives, o.stays.2, o.stays.3) (_, v, refl))
 
 pub keep_any-returns-clause-kept : goal.keep_any-returns-clause-kept
 keep_any-returns-clause-kept g m c = λ name S names size st e l i p q.
@@ -612,8 +612,8 @@ keep_any-returns-clause-came g m c = λ name.
       λ S start k names size st e l a.
           let come = (w.ensures.came S names size st e (sub (fits S c.args.value.now) l (snd _ _ l.fits))).1 start (Then (AssignTo name) ∷ k) a in
           let v = given w.result w.new.self.value w.new.self.leave (sym c.is_left.ensures ∙ c.if-is_left.false) come in
-          let len : length names ≤ length w.new.room = omega (arith, l.within, l.below, l.room, w.ensures.room) in
-          rw (c.move_to.ensures.left, c.move_to.ensures.store) (assigned name (AssignTo name) names c.args.slot w.new.room c.move_to.new.room (value_of w.result w.new.self.value) _ _ plainly len (fst _ _ l.fits) (wrote t.0 t.1 t.2) v),
+          let len : length names ≤ length w.new.room = omega (arith, l.within, l.below, l.room, w.ensures.stays.3) in
+          rw (c.move_to.ensures.stays.2, c.move_to.ensures.stays.3) (assigned name (AssignTo name) names c.args.slot w.new.room c.move_to.new.room (value_of w.result w.new.self.value) _ _ plainly len (fst _ _ l.fits) (wrote t.0 t.1 t.2) v),
     )
 
 pub begin-returns-in-Local-clause-came : goal.begin-returns-in-Local-clause-came
@@ -625,7 +625,7 @@ begin-returns-in-Local-clause-came g m c = λ S names size st e l. (
       let len : length names ≤ length c.args.room.now = omega (arith, l.within, l.below, l.room) in
       let b = begins _ _ k _ _ _ (shows-local c.args.code.now x.slot x.field-1 x.field-2 x.is) a in
       let r = c.read in
-      rw (r.ensures.left, r.ensures.store) (reads S _ start _ _ k c.args.depth _ x.field-1 names c.args.room.now x.slot _ (outcome r.result r.new.self.value r.new.self.leave) len s r.ensures.gives b),
+      rw (r.ensures.stays.2, r.ensures.stays.3) (reads S _ start _ _ k c.args.depth _ x.field-1 names c.args.room.now x.slot _ (outcome r.result r.new.self.value r.new.self.leave) len s r.ensures.gives b),
 )
 
 pub begin_set-returns-in-SetLocal-clause-came : goal.begin_set-returns-in-SetLocal-clause-came
@@ -663,7 +663,7 @@ leave_with-returns-clause-came g m c = λ S names size st e l.
           let came = (w.ensures.came S names size st e (sub (fits S c.args.value.now) l l.fits)).1 start (Then ReturnOf ∷ k) a in
           let none = sym c.is_left.ensures ∙ c.if-is_left.false in
           let g = given w.result w.new.self.value w.new.self.leave none came in
-          rw (c.take.ensures.value, c.take.ensures.left, c.take.ensures.store) (on _ g refl),
+          rw (c.take.ensures.value, c.take.ensures.stays.2, c.take.ensures.stays.3) (on _ g refl),
     )
 
 pub set_local-returns-then-is_left-clause-kept : goal.set_local-returns-then-is_left-clause-kept
@@ -687,8 +687,8 @@ set_local-returns-clause-came g m c = λ name step is S start k names size st e 
     let come = (w.ensures.came S names size st e (sub (fits S c.args.value.now) l (snd _ _ l.fits))).1 start (Then step ∷ k) a in
     let none = sym c.is_left.ensures ∙ c.if-is_left.false in
     let v = given w.result w.new.self.value w.new.self.leave none come in
-    let len : length names ≤ length w.new.room = omega (arith, l.within, l.below, l.room, w.ensures.room) in
-    rw (c.write.ensures.left, c.write.ensures.store) (assigned name step names c.args.slot w.new.room c.write.new.room (value_of w.result w.new.self.value) _ _ is len (fst _ _ l.fits) c.write.ensures.written v)
+    let len : length names ≤ length w.new.room = omega (arith, l.within, l.below, l.room, w.ensures.stays.3) in
+    rw (c.write.ensures.stays.2, c.write.ensures.stays.3) (assigned name step names c.args.slot w.new.room c.write.new.room (value_of w.result w.new.self.value) _ _ is len (fst _ _ l.fits) c.write.ensures.written v)
 
 pub repeat-returns-then-not-goes_on-clause-came : goal.repeat-returns-then-not-goes_on-clause-came
 repeat-returns-then-not-goes_on-clause-came g m c = λ S names size st e l.
@@ -729,11 +729,11 @@ repeat-returns-then-not-goes_on-2-clause-came g m c = λ S names size st e l.
     let inv = c.turns.invariant in
     let w = c.test-came in
     let under = moved _ _ inv.base inv.room (sub (fits S c.args.condition.now) l (fst _ _ l.fits)) in
-    let within = moved _ _ (w.ensures.base ∙ inv.base) (w.ensures.room ∙ inv.room) (sub (every (map (fits S) c.args.body.now)) l (snd _ _ l.fits)) in (
+    let within = moved _ _ (w.ensures.stays.0 ∙ inv.base) (w.ensures.stays.3 ∙ inv.room) (sub (every (map (fits S) c.args.body.now)) l (snd _ _ l.fits)) in (
       λ i p q.
           let f = rw inv.context at w.ensures.kept in
-          let j = rw (w.ensures.context, inv.context) at c.passage-came.ensures.kept in
-          j S names size st e within i p (omega (arith, q, w.ensures.base, inv.base)) ∙ (f S names size st e under i p (omega (arith, q, inv.base)) ∙ inv.kept S names size st e l i p q),
+          let j = rw (w.ensures.stays.1, inv.context) at c.passage-came.ensures.kept in
+          j S names size st e within i p (omega (arith, q, w.ensures.stays.0, inv.base)) ∙ (f S names size st e under i p (omega (arith, q, inv.base)) ∙ inv.kept S names size st e l i p q),
       λ start k a.
           let i1 = on _ (inv.came S start k names size st e l a) refl in
           let none = sym c.is_left.ensures ∙ c.if-is_left.false in
@@ -744,7 +744,7 @@ repeat-returns-then-not-goes_on-2-clause-came g m c = λ S names size st e l.
           let y = c.passage-came in
           let m1 = test_true (t ∙ c.if-not-is_true_now.false) v in
           let stop = sym c.goes_on-in-turns.ensures ∙ c.if-not-goes_on-2.true in
-          let j = rw (w.ensures.context, inv.context) at (y.ensures.came.0 (stopped_left _ _ _ stop)) in
+          let j = rw (w.ensures.stays.1, inv.context) at (y.ensures.came.0 (stopped_left _ _ _ stop)) in
           let e2 = j S start (Again (erase c.args.condition.now) (map erase c.args.body.now) ∷ k) names size st e within m1 in
           rw (c.out_of_loop-then-not-goes_on-2.ensures stop) (again_out S _ start _ _ _ (erase c.args.condition.now) (map erase c.args.body.now) k _ _ _ stop e2),
     )
@@ -755,19 +755,19 @@ repeat-turns-preserved g m c =
     let old = c.turns.invariant in
     let y = c.passage-came.ensures in
     record {
-      base = y.base ∙ (w.base ∙ old.base);
-      context = y.context ∙ (w.context ∙ old.context);
-      room = y.room ∙ (w.room ∙ old.room);
-      less = omega (arith, y.less, w.less, old.less);
+      base = y.stays.0 ∙ (w.stays.0 ∙ old.base);
+      context = y.stays.1 ∙ (w.stays.1 ∙ old.context);
+      room = y.stays.3 ∙ (w.stays.3 ∙ old.room);
+      less = omega (arith, y.stays.2, w.stays.2, old.less);
       kept = λ S names size st e l i p q.
           let inv = c.turns.invariant in
           let w = c.test-came in
           let under = moved _ _ inv.base inv.room (sub (fits S c.args.condition.now) l (fst _ _ l.fits)) in
           let y = c.passage-came in
-          let within = moved _ _ (w.ensures.base ∙ inv.base) (w.ensures.room ∙ inv.room) (sub (every (map (fits S) c.args.body.now)) l (snd _ _ l.fits)) in
+          let within = moved _ _ (w.ensures.stays.0 ∙ inv.base) (w.ensures.stays.3 ∙ inv.room) (sub (every (map (fits S) c.args.body.now)) l (snd _ _ l.fits)) in
           let f = rw inv.context at w.ensures.kept in
-          let j = rw (w.ensures.context, inv.context) at y.ensures.kept in
-          j S names size st e within i p (omega (arith, q, w.ensures.base, inv.base)) ∙ (f S names size st e under i p (omega (arith, q, inv.base)) ∙ inv.kept S names size st e l i p q);
+          let j = rw (w.ensures.stays.1, inv.context) at y.ensures.kept in
+          j S names size st e within i p (omega (arith, q, w.ensures.stays.0, inv.base)) ∙ (f S names size st e under i p (omega (arith, q, inv.base)) ∙ inv.kept S names size st e l i p q);
       came = λ S start k names size st e l a.
           let inv = c.turns.invariant in
           let w = c.test-came in
@@ -779,13 +779,13 @@ repeat-turns-preserved g m c =
           let v = f S start (Test (erase c.args.condition.now) (map erase c.args.body.now) ∷ k) names size st e under i1 in
           let t = some.1 ∙ sym (c.is_true_now.ensures none) in
           let y = c.passage-came in
-          let within = moved _ _ (w.ensures.base ∙ inv.base) (w.ensures.room ∙ inv.room) (sub (every (map (fits S) c.args.body.now)) l (snd _ _ l.fits)) in
+          let within = moved _ _ (w.ensures.stays.0 ∙ inv.base) (w.ensures.stays.3 ∙ inv.room) (sub (every (map (fits S) c.args.body.now)) l (snd _ _ l.fits)) in
           let m1 = test_true (t ∙ c.if-not-is_true_now.false) v in
           let on_again = sym c.goes_on-in-turns.ensures ∙ c.if-not-goes_on-2.false in
           let behind = Again (erase c.args.condition.now) (map erase c.args.body.now) ∷ k in
           again_unread S _ start _ y.result y.new.self.value y.new.self.leave _ (erase c.args.condition.now) (map erase c.args.body.now) k _ _ _ on_again
-          (λ so. let j = rw (w.ensures.context, inv.context) at (y.ensures.came.0 so) in j S start behind names size st e within m1)
-          (λ so. let some = y.ensures.came.1 so in let j = rw (w.ensures.context, inv.context) at some.1 in (some.0, j S start behind names size st e within m1));
+          (λ so. let j = rw (w.ensures.stays.1, inv.context) at (y.ensures.came.0 so) in j S start behind names size st e within m1)
+          (λ so. let some = y.ensures.came.1 so in let j = rw (w.ensures.stays.1, inv.context) at some.1 in (some.0, j S start behind names size st e within m1));
     }
 
 pub repeat-turns-preserved-then-is_left : goal.repeat-turns-preserved-then-is_left
@@ -793,10 +793,10 @@ repeat-turns-preserved-then-is_left g m c =
     let w = c.test-came.ensures in
     let old = c.turns.invariant in
     record {
-      base = w.base ∙ old.base;
-      context = w.context ∙ old.context;
-      room = w.room ∙ old.room;
-      less = omega (arith, w.less, old.less);
+      base = w.stays.0 ∙ old.base;
+      context = w.stays.1 ∙ old.context;
+      room = w.stays.3 ∙ old.room;
+      less = omega (arith, w.stays.2, old.less);
       kept = λ S names size st e l i p q.
           let inv = c.turns.invariant in
           let w = c.test-came in
@@ -821,7 +821,7 @@ update_local-returns-then-is_left-clause-came g m c = λ name S names size st e 
       let len : length names ≤ length c.args.room.now = omega (arith, l.within, l.below, l.room) in
       let r = c.read-current in
       let come = reads S _ start _ _ (Then (ReadOf (OfLocal name) c.args.op (erase c.args.value.now) c.args.at) ∷ k) c.args.depth _ name names c.args.room.now c.args.slot _ (outcome r.result r.new.self.value r.new.self.leave) len (fst _ _ l.fits) r.ensures.gives a in
-      rw (r.ensures.left, r.ensures.store) (passes S _ start _ r.result r.new.self.value r.new.self.leave _ (ReadOf (OfLocal name) c.args.op (erase c.args.value.now) c.args.at) k _ _ _ (sym c.is_left.ensures ∙ c.if-is_left.true) come),
+      rw (r.ensures.stays.2, r.ensures.stays.3) (passes S _ start _ r.result r.new.self.value r.new.self.leave _ (ReadOf (OfLocal name) c.args.op (erase c.args.value.now) c.args.at) k _ _ _ (sym c.is_left.ensures ∙ c.if-is_left.true) come),
 )
 
 pub update_local-returns-then-is_true_now-clause-came : goal.update_local-returns-then-is_true_now-clause-came
@@ -835,15 +835,15 @@ update_local-returns-then-is_true_now-clause-came g m c = λ name S names size s
       let g1 = given r.result r.new.self.value r.new.self.leave none come in
       let v = value_of r.result r.new.self.value in
       let t = sym (c.is_true_now.ensures none) ∙ c.if-is_true_now.true in
-      rw (r.ensures.left, r.ensures.store) (comes S _ start _ _ k _ _ _ _ _ (gave r.result r.new.self.value r.new.self.leave none) (or_else_stays S _ start _ v (OfLocal name) c.args.op (erase c.args.value.now) c.args.at c.in-OrElse.is t g1)),
+      rw (r.ensures.stays.2, r.ensures.stays.3) (comes S _ start _ _ k _ _ _ _ _ (gave r.result r.new.self.value r.new.self.leave none) (or_else_stays S _ start _ v (OfLocal name) c.args.op (erase c.args.value.now) c.args.at c.in-OrElse.is t g1)),
 )
 
 pub update_local-returns-else-is_true_now-clause-came : goal.update_local-returns-else-is_true_now-clause-came
 update_local-returns-else-is_true_now-clause-came g m c = λ name S names size st e l.
     let r = c.read-current in (
       λ i p q.
-          let f = rw r.ensures.context at c.set_local.ensures.kept in
-          f name S names size st e (moved _ _ r.ensures.base refl l) i p (omega (arith, q, r.ensures.base)),
+          let f = rw r.ensures.stays.1 at c.set_local.ensures.kept in
+          f name S names size st e (moved _ _ r.ensures.stays.0 refl l) i p (omega (arith, q, r.ensures.stays.0)),
       λ start k a.
           let len : length names ≤ length c.args.room.now = omega (arith, l.within, l.below, l.room) in
           let come = reads S _ start _ _ (Then (ReadOf (OfLocal name) c.args.op (erase c.args.value.now) c.args.at) ∷ k) c.args.depth _ name names c.args.room.now c.args.slot _ (outcome r.result r.new.self.value r.new.self.leave) len (fst _ _ l.fits) r.ensures.gives a in
@@ -851,8 +851,8 @@ update_local-returns-else-is_true_now-clause-came g m c = λ name S names size s
           let g1 = given r.result r.new.self.value r.new.self.leave none come in
           let v = value_of r.result r.new.self.value in
           let t = sym (c.is_true_now.ensures none) ∙ c.if-is_true_now.false in
-          let under = moved _ _ r.ensures.base refl l in
-          let f = rw (r.ensures.context, r.ensures.left, r.ensures.store) at c.set_local.ensures.came in
+          let under = moved _ _ r.ensures.stays.0 refl l in
+          let f = rw (r.ensures.stays.1, r.ensures.stays.2, r.ensures.stays.3) at c.set_local.ensures.came in
           f name (WriteTo (OfLocal name) c.args.at) (updating c.args.at) S start k names size st e under (or_else_goes S _ start _ v (OfLocal name) c.args.op (erase c.args.value.now) c.args.at c.in-OrElse.is t g1),
     )
 
@@ -867,15 +867,15 @@ update_local-returns-then-not-is_true_now-clause-came g m c = λ name S names si
       let g1 = given r.result r.new.self.value r.new.self.leave none come in
       let v = value_of r.result r.new.self.value in
       let t = sym (c.is_true_now-in-AndThen.ensures none) ∙ c.if-not-is_true_now.true in
-      rw (r.ensures.left, r.ensures.store) (comes S _ start _ _ k _ _ _ _ _ (gave r.result r.new.self.value r.new.self.leave none) (and_then_stays S _ start _ v (OfLocal name) c.args.op (erase c.args.value.now) c.args.at c.in-AndThen.is t g1)),
+      rw (r.ensures.stays.2, r.ensures.stays.3) (comes S _ start _ _ k _ _ _ _ _ (gave r.result r.new.self.value r.new.self.leave none) (and_then_stays S _ start _ v (OfLocal name) c.args.op (erase c.args.value.now) c.args.at c.in-AndThen.is t g1)),
 )
 
 pub update_local-returns-else-not-is_true_now-clause-came : goal.update_local-returns-else-not-is_true_now-clause-came
 update_local-returns-else-not-is_true_now-clause-came g m c = λ name S names size st e l.
     let r = c.read-current in (
       λ i p q.
-          let f = rw r.ensures.context at c.set_local-in-AndThen.ensures.kept in
-          f name S names size st e (moved _ _ r.ensures.base refl l) i p (omega (arith, q, r.ensures.base)),
+          let f = rw r.ensures.stays.1 at c.set_local-in-AndThen.ensures.kept in
+          f name S names size st e (moved _ _ r.ensures.stays.0 refl l) i p (omega (arith, q, r.ensures.stays.0)),
       λ start k a.
           let len : length names ≤ length c.args.room.now = omega (arith, l.within, l.below, l.room) in
           let come = reads S _ start _ _ (Then (ReadOf (OfLocal name) c.args.op (erase c.args.value.now) c.args.at) ∷ k) c.args.depth _ name names c.args.room.now c.args.slot _ (outcome r.result r.new.self.value r.new.self.leave) len (fst _ _ l.fits) r.ensures.gives a in
@@ -883,8 +883,8 @@ update_local-returns-else-not-is_true_now-clause-came g m c = λ name S names si
           let g1 = given r.result r.new.self.value r.new.self.leave none come in
           let v = value_of r.result r.new.self.value in
           let t = sym (c.is_true_now-in-AndThen.ensures none) ∙ c.if-not-is_true_now.false in
-          let under = moved _ _ r.ensures.base refl l in
-          let f = rw (r.ensures.context, r.ensures.left, r.ensures.store) at c.set_local-in-AndThen.ensures.came in
+          let under = moved _ _ r.ensures.stays.0 refl l in
+          let f = rw (r.ensures.stays.1, r.ensures.stays.2, r.ensures.stays.3) at c.set_local-in-AndThen.ensures.came in
           f name (WriteTo (OfLocal name) c.args.at) (updating c.args.at) S start k names size st e under (and_then_goes S _ start _ v (OfLocal name) c.args.op (erase c.args.value.now) c.args.at c.in-AndThen.is t g1),
     )
 
@@ -892,10 +892,10 @@ pub update_local-returns-then-is_left-2-clause-came : goal.update_local-returns-
 update_local-returns-then-is_left-2-clause-came g m c = λ name S names size st e l.
     let r = c.read-current in
     let y = c.combine-made in
-    let under = moved _ _ r.ensures.base refl (sub (fits S c.args.value.now) l (snd _ _ l.fits)) in (
+    let under = moved _ _ r.ensures.stays.0 refl (sub (fits S c.args.value.now) l (snd _ _ l.fits)) in (
       λ i p q.
-          let f = rw r.ensures.context at y.ensures.came in
-          (f S names size st e under).0 i p (omega (arith, q, r.ensures.base)),
+          let f = rw r.ensures.stays.1 at y.ensures.came in
+          (f S names size st e under).0 i p (omega (arith, q, r.ensures.stays.0)),
       λ start k a.
           let len : length names ≤ length c.args.room.now = omega (arith, l.within, l.below, l.room) in
           let come = reads S _ start _ _ (Then (ReadOf (OfLocal name) c.args.op (erase c.args.value.now) c.args.at) ∷ k) c.args.depth _ name names c.args.room.now c.args.slot _ (outcome r.result r.new.self.value r.new.self.leave) len (fst _ _ l.fits) r.ensures.gives a in
@@ -903,7 +903,7 @@ update_local-returns-then-is_left-2-clause-came g m c = λ name S names size st 
           let g1 = given r.result r.new.self.value r.new.self.leave none come in
           let v = value_of r.result r.new.self.value in
           let g2 = operates S _ start _ v (OfLocal name) c.args.op (erase c.args.value.now) c.args.at c.in_default.not-OrElse c.in_default.not-AndThen g1 in
-          let f = rw (r.ensures.context, r.ensures.left, r.ensures.store) at y.ensures.came in
+          let f = rw (r.ensures.stays.1, r.ensures.stays.2, r.ensures.stays.3) at y.ensures.came in
           let e2 = (f S names size st e under).1 start (Then (WriteTo (OfLocal name) c.args.at) ∷ k) g2 in
           passes S _ start _ y.result y.new.self.value y.new.self.leave _ (WriteTo (OfLocal name) c.args.at) k _ _ _ (sym c.is_left-in_default.ensures ∙ c.if-is_left-2.true) e2,
     )
@@ -912,11 +912,11 @@ pub update_local-returns-else-is_left-2-clause-came : goal.update_local-returns-
 update_local-returns-else-is_left-2-clause-came g m c = λ name S names size st e l.
     let r = c.read-current in
     let y = c.combine-made in
-    let under = moved _ _ r.ensures.base refl (sub (fits S c.args.value.now) l (snd _ _ l.fits)) in (
+    let under = moved _ _ r.ensures.stays.0 refl (sub (fits S c.args.value.now) l (snd _ _ l.fits)) in (
       λ i p q.
-          let f = rw r.ensures.context at y.ensures.came in
+          let f = rw r.ensures.stays.1 at y.ensures.came in
           let s = slot_within name names c.args.slot (fst _ _ l.fits) in
-          kept_write c.args.slot i _ _ _ _ (λ z. omega (arith, z, s, l.within, p)) c.write.ensures.written ∙ (f S names size st e under).0 i p (omega (arith, q, r.ensures.base)),
+          kept_write c.args.slot i _ _ _ _ (λ z. omega (arith, z, s, l.within, p)) c.write.ensures.written ∙ (f S names size st e under).0 i p (omega (arith, q, r.ensures.stays.0)),
       λ start k a.
           let len : length names ≤ length c.args.room.now = omega (arith, l.within, l.below, l.room) in
           let come = reads S _ start _ _ (Then (ReadOf (OfLocal name) c.args.op (erase c.args.value.now) c.args.at) ∷ k) c.args.depth _ name names c.args.room.now c.args.slot _ (outcome r.result r.new.self.value r.new.self.leave) len (fst _ _ l.fits) r.ensures.gives a in
@@ -924,11 +924,11 @@ update_local-returns-else-is_left-2-clause-came g m c = λ name S names size st 
           let g1 = given r.result r.new.self.value r.new.self.leave none come in
           let v = value_of r.result r.new.self.value in
           let g2 = operates S _ start _ v (OfLocal name) c.args.op (erase c.args.value.now) c.args.at c.in_default.not-OrElse c.in_default.not-AndThen g1 in
-          let f = rw (r.ensures.context, r.ensures.left, r.ensures.store) at y.ensures.came in
+          let f = rw (r.ensures.stays.1, r.ensures.stays.2, r.ensures.stays.3) at y.ensures.came in
           let e2 = (f S names size st e under).1 start (Then (WriteTo (OfLocal name) c.args.at) ∷ k) g2 in
           let g3 = given y.result y.new.self.value y.new.self.leave (sym c.is_left-in_default.ensures ∙ c.if-is_left-2.false) e2 in
-          let after : length names ≤ length y.new.room = omega (arith, len, y.ensures.room) in
-          rw (c.write.ensures.left, c.write.ensures.store) (assigned name (WriteTo (OfLocal name) c.args.at) names c.args.slot y.new.room c.write.new.room (value_of y.result y.new.self.value) _ _ (updating c.args.at) after (fst _ _ l.fits) c.write.ensures.written g3),
+          let after : length names ≤ length y.new.room = omega (arith, len, y.ensures.stays.3) in
+          rw (c.write.ensures.stays.2, c.write.ensures.stays.3) (assigned name (WriteTo (OfLocal name) c.args.at) names c.args.slot y.new.room c.write.new.room (value_of y.result y.new.self.value) _ _ (updating c.args.at) after (fst _ _ l.fits) c.write.ensures.written g3),
     )
 
 pub arguments-returns-then-is_left-clause-kept : goal.arguments-returns-then-is_left-clause-kept
@@ -1002,7 +1002,7 @@ arguments-returns-then-self-room-2-clause-came g m c = λ aim at S start k names
     let come = (f S names size st e under).1 start (Then step ∷ k) h1 in
     let v = given w.result w.new.self.value w.new.self.leave (sym c.is_left.ensures ∙ c.if-is_left.false) come in
     let o = c.over.ensures in
-    only_left _ (over_left c.over.result c.over.new.self.value c.over.new.self.leave _ o.gives) (rw (o.gives, o.left, o.store) (_, v, refl))
+    only_left _ (over_left c.over.result c.over.new.self.value c.over.new.self.leave _ o.gives) (rw (o.gives, o.stays.2, o.stays.3) (_, v, refl))
 
 pub arguments-returns-clause-came : goal.arguments-returns-clause-came
 arguments-returns-clause-came g m c = λ aim at S start k names size st e l a.
@@ -1023,18 +1023,18 @@ send-returns-then-is_left-clause-came g m c = λ S names size st e l. (
 pub send-returns-then-is_left-2-clause-came : goal.send-returns-then-is_left-2-clause-came
 send-returns-then-is_left-2-clause-came g m c = λ S names size st e l.
     let w = c.walk_here-came in
-    let under = moved _ _ (c.take-receiver.ensures.base ∙ w.ensures.base) w.ensures.room (sub (every (map (fits S) c.args.args.now)) l (snd _ _ (snd _ _ l.fits))) in (
+    let under = moved _ _ (c.take-receiver.ensures.stays.0 ∙ w.ensures.stays.0) w.ensures.stays.3 (sub (every (map (fits S) c.args.args.now)) l (snd _ _ (snd _ _ l.fits))) in (
       λ i p q.
           let first = (w.ensures.came S names size st e (sub (fits S c.args.receiver.now) l (fst _ _ (snd _ _ l.fits)))).0 i p q in
-          let f = rw (c.take-receiver.ensures.context, w.ensures.context) at c.arguments-came.ensures.kept in
-          f S names size st e under i p (omega (arith, q, c.take-receiver.ensures.base, w.ensures.base)) ∙ first,
+          let f = rw (c.take-receiver.ensures.stays.1, w.ensures.stays.1) at c.arguments-came.ensures.kept in
+          f S names size st e under i p (omega (arith, q, c.take-receiver.ensures.stays.0, w.ensures.stays.0)) ∙ first,
       λ start k a.
           let step = ReceiverOf (text_of S c.args.name) (map erase c.args.args.now) None c.args.at in
           let come = (w.ensures.came S names size st e (sub (fits S c.args.receiver.now) l (fst _ _ (snd _ _ l.fits)))).1 start (Then step ∷ k) a in
           let none = sym c.is_left.ensures ∙ c.if-is_left.false in
           let v = value_of w.result w.new.self.value in
           let g1 = given w.result w.new.self.value w.new.self.leave none come in
-          let f = rw (c.take-receiver.ensures.context, w.ensures.context, c.take-receiver.ensures.left, c.take-receiver.ensures.store) at c.arguments-came.ensures.came in
+          let f = rw (c.take-receiver.ensures.stays.1, w.ensures.stays.1, c.take-receiver.ensures.stays.2, c.take-receiver.ensures.stays.3) at c.arguments-came.ensures.came in
           let p = f (OnReceiver v (text_of S c.args.name) None) c.args.at S start k names size st e under (on _ g1 refl) in
           p.0 (sym c.is_left-2.ensures ∙ c.if-is_left-2.true),
     )
@@ -1157,7 +1157,7 @@ turns-returns-then-room-from-clause-came g m c = λ S names size st e l. (
   λ i p q. refl,
   λ start k a.
       let o = c.over.ensures in
-      rw (o.left, o.store) (cut S _ start _ _ _ k _ _ _ _ o.gives a refl),
+      rw (o.stays.2, o.stays.3) (cut S _ start _ _ _ k _ _ _ _ o.gives a refl),
 )
 
 pub turns-returns-then-self-eq0-clause-came : goal.turns-returns-then-self-eq0-clause-came
@@ -1173,7 +1173,7 @@ turns-returns-then-self-eq0-clause-came g m c = λ S names size st e l. (
       let i = back S start k names size st e l a in
       let more = some_left next c.args.last (rw zl at inv.ordered) in
       let o = c.over-then-self-eq0.ensures in
-      rw (o.gives, o.left, o.store) (turn_too_many more c.if-self-eq0.true i),
+      rw (o.gives, o.stays.2, o.stays.3) (turn_too_many more c.if-self-eq0.true i),
 )
 
 pub turns-returns-then-not-goes_on-clause-came : goal.turns-returns-then-not-goes_on-clause-came
@@ -1199,7 +1199,7 @@ turns-returns-then-not-goes_on-clause-came g m c = λ S names size st e l.
           let within = deeper S block (moved _ _ inv.base (c.start_block.ensures.room ∙ inv.room) l) in
           let later = Counting (next +ℤ pos 1) (c.args.last +ℤ pos 1) (Int c.args.answer) in
           let come = (f S (names ++ own) size st e within).1 start (Turn later (erase_block block) (length names) ∷ k) t in
-          let long : length names ≤ length c.body-came.new.room = omega (arith, l.within, l.below, l.room, c.body-came.ensures.room, c.start_block.ensures.room, inv.room) in
+          let long : length names ≤ length c.body-came.new.room = omega (arith, l.within, l.below, l.room, c.body-came.ensures.stays.3, c.start_block.ensures.room, inv.room) in
           let stop = sym c.goes_on.ensures ∙ c.if-not-goes_on.true in
           rw (c.out_of_loop.ensures stop) (closes_out S _ start _ _ _ later (erase_block block) k _ names own _ _ _ long stop come),
     )
@@ -1227,7 +1227,7 @@ turns-returns-then-next-last-clause-came g m c = λ S names size st e l.
           let within = deeper S block (moved _ _ inv.base (c.start_block.ensures.room ∙ inv.room) l) in
           let later = Counting (next +ℤ pos 1) (c.args.last +ℤ pos 1) (Int c.args.answer) in
           let come = (f S (names ++ own) size st e within).1 start (Turn later (erase_block block) (length names) ∷ k) t in
-          let long : length names ≤ length c.body-came.new.room = omega (arith, l.within, l.below, l.room, c.body-came.ensures.room, c.start_block.ensures.room, inv.room) in
+          let long : length names ≤ length c.body-came.new.room = omega (arith, l.within, l.below, l.room, c.body-came.ensures.stays.3, c.start_block.ensures.room, inv.room) in
           let more_on = sym c.goes_on.ensures ∙ c.if-not-goes_on.false in
           let test = rw zl at c.if-next-last.true in
           let past : c.args.last ≤ℤ next = grind (arith, ints) in
@@ -1245,12 +1245,12 @@ turns-turns-preserved g m c =
     let zn : to_z w64 (of_z w64 (next +ℤ pos 1)) ≡ next +ℤ pos 1 = omega (arith, ints) in
     let ordered : (next +ℤ pos 1) ≤ℤ c.args.last = grind (arith, ints) in
     record {
-      base = y.base ∙ old.base;
-      context = y.context ∙ old.context;
-      room = y.room ∙ (c.start_block.ensures.room ∙ old.room);
-      less = omega (arith, y.less, old.less);
+      base = y.stays.0 ∙ old.base;
+      context = y.stays.1 ∙ old.context;
+      room = y.stays.3 ∙ (c.start_block.ensures.room ∙ old.room);
+      less = omega (arith, y.stays.2, old.less);
       ordered = rw (zn, zl) ordered;
-      within = omega (arith, old.within, y.room, c.start_block.ensures.room);
+      within = omega (arith, old.within, y.stays.3, c.start_block.ensures.room);
       kept = λ S names size st e l i p q.
           let inv = c.turns.invariant in
           let within = deeper S c.args.block.now (moved _ _ inv.base (c.start_block.ensures.room ∙ inv.room) l) in
@@ -1272,7 +1272,7 @@ turns-turns-preserved g m c =
           let f = rw (inv.context, c.as_slice.ensures) at c.body-came.ensures.came in
           let later = Counting (next +ℤ pos 1) (last +ℤ pos 1) (Int answer) in
           let come = (f S (names ++ own) size st e within).1 start (Turn later (erase_block block) (length names) ∷ k) t in
-          let long : length names ≤ length c.body-came.new.room = omega (arith, l.within, l.below, l.room, c.body-came.ensures.room, c.start_block.ensures.room, inv.room) in
+          let long : length names ≤ length c.body-came.new.room = omega (arith, l.within, l.below, l.room, c.body-came.ensures.stays.3, c.start_block.ensures.room, inv.room) in
           let more_on = sym c.goes_on.ensures ∙ c.if-not-goes_on.false in
           rw zn (closes S _ start _ _ _ later (erase_block block) k _ names own _ _ _ long more_on come);
     }
@@ -1296,17 +1296,17 @@ send_block-returns-then-is_left-2-clause-came g m c = λ S names size st e l.
     let first = sub (fits S c.args.receiver.now) l (fst _ _ right) in
     let t = c.take-receiver.ensures in
     let y = c.arguments-came in
-    let under = moved _ _ w.ensures.base w.ensures.room (sub (every (map (fits S) c.args.args.now)) l (fst _ _ (snd _ _ right))) in (
+    let under = moved _ _ w.ensures.stays.0 w.ensures.stays.3 (sub (every (map (fits S) c.args.args.now)) l (fst _ _ (snd _ _ right))) in (
       λ i p q.
-          let f = rw (t.context, t.base, w.ensures.context) at y.ensures.kept in
-          let stays = f S names size st e under i p (omega (arith, q, w.ensures.base)) ∙ (w.ensures.came S names size st e first).0 i p q in
+          let f = rw (t.stays.1, t.stays.0, w.ensures.stays.1) at y.ensures.kept in
+          let stays = f S names size st e under i p (omega (arith, q, w.ensures.stays.0)) ∙ (w.ensures.came S names size st e first).0 i p q in
           stays,
       λ start k a.
           let step = ReceiverOf (text_of S c.args.name) (map erase c.args.args.now) (Some (erase_block c.args.block.now)) c.args.at in
           let come = (w.ensures.came S names size st e first).1 start (Then step ∷ k) a in
           let none = sym c.is_left.ensures ∙ c.if-is_left.false in
           let v = value_of w.result w.new.self.value in
-          let f = rw (t.context, t.base, t.left, t.store, w.ensures.context) at y.ensures.came in
+          let f = rw (t.stays.1, t.stays.0, t.stays.2, t.stays.3, w.ensures.stays.1) at y.ensures.came in
           let ends = f (OnReceiver v (text_of S c.args.name) (Some (erase_block c.args.block.now))) c.args.at S start k names size st e under (on _ (given w.result w.new.self.value w.new.self.leave none come) refl) in
           ends.0 (sym c.is_left-2.ensures ∙ c.if-is_left-2.true),
     )
@@ -1318,14 +1318,14 @@ send_block-returns-in-Counting-clause-came g m c = λ S names size st e l.
     let first = sub (fits S c.args.receiver.now) l (fst _ _ right) in
     let t = c.take-receiver.ensures in
     let y = c.arguments-came in
-    let under = moved _ _ w.ensures.base w.ensures.room (sub (every (map (fits S) c.args.args.now)) l (fst _ _ (snd _ _ right))) in
+    let under = moved _ _ w.ensures.stays.0 w.ensures.stays.3 (sub (every (map (fits S) c.args.args.now)) l (fst _ _ (snd _ _ right))) in
     let o = c.iterations.ensures in
-    let base : c.iterations.new.self.base ≡ c.args.self.now.base = o.base ∙ (t.base ∙ w.ensures.base) in
-    let inside = moved _ _ base (y.ensures.room ∙ w.ensures.room) (sub (block_fits S c.args.block.now) l (snd _ _ (snd _ _ right))) in (
+    let base : c.iterations.new.self.base ≡ c.args.self.now.base = o.stays.0 ∙ (t.stays.0 ∙ w.ensures.stays.0) in
+    let inside = moved _ _ base (y.ensures.room ∙ w.ensures.stays.3) (sub (block_fits S c.args.block.now) l (snd _ _ (snd _ _ right))) in (
       λ i p q.
-          let f = rw (t.context, t.base, w.ensures.context) at y.ensures.kept in
-          let stays = f S names size st e under i p (omega (arith, q, w.ensures.base)) ∙ (w.ensures.came S names size st e first).0 i p q in
-          let u = rw (o.context, y.ensures.context, t.context, w.ensures.context) at c.turns.ensures.came in
+          let f = rw (t.stays.1, t.stays.0, w.ensures.stays.1) at y.ensures.kept in
+          let stays = f S names size st e under i p (omega (arith, q, w.ensures.stays.0)) ∙ (w.ensures.came S names size st e first).0 i p q in
+          let u = rw (o.stays.1, y.ensures.context, t.stays.1, w.ensures.stays.1) at c.turns.ensures.came in
           (u S names size st e inside).0 i p (omega (arith, q, base)) ∙ stays,
       λ start k a.
           let z1 : to_z w64 (of_z w64 c.in-Counting.rounds.first) ≡ c.in-Counting.rounds.first = search rules in
@@ -1335,26 +1335,26 @@ send_block-returns-in-Counting-clause-came g m c = λ S names size st e l.
           let come = (w.ensures.came S names size st e first).1 start (Then step ∷ k) a in
           let none = sym c.is_left.ensures ∙ c.if-is_left.false in
           let v = value_of w.result w.new.self.value in
-          let f = rw (t.context, t.base, t.left, t.store, w.ensures.context) at y.ensures.came in
+          let f = rw (t.stays.1, t.stays.0, t.stays.2, t.stays.3, w.ensures.stays.1) at y.ensures.came in
           let ends = f (OnReceiver v (text_of S c.args.name) (Some (erase_block c.args.block.now))) c.args.at S start k names size st e under (on _ (given w.result w.new.self.value w.new.self.leave none come) refl) in
           let at_end = ends.1 (sym c.is_left-2.ensures ∙ c.if-is_left-2.false) in
-          let short : w.new.self.base ≤ length w.new.room = still_within w.ensures.base w.ensures.room l.room in
-          let from = rw t.base at y.ensures.fits in
-          let end = rw t.base at y.ensures.base in
+          let short : w.new.self.base ≤ length w.new.room = still_within w.ensures.stays.0 w.ensures.stays.3 l.room in
+          let from = rw t.stays.0 at y.ensures.fits in
+          let end = rw t.stays.0 at y.ensures.base in
           let edge = from short in
           let last = end (sym c.is_left-2.ensures ∙ c.if-is_left-2.false) in
-          let passed = rw t.base at c.passed-args.ensures in
+          let passed = rw t.stays.0 at c.passed-args.ensures in
           let long : w.new.self.base + length c.args.args.now ≤ length y.new.room = up_to_end w.new.self.base _ _ (length c.args.args.now) edge last in
           let values = passed long in
           let number = same_is (builtin_of (text_of S c.args.name)) c.args.method (fst _ _ l.fits) in
           let args = map plain (take (length c.args.args.now) (drop w.new.self.base y.new.room)) in
           let answer = deed c.args.self.now.context.program.now v (text_of S c.args.name) args (Some (length c.args.block.now.params)) in
-          let none_own = (rw (y.ensures.context, t.context, w.ensures.context, t.value) at (c.target_of.ensures.none c.in_default.is)) S st in
+          let none_own = (rw (y.ensures.context, t.stays.1, w.ensures.stays.1, t.value) at (c.target_of.ensures.none c.in_default.is)) S st in
           let table = answers_block c.args.block.now v (text_of S c.args.name) args c.args.at answer none_own (ap (λ (ns : Program). deed ns v (text_of S c.args.name) args (Some (length c.args.block.now.params))) (sym e)) at_end in
           let r = c.in-Counting.rounds in
-          let said = rw (y.ensures.context, t.context, w.ensures.context, t.value, values, c.len.ensures, c.in-Counting.is) at o.opens in
+          let said = rw (y.ensures.context, t.stays.1, w.ensures.stays.1, t.value, values, c.len.ensures, c.in-Counting.is) at o.opens in
           let turning = block_turns S _ start _ _ answer (Counting c.in-Counting.rounds.first (c.in-Counting.rounds.last +ℤ pos 1) (Int c.in-Counting.rounds.answer)) (erase_block c.args.block.now) c.args.at k _ _ _ (said (text_of S c.args.name) number) table in
-          let u = rw (z1, z2, z3, o.context, o.left, o.store, y.ensures.context, t.context, w.ensures.context) at c.turns.ensures.came in
+          let u = rw (z1, z2, z3, o.stays.1, o.stays.2, o.stays.3, y.ensures.context, t.stays.1, w.ensures.stays.1) at c.turns.ensures.came in
           (u S names size st e inside).1 start k turning,
     )
 
@@ -1365,35 +1365,35 @@ send_block-returns-clause-came g m c = λ S names size st e l.
     let first = sub (fits S c.args.receiver.now) l (fst _ _ right) in
     let t = c.take-receiver.ensures in
     let y = c.arguments-came in
-    let under = moved _ _ w.ensures.base w.ensures.room (sub (every (map (fits S) c.args.args.now)) l (fst _ _ (snd _ _ right))) in (
+    let under = moved _ _ w.ensures.stays.0 w.ensures.stays.3 (sub (every (map (fits S) c.args.args.now)) l (fst _ _ (snd _ _ right))) in (
       λ i p q.
-          let f = rw (t.context, t.base, w.ensures.context) at y.ensures.kept in
-          let stays = f S names size st e under i p (omega (arith, q, w.ensures.base)) ∙ (w.ensures.came S names size st e first).0 i p q in
+          let f = rw (t.stays.1, t.stays.0, w.ensures.stays.1) at y.ensures.kept in
+          let stays = f S names size st e under i p (omega (arith, q, w.ensures.stays.0)) ∙ (w.ensures.came S names size st e first).0 i p q in
           stays,
       λ start k a.
           let step = ReceiverOf (text_of S c.args.name) (map erase c.args.args.now) (Some (erase_block c.args.block.now)) c.args.at in
           let come = (w.ensures.came S names size st e first).1 start (Then step ∷ k) a in
           let none = sym c.is_left.ensures ∙ c.if-is_left.false in
           let v = value_of w.result w.new.self.value in
-          let f = rw (t.context, t.base, t.left, t.store, w.ensures.context) at y.ensures.came in
+          let f = rw (t.stays.1, t.stays.0, t.stays.2, t.stays.3, w.ensures.stays.1) at y.ensures.came in
           let ends = f (OnReceiver v (text_of S c.args.name) (Some (erase_block c.args.block.now))) c.args.at S start k names size st e under (on _ (given w.result w.new.self.value w.new.self.leave none come) refl) in
           let at_end = ends.1 (sym c.is_left-2.ensures ∙ c.if-is_left-2.false) in
-          let short : w.new.self.base ≤ length w.new.room = still_within w.ensures.base w.ensures.room l.room in
-          let from = rw t.base at y.ensures.fits in
-          let end = rw t.base at y.ensures.base in
+          let short : w.new.self.base ≤ length w.new.room = still_within w.ensures.stays.0 w.ensures.stays.3 l.room in
+          let from = rw t.stays.0 at y.ensures.fits in
+          let end = rw t.stays.0 at y.ensures.base in
           let edge = from short in
           let last = end (sym c.is_left-2.ensures ∙ c.if-is_left-2.false) in
-          let passed = rw t.base at c.passed-args.ensures in
+          let passed = rw t.stays.0 at c.passed-args.ensures in
           let long : w.new.self.base + length c.args.args.now ≤ length y.new.room = up_to_end w.new.self.base _ _ (length c.args.args.now) edge last in
           let values = passed long in
           let number = same_is (builtin_of (text_of S c.args.name)) c.args.method (fst _ _ l.fits) in
           let args = map plain (take (length c.args.args.now) (drop w.new.self.base y.new.room)) in
           let answer = deed c.args.self.now.context.program.now v (text_of S c.args.name) args (Some (length c.args.block.now.params)) in
-          let none_own = (rw (y.ensures.context, t.context, w.ensures.context, t.value) at (c.target_of.ensures.none c.in_default.is)) S st in
+          let none_own = (rw (y.ensures.context, t.stays.1, w.ensures.stays.1, t.value) at (c.target_of.ensures.none c.in_default.is)) S st in
           let table = answers_block c.args.block.now v (text_of S c.args.name) args c.args.at answer none_own (ap (λ (ns : Program). deed ns v (text_of S c.args.name) args (Some (length c.args.block.now.params))) (sym e)) at_end in
           let o = c.iterations.ensures in
-          let said = rw (y.ensures.context, t.context, w.ensures.context, t.value, values, c.len.ensures, c.in-Done.is) at o.opens in
-          rw (o.left, o.store) (said (text_of S c.args.name) number S start _ (erase_block c.args.block.now) k _ c.args.depth table),
+          let said = rw (y.ensures.context, t.stays.1, w.ensures.stays.1, t.value, values, c.len.ensures, c.in-Done.is) at o.opens in
+          rw (o.stays.2, o.stays.3) (said (text_of S c.args.name) number S start _ (erase_block c.args.block.now) k _ c.args.depth table),
     )
 
 pub begin_other-returns-in-Walk-clause-came : goal.begin_other-returns-in-Walk-clause-came
@@ -1445,52 +1445,52 @@ pub begin-returns-in_default-clause-came : goal.begin-returns-in_default-clause-
 begin-returns-in_default-clause-came g m c = c.begin_other.ensures.came
 
 pub begin_set-returns-in_default-clause-came : goal.begin_set-returns-in_default-clause-came
-begin_set-returns-in_default-clause-came g m c = λ S names size st e l. (λ i p q. refl, λ start k a. let o = c.over.ensures in no_arm S _ k _ _ _ o.gives o.left (ap g.O.ThreadStore.log o.store) (ap g.O.ThreadStore.private o.store) a)
+begin_set-returns-in_default-clause-came g m c = λ S names size st e l. (λ i p q. refl, λ start k a. let o = c.over.ensures in no_arm S _ k _ _ _ o.gives o.stays.2 (ap g.O.ThreadStore.log o.stays.3) (ap g.O.ThreadStore.private o.stays.3) a)
 
 pub begin_update-returns-in_default-clause-came : goal.begin_update-returns-in_default-clause-came
-begin_update-returns-in_default-clause-came g m c = λ S names size st e l. (λ i p q. refl, λ start k a. let o = c.over.ensures in no_arm S _ k _ _ _ o.gives o.left (ap g.O.ThreadStore.log o.store) (ap g.O.ThreadStore.private o.store) a)
+begin_update-returns-in_default-clause-came g m c = λ S names size st e l. (λ i p q. refl, λ start k a. let o = c.over.ensures in no_arm S _ k _ _ _ o.gives o.stays.2 (ap g.O.ThreadStore.log o.stays.3) (ap g.O.ThreadStore.private o.stays.3) a)
 
 pub begin_slow_update-returns-in_default-clause-came : goal.begin_slow_update-returns-in_default-clause-came
-begin_slow_update-returns-in_default-clause-came g m c = λ S names size st e l. (λ i p q. refl, λ start k a. let o = c.over.ensures in no_arm S _ k _ _ _ o.gives o.left (ap g.O.ThreadStore.log o.store) (ap g.O.ThreadStore.private o.store) a)
+begin_slow_update-returns-in_default-clause-came g m c = λ S names size st e l. (λ i p q. refl, λ start k a. let o = c.over.ensures in no_arm S _ k _ _ _ o.gives o.stays.2 (ap g.O.ThreadStore.log o.stays.3) (ap g.O.ThreadStore.private o.stays.3) a)
 
 pub begin_operate-returns-in_default-clause-came : goal.begin_operate-returns-in_default-clause-came
-begin_operate-returns-in_default-clause-came g m c = λ S names size st e l. (λ i p q. refl, λ start k a. let o = c.over.ensures in no_arm S _ k _ _ _ o.gives o.left (ap g.O.ThreadStore.log o.store) (ap g.O.ThreadStore.private o.store) a)
+begin_operate-returns-in_default-clause-came g m c = λ S names size st e l. (λ i p q. refl, λ start k a. let o = c.over.ensures in no_arm S _ k _ _ _ o.gives o.stays.2 (ap g.O.ThreadStore.log o.stays.3) (ap g.O.ThreadStore.private o.stays.3) a)
 
 pub begin_object_operate-returns-in_default-clause-came : goal.begin_object_operate-returns-in_default-clause-came
-begin_object_operate-returns-in_default-clause-came g m c = λ S names size st e l. (λ i p q. refl, λ start k a. let o = c.over.ensures in no_arm S _ k _ _ _ o.gives o.left (ap g.O.ThreadStore.log o.store) (ap g.O.ThreadStore.private o.store) a)
+begin_object_operate-returns-in_default-clause-came g m c = λ S names size st e l. (λ i p q. refl, λ start k a. let o = c.over.ensures in no_arm S _ k _ _ _ o.gives o.stays.2 (ap g.O.ThreadStore.log o.stays.3) (ap g.O.ThreadStore.private o.stays.3) a)
 
 pub begin_slow_operate-returns-in_default-clause-came : goal.begin_slow_operate-returns-in_default-clause-came
-begin_slow_operate-returns-in_default-clause-came g m c = λ S names size st e l. (λ i p q. refl, λ start k a. let o = c.over.ensures in no_arm S _ k _ _ _ o.gives o.left (ap g.O.ThreadStore.log o.store) (ap g.O.ThreadStore.private o.store) a)
+begin_slow_operate-returns-in_default-clause-came g m c = λ S names size st e l. (λ i p q. refl, λ start k a. let o = c.over.ensures in no_arm S _ k _ _ _ o.gives o.stays.2 (ap g.O.ThreadStore.log o.stays.3) (ap g.O.ThreadStore.private o.stays.3) a)
 
 pub read_attribute-returns-in_default-clause-came : goal.read_attribute-returns-in_default-clause-came
-read_attribute-returns-in_default-clause-came g m c = λ S names size st e l. (λ i p q. refl, λ start k a. let o = c.over.ensures in no_arm S _ k _ _ _ o.gives o.left (ap g.O.ThreadStore.log o.store) (ap g.O.ThreadStore.private o.store) a)
+read_attribute-returns-in_default-clause-came g m c = λ S names size st e l. (λ i p q. refl, λ start k a. let o = c.over.ensures in no_arm S _ k _ _ _ o.gives o.stays.2 (ap g.O.ThreadStore.log o.stays.3) (ap g.O.ThreadStore.private o.stays.3) a)
 
 pub begin_send-returns-in_default-clause-came : goal.begin_send-returns-in_default-clause-came
-begin_send-returns-in_default-clause-came g m c = λ S names size st e l. (λ i p q. refl, λ start k a. let o = c.over.ensures in no_arm S _ k _ _ _ o.gives o.left (ap g.O.ThreadStore.log o.store) (ap g.O.ThreadStore.private o.store) a)
+begin_send-returns-in_default-clause-came g m c = λ S names size st e l. (λ i p q. refl, λ start k a. let o = c.over.ensures in no_arm S _ k _ _ _ o.gives o.stays.2 (ap g.O.ThreadStore.log o.stays.3) (ap g.O.ThreadStore.private o.stays.3) a)
 
 pub begin_function-returns-in_default-clause-came : goal.begin_function-returns-in_default-clause-came
-begin_function-returns-in_default-clause-came g m c = λ S names size st e l. (λ i p q. refl, λ start k a. let o = c.over.ensures in no_arm S _ k _ _ _ o.gives o.left (ap g.O.ThreadStore.log o.store) (ap g.O.ThreadStore.private o.store) a)
+begin_function-returns-in_default-clause-came g m c = λ S names size st e l. (λ i p q. refl, λ start k a. let o = c.over.ensures in no_arm S _ k _ _ _ o.gives o.stays.2 (ap g.O.ThreadStore.log o.stays.3) (ap g.O.ThreadStore.private o.stays.3) a)
 
 pub begin_choice-returns-in_default-clause-came : goal.begin_choice-returns-in_default-clause-came
-begin_choice-returns-in_default-clause-came g m c = λ S names size st e l. (λ i p q. refl, λ start k a. let o = c.over.ensures in no_arm S _ k _ _ _ o.gives o.left (ap g.O.ThreadStore.log o.store) (ap g.O.ThreadStore.private o.store) a)
+begin_choice-returns-in_default-clause-came g m c = λ S names size st e l. (λ i p q. refl, λ start k a. let o = c.over.ensures in no_arm S _ k _ _ _ o.gives o.stays.2 (ap g.O.ThreadStore.log o.stays.3) (ap g.O.ThreadStore.private o.stays.3) a)
 
 pub begin_set_field-returns-in_default-clause-came : goal.begin_set_field-returns-in_default-clause-came
-begin_set_field-returns-in_default-clause-came g m c = λ S names size st e l. (λ i p q. refl, λ start k a. let o = c.over.ensures in no_arm S _ k _ _ _ o.gives o.left (ap g.O.ThreadStore.log o.store) (ap g.O.ThreadStore.private o.store) a)
+begin_set_field-returns-in_default-clause-came g m c = λ S names size st e l. (λ i p q. refl, λ start k a. let o = c.over.ensures in no_arm S _ k _ _ _ o.gives o.stays.2 (ap g.O.ThreadStore.log o.stays.3) (ap g.O.ThreadStore.private o.stays.3) a)
 
 pub begin_update_field-returns-in_default-clause-came : goal.begin_update_field-returns-in_default-clause-came
-begin_update_field-returns-in_default-clause-came g m c = λ S names size st e l. (λ i p q. refl, λ start k a. let o = c.over.ensures in no_arm S _ k _ _ _ o.gives o.left (ap g.O.ThreadStore.log o.store) (ap g.O.ThreadStore.private o.store) a)
+begin_update_field-returns-in_default-clause-came g m c = λ S names size st e l. (λ i p q. refl, λ start k a. let o = c.over.ensures in no_arm S _ k _ _ _ o.gives o.stays.2 (ap g.O.ThreadStore.log o.stays.3) (ap g.O.ThreadStore.private o.stays.3) a)
 
 pub begin_new-returns-in_default-clause-came : goal.begin_new-returns-in_default-clause-came
-begin_new-returns-in_default-clause-came g m c = λ S names size st e l. (λ i p q. refl, λ start k a. let o = c.over.ensures in no_arm S _ k _ _ _ o.gives o.left (ap g.O.ThreadStore.log o.store) (ap g.O.ThreadStore.private o.store) a)
+begin_new-returns-in_default-clause-came g m c = λ S names size st e l. (λ i p q. refl, λ start k a. let o = c.over.ensures in no_arm S _ k _ _ _ o.gives o.stays.2 (ap g.O.ThreadStore.log o.stays.3) (ap g.O.ThreadStore.private o.stays.3) a)
 
 pub begin_logic-returns-in_default-clause-came : goal.begin_logic-returns-in_default-clause-came
-begin_logic-returns-in_default-clause-came g m c = λ S names size st e l. (λ i p q. refl, λ start k a. let o = c.over.ensures in no_arm S _ k _ _ _ o.gives o.left (ap g.O.ThreadStore.log o.store) (ap g.O.ThreadStore.private o.store) a)
+begin_logic-returns-in_default-clause-came g m c = λ S names size st e l. (λ i p q. refl, λ start k a. let o = c.over.ensures in no_arm S _ k _ _ _ o.gives o.stays.2 (ap g.O.ThreadStore.log o.stays.3) (ap g.O.ThreadStore.private o.stays.3) a)
 
 pub begin_slow_send-returns-in_default-clause-came : goal.begin_slow_send-returns-in_default-clause-came
-begin_slow_send-returns-in_default-clause-came g m c = λ S names size st e l. (λ i p q. refl, λ start k a. let o = c.over.ensures in no_arm S _ k _ _ _ o.gives o.left (ap g.O.ThreadStore.log o.store) (ap g.O.ThreadStore.private o.store) a)
+begin_slow_send-returns-in_default-clause-came g m c = λ S names size st e l. (λ i p q. refl, λ start k a. let o = c.over.ensures in no_arm S _ k _ _ _ o.gives o.stays.2 (ap g.O.ThreadStore.log o.stays.3) (ap g.O.ThreadStore.private o.stays.3) a)
 
 pub begin_other-returns-in_default-clause-came : goal.begin_other-returns-in_default-clause-came
-begin_other-returns-in_default-clause-came g m c = λ S names size st e l. (λ i p q. refl, λ start k a. let o = c.over.ensures in no_arm S _ k _ _ _ o.gives o.left (ap g.O.ThreadStore.log o.store) (ap g.O.ThreadStore.private o.store) a)
+begin_other-returns-in_default-clause-came g m c = λ S names size st e l. (λ i p q. refl, λ start k a. let o = c.over.ensures in no_arm S _ k _ _ _ o.gives o.stays.2 (ap g.O.ThreadStore.log o.stays.3) (ap g.O.ThreadStore.private o.stays.3) a)
 
 pub begin_update-returns-in-Some-clause-came : goal.begin_update-returns-in-Some-clause-came
 begin_update-returns-in-Some-clause-came g m c = λ S names size st e l.
@@ -1525,7 +1525,7 @@ begin_update_over-returns-in-Some-clause-came g m c = λ S names size st e l.
     )
 
 pub begin_update_over-returns-in_default-clause-came : goal.begin_update_over-returns-in_default-clause-came
-begin_update_over-returns-in_default-clause-came g m c = λ S names size st e l. (λ i p q. refl, λ start k a. let o = c.over.ensures in no_arm S _ k _ _ _ o.gives o.left (ap g.O.ThreadStore.log o.store) (ap g.O.ThreadStore.private o.store) a)
+begin_update_over-returns-in_default-clause-came g m c = λ S names size st e l. (λ i p q. refl, λ start k a. let o = c.over.ensures in no_arm S _ k _ _ _ o.gives o.stays.2 (ap g.O.ThreadStore.log o.stays.3) (ap g.O.ThreadStore.private o.stays.3) a)
 
 pub begin_update-returns-then-is_deep-clause-came : goal.begin_update-returns-then-is_deep-clause-came
 begin_update-returns-then-is_deep-clause-came g m c = c.begin_slow_update.ensures.came
@@ -1537,7 +1537,7 @@ pub begin_update-returns-then-is_send-clause-came : goal.begin_update-returns-th
 begin_update-returns-then-is_send-clause-came g m c = c.begin_update_sent.ensures.came
 
 pub begin_update_sent-returns-in_default-clause-came : goal.begin_update_sent-returns-in_default-clause-came
-begin_update_sent-returns-in_default-clause-came g m c = λ S names size st e l. (λ i p q. refl, λ start k a. let o = c.over.ensures in no_arm S _ k _ _ _ o.gives o.left (ap g.O.ThreadStore.log o.store) (ap g.O.ThreadStore.private o.store) a)
+begin_update_sent-returns-in_default-clause-came g m c = λ S names size st e l. (λ i p q. refl, λ start k a. let o = c.over.ensures in no_arm S _ k _ _ _ o.gives o.stays.2 (ap g.O.ThreadStore.log o.stays.3) (ap g.O.ThreadStore.private o.stays.3) a)
 
 pub begin_update_sent-returns-after-is_combining-clause-came : goal.begin_update_sent-returns-after-is_combining-clause-came
 begin_update_sent-returns-after-is_combining-clause-came g m c = c.begin_slow_update.ensures.came
@@ -1587,9 +1587,9 @@ begin_update_sent-returns-then-is_left-2-clause-came g m c = λ S names size st 
           let z : to_z w64 (of_z w64 c.in-Some.m) ≡ c.in-Some.m = search rules in
           let y = c.operated_with-made in
           let d0 : OrMemory (outcome_of (deed w.new.self.context.program.now (Int (to_z w64 (of_z w64 c.in-Some.m))) (operator S x.op) (value_of w.result w.new.self.value ∷ []) None) x.at) (outcome y.result y.new.self.value y.new.self.leave) = o.gives (operator S x.op) number in
-          let d = rw (z, w.ensures.context, sym e) at d0 in
+          let d = rw (z, w.ensures.stays.1, sym e) at d0 in
           let e2 = (calls S _ start _ _ (Int c.in-Some.m) (operator S x.op) (value_of w.result w.new.self.value ∷ []) x.at waits _ _ _ _ (none_plain S (Int c.in-Some.m) (operator S x.op) refl) d (on _ v1 refl)) in
-          rw (o.left, o.store) (passes S _ start _ y.result y.new.self.value y.new.self.leave _ (WriteTo (OfLocal x.field-1) x.at) k _ _ _ (sym c.is_left-in-Some.ensures ∙ c.if-is_left-2.true) e2),
+          rw (o.stays.2, o.stays.3) (passes S _ start _ y.result y.new.self.value y.new.self.leave _ (WriteTo (OfLocal x.field-1) x.at) k _ _ _ (sym c.is_left-in-Some.ensures ∙ c.if-is_left-2.true) e2),
     )
 
 pub begin_update_sent-returns-in-Some-clause-came : goal.begin_update_sent-returns-in-Some-clause-came
@@ -1617,11 +1617,11 @@ begin_update_sent-returns-in-Some-clause-came g m c = λ S names size st e l.
           let z : to_z w64 (of_z w64 c.in-Some.m) ≡ c.in-Some.m = search rules in
           let y = c.operated_with-made in
           let d0 : OrMemory (outcome_of (deed w.new.self.context.program.now (Int (to_z w64 (of_z w64 c.in-Some.m))) (operator S x.op) (value_of w.result w.new.self.value ∷ []) None) x.at) (outcome y.result y.new.self.value y.new.self.leave) = o.gives (operator S x.op) number in
-          let d = rw (z, w.ensures.context, sym e) at d0 in
+          let d = rw (z, w.ensures.stays.1, sym e) at d0 in
           let e2 = (calls S _ start _ _ (Int c.in-Some.m) (operator S x.op) (value_of w.result w.new.self.value ∷ []) x.at waits _ _ _ _ (none_plain S (Int c.in-Some.m) (operator S x.op) refl) d (on _ v1 refl)) in
           let g3 = given y.result y.new.self.value y.new.self.leave (sym c.is_left-in-Some.ensures ∙ c.if-is_left-2.false) e2 in
-          let after : length names ≤ length w.new.room = omega (arith, len, w.ensures.room) in
-          rw (c.write.ensures.left, c.write.ensures.store, o.left, o.store) (assigned x.field-1 (WriteTo (OfLocal x.field-1) x.at) names x.slot w.new.room c.write.new.room (value_of y.result y.new.self.value) _ _ (updating x.at) after (fst _ _ s) c.write.ensures.written g3),
+          let after : length names ≤ length w.new.room = omega (arith, len, w.ensures.stays.3) in
+          rw (c.write.ensures.stays.2, c.write.ensures.stays.3, o.stays.2, o.stays.3) (assigned x.field-1 (WriteTo (OfLocal x.field-1) x.at) names x.slot w.new.room c.write.new.room (value_of y.result y.new.self.value) _ _ (updating x.at) after (fst _ _ s) c.write.ensures.written g3),
     )
 
 pub begin_operate-returns-in-Some-clause-came : goal.begin_operate-returns-in-Some-clause-came
@@ -1639,7 +1639,7 @@ begin_operate-returns-in-Some-clause-came g m c = λ S names size st e l. (
       let o = c.answer.ensures in
       let number = same_is (builtin_of (text_of S x.field-1)) x.method (fst _ _ s) in
       let b = begins _ _ k _ _ _ (shows-operate c.args.code.now x.method x.field-1 x.left x.right x.at x.is) a in
-      rw (o.gives, o.left, o.store, sym (is.4 S.program (text_of S x.field-1) number))
+      rw (o.gives, o.stays.2, o.stays.3, sym (is.4 S.program (text_of S x.field-1) number))
       (calls_pair S _ start _ _ k _ names size c.args.depth c.args.self.now.left c.args.room.now x.field-1 first second x.at (Int is.0) (Int is.1) _ (none_plain S (Int is.0) (text_of S x.field-1) refl) fl fr len c.if-self-gt1.true c.if-depth-lt-MAX_DEPTH.true is.2 is.3 (inl refl) (rw (c.get-left.ensures, c.get-right.ensures) b)),
 )
 
@@ -1647,7 +1647,7 @@ pub begin_operate-returns-then-has_read-clause-came : goal.begin_operate-returns
 begin_operate-returns-then-has_read-clause-came g m c = c.begin_read_operate.ensures.came
 
 pub begin_read_operate-returns-in_default-clause-came : goal.begin_read_operate-returns-in_default-clause-came
-begin_read_operate-returns-in_default-clause-came g m c = λ S names size st e l. (λ i p q. refl, λ start k a. let o = c.over.ensures in no_arm S _ k _ _ _ o.gives o.left (ap g.O.ThreadStore.log o.store) (ap g.O.ThreadStore.private o.store) a)
+begin_read_operate-returns-in_default-clause-came g m c = λ S names size st e l. (λ i p q. refl, λ start k a. let o = c.over.ensures in no_arm S _ k _ _ _ o.gives o.stays.2 (ap g.O.ThreadStore.log o.stays.3) (ap g.O.ThreadStore.private o.stays.3) a)
 
 pub begin_read_operate-returns-in-Some-clause-came : goal.begin_read_operate-returns-in-Some-clause-came
 begin_read_operate-returns-in-Some-clause-came g m c = λ S names size st e l. (
@@ -1664,7 +1664,7 @@ begin_read_operate-returns-in-Some-clause-came g m c = λ S names size st e l. (
       let o = c.answer.ensures in
       let number = same_is (builtin_of (text_of S x.field-1)) x.method (fst _ _ s) in
       let b = begins _ _ k _ _ _ (shows-operate c.args.code.now x.method x.field-1 x.left x.right x.at x.is) a in
-      rw (o.gives, o.left, o.store, c.steps_of.ensures.exact, c.steps_of-in-Some.ensures.exact, sym (is.4 S.program (text_of S x.field-1) number))
+      rw (o.gives, o.stays.2, o.stays.3, c.steps_of.ensures.exact, c.steps_of-in-Some.ensures.exact, sym (is.4 S.program (text_of S x.field-1) number))
       (calls_fetched S _ start c.args.self.now.context.script.now _ _ k _ names size c.args.depth c.args.self.now.left _ _ c.args.room.now x.field-1 first second x.at is.0 is.1 _ st fl fr len (rw c.steps_of.ensures.exact at c.steps_of.ensures.few) (omega (arith, c.if-self-gt6.true)) (omega (arith, c.if-depth.true)) is.2 is.3 (inl refl) (rw (c.get-left.ensures, c.get-right.ensures) b)),
 )
 
@@ -1705,7 +1705,7 @@ begin_slow_operate-returns-in-Some-held_alone-clause-came g m c = λ S names siz
       let number = same_is (builtin_of (text_of S x.name)) x.method (fst _ _ s) in
       let given = rw (sym e, vs.1) at (o.gives (text_of S x.name) number) in
       let b = begins _ _ k _ _ _ (shows-operate c.args.code.now x.method x.name x.left x.right x.at x.is) a in
-      rw (o.left, o.store)
+      rw (o.stays.2, o.stays.3)
       (calls_pair S _ start _ _ k _ names size c.args.depth c.args.self.now.left c.args.room.now x.name first second x.at (plain c.in-Some-held_at.receiver.now) vs.0 _ (none_plain S (plain c.in-Some-held_at.receiver.now) (text_of S x.name) c.in-Some-held_at.ensures.plain) fl fr len c.if-self-gt1.true c.if-depth-lt-MAX_DEPTH.true c.in-Some-held_at.ensures.held vs.2 given (rw (c.get-left.ensures, c.get-right.ensures) b)),
 )
 
@@ -1758,7 +1758,7 @@ pub begin_read-returns-clause-came : goal.begin_read-returns-clause-came
 begin_read-returns-clause-came g m c = c.read_attribute.ensures.came
 
 pub begin_far_send-returns-in_default-clause-came : goal.begin_far_send-returns-in_default-clause-came
-begin_far_send-returns-in_default-clause-came g m c = λ S names size st e l. (λ i p q. refl, λ start k a. let o = c.over.ensures in no_arm S _ k _ _ _ o.gives o.left (ap g.O.ThreadStore.log o.store) (ap g.O.ThreadStore.private o.store) a)
+begin_far_send-returns-in_default-clause-came g m c = λ S names size st e l. (λ i p q. refl, λ start k a. let o = c.over.ensures in no_arm S _ k _ _ _ o.gives o.stays.2 (ap g.O.ThreadStore.log o.stays.3) (ap g.O.ThreadStore.private o.stays.3) a)
 
 pub begin_far_send-returns-in-Send-clause-came : goal.begin_far_send-returns-in-Send-clause-came
 begin_far_send-returns-in-Send-clause-came g m c = λ S names size st e l.
@@ -1799,9 +1799,9 @@ pub operate-returns-in-Int-clause-came : goal.operate-returns-in-Int-clause-came
 operate-returns-in-Int-clause-came g m c = λ S names size st e l.
     let w = c.evaluate-came in
     let right = two _ (fits S c.args.right.now names size) (fst _ _ l.fits) (snd _ _ (snd _ _ l.fits)) in
-    let under = moved _ _ w.ensures.base w.ensures.room (sub (numbered c.args.method c.args.name (λ S. fits S c.args.right.now) S) l right) in
-    let f = rw w.ensures.context at c.operate_integer.ensures.came in (
-      λ i p q. (f c.args.name S names size st e under).0 i p (omega (arith, q, w.ensures.base)) ∙ (w.ensures.came S names size st e (sub (fits S c.args.left.now) l (fst _ _ (snd _ _ l.fits)))).0 i p q,
+    let under = moved _ _ w.ensures.stays.0 w.ensures.stays.3 (sub (numbered c.args.method c.args.name (λ S. fits S c.args.right.now) S) l right) in
+    let f = rw w.ensures.stays.1 at c.operate_integer.ensures.came in (
+      λ i p q. (f c.args.name S names size st e under).0 i p (omega (arith, q, w.ensures.stays.0)) ∙ (w.ensures.came S names size st e (sub (fits S c.args.left.now) l (fst _ _ (snd _ _ l.fits)))).0 i p q,
       λ start k a.
           let e1 = (w.ensures.came S names size st e (sub (fits S c.args.left.now) l (fst _ _ (snd _ _ l.fits)))).1 start (Then (ReceiverOf (text_of S c.args.name) (erase c.args.right.now ∷ []) None c.args.at) ∷ k) a in
           let g1 = given w.result w.new.self.value w.new.self.leave (sym c.is_left.ensures ∙ c.if-is_left.false) e1 in
@@ -1816,9 +1816,9 @@ pub operate-returns-in-None-clause-came : goal.operate-returns-in-None-clause-ca
 operate-returns-in-None-clause-came g m c = λ S names size st e l.
     let w = c.evaluate-came in
     let right = two _ (fits S c.args.right.now names size) (fst _ _ l.fits) (snd _ _ (snd _ _ l.fits)) in
-    let under = moved _ _ w.ensures.base w.ensures.room (sub (numbered c.args.method c.args.name (λ S. fits S c.args.right.now) S) l right) in
-    let f = rw w.ensures.context at c.operate_value.ensures.came in (
-      λ i p q. (f S names size st e under).0 i p (omega (arith, q, w.ensures.base)) ∙ (w.ensures.came S names size st e (sub (fits S c.args.left.now) l (fst _ _ (snd _ _ l.fits)))).0 i p q,
+    let under = moved _ _ w.ensures.stays.0 w.ensures.stays.3 (sub (numbered c.args.method c.args.name (λ S. fits S c.args.right.now) S) l right) in
+    let f = rw w.ensures.stays.1 at c.operate_value.ensures.came in (
+      λ i p q. (f S names size st e under).0 i p (omega (arith, q, w.ensures.stays.0)) ∙ (w.ensures.came S names size st e (sub (fits S c.args.left.now) l (fst _ _ (snd _ _ l.fits)))).0 i p q,
       λ start k a.
           let e1 = (w.ensures.came S names size st e (sub (fits S c.args.left.now) l (fst _ _ (snd _ _ l.fits)))).1 start (Then (ReceiverOf (text_of S c.args.name) (erase c.args.right.now ∷ []) None c.args.at) ∷ k) a in
           let g1 = given w.result w.new.self.value w.new.self.leave (sym c.is_left.ensures ∙ c.if-is_left.false) e1 in
@@ -1849,8 +1849,8 @@ operate_integer-returns-clause-came g m c = λ name S names size st e l. (
       let number = same_is (builtin_of (text_of S name)) c.args.method (fst _ _ l.fits) in
       let z : to_z w64 (of_z w64 c.args.m) ≡ c.args.m = search rules in
       let d0 : OrMemory (outcome_of (deed w.new.self.context.program.now (Int (to_z w64 (of_z w64 c.args.m))) (text_of S name) (value_of w.result w.new.self.value ∷ []) None) c.args.at) (outcome c.operated_by.result c.operated_by.new.self.value c.operated_by.new.self.leave) = o.gives (text_of S name) number in
-      let d = rw (z, w.ensures.context, sym e) at d0 in
-      rw (o.left, o.store) (calls S _ start _ _ (Int c.args.m) (text_of S name) (value_of w.result w.new.self.value ∷ []) c.args.at k _ _ _ _ (none_plain S (Int c.args.m) (text_of S name) refl) d (on _ (on _ g1 refl) refl)),
+      let d = rw (z, w.ensures.stays.1, sym e) at d0 in
+      rw (o.stays.2, o.stays.3) (calls S _ start _ _ (Int c.args.m) (text_of S name) (value_of w.result w.new.self.value ∷ []) c.args.at k _ _ _ _ (none_plain S (Int c.args.m) (text_of S name) refl) d (on _ (on _ g1 refl) refl)),
 )
 
 pub operate_target-returns-then-is_left-clause-came : goal.operate_target-returns-then-is_left-clause-came
@@ -1875,7 +1875,7 @@ operate_target-returns-in-Some-clause-came g m c = λ S names size st e l. (
       let g1 = given w.result w.new.self.value w.new.self.leave (sym c.is_left.ensures ∙ c.if-is_left.false) come in
       let g2 = same (on _ (on _ g1 refl) refl) (by_receiver S to to (text_of S c.args.name) (erase_method c.args.target.method.now) (x ∷ []) c.args.at k _ _ _ (target.finds S st) refl) in
       let z : to_z w64 (of_z w64 c.in-Some.sum) ≡ c.in-Some.sum = search rules in
-      let f = rw w.ensures.context at c.in-Some.ensures.came in
+      let f = rw w.ensures.stays.1 at c.in-Some.ensures.came in
       rw z (f w.new.self.value S start k (scope_of (me_of c.args.self.now.context.me) names w.new.room) c.args.at (target.right S st) g2),
 )
 
@@ -1889,7 +1889,7 @@ operate_target-returns-then-self-room-clause-came g m c = λ S names size st e l
       let come = (w.ensures.came S names size st e l).1 start (Then step ∷ k) a in
       let g1 = given w.result w.new.self.value w.new.self.leave (sym c.is_left.ensures ∙ c.if-is_left.false) come in
       let o = c.over.ensures in
-      rw (o.gives, o.left, o.store, y.log, y.still c.in_default.is, y.kept c.in_default.is) (_, g1, refl),
+      rw (o.gives, o.stays.2, o.stays.3, y.log, y.still c.in_default.is, y.kept c.in_default.is) (_, g1, refl),
 )
 
 pub operate_target-returns-clause-came : goal.operate_target-returns-clause-came
@@ -1897,8 +1897,8 @@ operate_target-returns-clause-came g m c = λ S names size st e l.
     let w = c.evaluate-came in
     let y = c.entered_adding.ensures in
     let t = c.move_to.ensures in (
-      λ i p q. c.enter.ensures.kept i (omega (arith, q, t.base, y.base, w.ensures.base))
-          ∙ (ap (λ r. slice_get r i) t.passed.2 ∙ (get_set w.new.room c.entered_adding.new.self.base i t.passed.0 (λ z. omega (arith, z, q, y.base, w.ensures.base)) ∙ (w.ensures.came S names size st e l).0 i p q)),
+      λ i p q. c.enter.ensures.kept i (omega (arith, q, t.stays.0, y.stays.0, w.ensures.stays.0))
+          ∙ (ap (λ r. slice_get r i) t.passed.2 ∙ (get_set w.new.room c.entered_adding.new.self.base i t.passed.0 (λ z. omega (arith, z, q, y.stays.0, w.ensures.stays.0)) ∙ (w.ensures.came S names size st e l).0 i p q)),
       λ start k a.
           let p = t.passed in
           let to = me_of (Some c.args.target.object) in
@@ -1911,9 +1911,9 @@ operate_target-returns-clause-came g m c = λ S names size st e l.
           let is : plain p.0 ≡ x = p.1 ∙ ap (value_of w.result) y.value in
           let entered = same g2 (ap (λ v. enter S method to (v ∷ []) c.args.at k (scope_of (me_of c.args.self.now.context.me) names w.new.room) c.args.depth w.new.self.left) (sym is)) in
           let base = c.entered_adding.new.self.base in
-          let below : length names ≤ base = omega (arith, l.within, l.below, y.base, w.ensures.base) in
+          let below : length names ≤ base = omega (arith, l.within, l.below, y.stays.0, w.ensures.stays.0) in
           let within : base < length w.new.room = omega (arith, c.if-self-room.false) in
-          let f = rw (t.context, t.left, t.store, t.base, y.context, y.log, y.still c.in_default.is, y.kept c.in_default.is, w.ensures.context, p.2) at c.enter.ensures.came in
+          let f = rw (t.stays.1, t.stays.2, t.stays.3, t.stays.0, y.stays.1, y.log, y.still c.in_default.is, y.kept c.in_default.is, w.ensures.stays.1, p.2) at c.enter.ensures.came in
           f S start k names st e (target.right S st) below (omega (arith, within, len_set w.new.room base p.0)) (placed method to c.args.at k _ _ (me_of c.args.self.now.context.me) names base w.new.room p.0 below within entered),
     )
 
@@ -1939,7 +1939,7 @@ store_target-returns-then-is_left-2-clause-came g m c = λ S names size st e l. 
       let g1 = given w.result w.new.self.value w.new.self.leave (sym c.is_left.ensures ∙ c.if-is_left.false) come in
       let g2 = same (on _ (on _ g1 refl) refl) (by_receiver S to to (text_of S c.args.name) (erase_method c.args.target.method.now) (x ∷ []) c.args.at (Then (Instead x) ∷ k) _ _ _ (target.finds S st) refl) in
       let y = c.entered_writing in
-      let f = rw w.ensures.context at c.in-Some.ensures.came in
+      let f = rw w.ensures.stays.1 at c.in-Some.ensures.came in
       let done = f w.new.self.value S start (Then (Instead x) ∷ k) (scope_of (me_of c.args.self.now.context.me) names w.new.room) c.args.at (target.right S st) g2 in
       passes S _ start _ c.in-Some.done y.new.self.value y.new.self.leave _ (Instead x) k _ _ _ (sym c.is_left-in-Some.ensures ∙ c.if-is_left-2.true) done,
 )
@@ -1957,7 +1957,7 @@ store_target-returns-in-Some-clause-came g m c = λ S names size st e l. (
       let g1 = given w.result w.new.self.value w.new.self.leave none come in
       let g2 = same (on _ (on _ g1 refl) refl) (by_receiver S to to (text_of S c.args.name) (erase_method c.args.target.method.now) (x ∷ []) c.args.at (Then (Instead x) ∷ k) _ _ _ (target.finds S st) refl) in
       let y = c.entered_writing in
-      let f = rw w.ensures.context at c.in-Some.ensures.came in
+      let f = rw w.ensures.stays.1 at c.in-Some.ensures.came in
       let done = f w.new.self.value S start (Then (Instead x) ∷ k) (scope_of (me_of c.args.self.now.context.me) names w.new.room) c.args.at (target.right S st) g2 in
       let g3 = given c.in-Some.done y.new.self.value y.new.self.leave (sym c.is_left-in-Some.ensures ∙ c.if-is_left-2.false) done in
       comes S _ start _ _ k _ _ _ _ _ (gave w.result y.new.self.value y.new.self.leave none ∙ ap Gave (c.in-Some.ensures.integer y.new.self.value w.new.self.value)) (on _ g3 refl),
@@ -1972,7 +1972,7 @@ store_target-returns-then-self-room-clause-came g m c = λ S names size st e l. 
       let come = (w.ensures.came S names size st e l).1 start (Then step ∷ k) a in
       let g1 = given w.result w.new.self.value w.new.self.leave (sym c.is_left.ensures ∙ c.if-is_left.false) come in
       let o = c.over.ensures in
-      rw (o.gives, o.left, o.store, c.entered_giving.ensures.none c.in_default-entered_giving.is, c.entered_writing.ensures.none c.in_default.is) (_, g1, refl),
+      rw (o.gives, o.stays.2, o.stays.3, c.entered_giving.ensures.none c.in_default-entered_giving.is, c.entered_writing.ensures.none c.in_default.is) (_, g1, refl),
 )
 
 pub store_target-returns-clause-came : goal.store_target-returns-clause-came
@@ -1982,8 +1982,8 @@ store_target-returns-clause-came g m c = λ S names size st e l.
       λ i p q.
           let y = c.entered_writing.ensures in
           let z = c.entered_giving.ensures in
-          c.store_with.ensures.kept i (omega (arith, q, t.base, z.base, y.base, w.ensures.base))
-          ∙ (ap (λ r. slice_get r i) t.passed.2 ∙ (get_set w.new.room c.entered_giving.new.self.base i t.passed.0 (λ s. omega (arith, s, q, z.base, y.base, w.ensures.base)) ∙ (w.ensures.came S names size st e l).0 i p q)),
+          c.store_with.ensures.kept i (omega (arith, q, t.stays.0, z.stays.0, y.stays.0, w.ensures.stays.0))
+          ∙ (ap (λ r. slice_get r i) t.passed.2 ∙ (get_set w.new.room c.entered_giving.new.self.base i t.passed.0 (λ s. omega (arith, s, q, z.stays.0, y.stays.0, w.ensures.stays.0)) ∙ (w.ensures.came S names size st e l).0 i p q)),
       λ start k a.
           let n = c.entered_giving.ensures.none c.in_default-entered_giving.is ∙ c.entered_writing.ensures.none c.in_default.is in
           let p = t.passed in
@@ -1998,9 +1998,9 @@ store_target-returns-clause-came g m c = λ S names size st e l.
           let g2 = same (on _ (on _ g1 refl) refl) (by_receiver S to to (text_of S c.args.name) method (x ∷ []) c.args.at (Then (Instead x) ∷ k) _ _ _ (target.finds S st) refl) in
           let entered = same g2 (ap (λ v. enter S method to (v ∷ []) c.args.at (Then (Instead v) ∷ k) (scope_of (me_of c.args.self.now.context.me) names w.new.room) c.args.depth w.new.self.left) (sym held)) in
           let base = w.new.self.base in
-          let below : length names ≤ base = omega (arith, l.within, l.below, w.ensures.base) in
-          let within : base < length w.new.room = omega (arith, c.if-self-room.false, c.entered_giving.ensures.base, c.entered_writing.ensures.base) in
-          let f = rw (t.context, t.left, t.store, t.base, n, w.ensures.context, written) at c.store_with.ensures.came in
+          let below : length names ≤ base = omega (arith, l.within, l.below, w.ensures.stays.0) in
+          let within : base < length w.new.room = omega (arith, c.if-self-room.false, c.entered_giving.ensures.stays.0, c.entered_writing.ensures.stays.0) in
+          let f = rw (t.stays.1, t.stays.2, t.stays.3, t.stays.0, n, w.ensures.stays.1, written) at c.store_with.ensures.came in
           f S start k names st e (target.right S st) below (omega (arith, within, len_set w.new.room base p.0)) (placed_last method to c.args.at k _ _ (me_of c.args.self.now.context.me) names base w.new.room p.0 below within entered),
     )
 
@@ -2008,13 +2008,13 @@ pub operate_value-returns-then-is_left-clause-came : goal.operate_value-returns-
 operate_value-returns-then-is_left-clause-came g m c = λ S names size st e l.
     let t = c.take-receiver in
     let w = c.walk-came in
-    let under = moved _ _ t.ensures.base refl (sub (fits S c.args.right.now) l (snd _ _ l.fits)) in (
+    let under = moved _ _ t.ensures.stays.0 refl (sub (fits S c.args.right.now) l (snd _ _ l.fits)) in (
       λ i p q.
-          let f = rw t.ensures.context at w.ensures.came in
-          (f S names size st e under).0 i p (omega (arith, q, t.ensures.base)),
+          let f = rw t.ensures.stays.1 at w.ensures.came in
+          (f S names size st e under).0 i p (omega (arith, q, t.ensures.stays.0)),
       λ start k a.
           let step = Argument (OnReceiver (value_of c.args.came c.args.self.now.value) (text_of S c.args.name) None) [] [] c.args.at in
-          let f = rw (t.ensures.context, t.ensures.left, t.ensures.store) at w.ensures.came in
+          let f = rw (t.ensures.stays.1, t.ensures.stays.2, t.ensures.stays.3) at w.ensures.came in
           let come = (f S names size st e under).1 start (Then step ∷ k) a in
           passes S _ start _ w.result w.new.self.value w.new.self.leave _ step k _ _ _ (sym c.is_left.ensures ∙ c.if-is_left.true) come,
     )
@@ -2023,21 +2023,21 @@ pub operate_value-returns-clause-came : goal.operate_value-returns-clause-came
 operate_value-returns-clause-came g m c = λ S names size st e l.
     let t = c.take-receiver in
     let w = c.walk-came in
-    let under = moved _ _ t.ensures.base refl (sub (fits S c.args.right.now) l (snd _ _ l.fits)) in (
+    let under = moved _ _ t.ensures.stays.0 refl (sub (fits S c.args.right.now) l (snd _ _ l.fits)) in (
       λ i p q.
-          let f = rw t.ensures.context at w.ensures.came in
-          (f S names size st e under).0 i p (omega (arith, q, t.ensures.base)),
+          let f = rw t.ensures.stays.1 at w.ensures.came in
+          (f S names size st e under).0 i p (omega (arith, q, t.ensures.stays.0)),
       λ start k a.
           let first = value_of c.args.came c.args.self.now.value in
           let step = Argument (OnReceiver (value_of c.args.came c.args.self.now.value) (text_of S c.args.name) None) [] [] c.args.at in
-          let f = rw (t.ensures.context, t.ensures.left, t.ensures.store) at w.ensures.came in
+          let f = rw (t.ensures.stays.1, t.ensures.stays.2, t.ensures.stays.3) at w.ensures.came in
           let come = (f S names size st e under).1 start (Then step ∷ k) a in
           let g1 = given w.result w.new.self.value w.new.self.leave (sym c.is_left.ensures ∙ c.if-is_left.false) come in
           let y = c.take-arg in
           let o = c.call_with.ensures in
           let number = same_is (builtin_of (text_of S c.args.name)) c.args.method (fst _ _ l.fits) in
-          let f1 = rw (y.ensures.context, w.ensures.context, t.ensures.context, t.ensures.value, y.ensures.value, y.ensures.left, y.ensures.store) at o.came in
-          let none = (rw (y.ensures.context, w.ensures.context, t.ensures.context, t.ensures.value) at (c.target_of.ensures.none c.in-None.is)) S st in
+          let f1 = rw (y.ensures.stays.1, w.ensures.stays.1, t.ensures.stays.1, t.ensures.value, y.ensures.value, y.ensures.stays.2, y.ensures.stays.3) at o.came in
+          let none = (rw (y.ensures.stays.1, w.ensures.stays.1, t.ensures.stays.1, t.ensures.value) at (c.target_of.ensures.none c.in-None.is)) S st in
           calls_builtin S _ start _ _ _ _ _ _ _ _ _ _ c.args.self.now.context.program.now c.args.method first (text_of S c.args.name) (value_of w.result w.new.self.value ∷ []) c.args.at none number e f1 (on _ (on _ g1 refl) refl),
     )
 
@@ -2076,20 +2076,20 @@ combine_integer-returns-clause-came g m c = λ S names size st e l. (
       let number = operator_number S c.args.op ∙ sym c.method_of.ensures in
       let z : to_z w64 (of_z w64 c.args.m) ≡ c.args.m = search rules in
       let d0 : OrMemory (outcome_of (deed w.new.self.context.program.now (Int (to_z w64 (of_z w64 c.args.m))) (operator S c.args.op) (value_of w.result w.new.self.value ∷ []) None) c.args.at) (outcome c.operated_by.result c.operated_by.new.self.value c.operated_by.new.self.leave) = o.gives (operator S c.args.op) number in
-      let d = rw (z, w.ensures.context, sym e) at d0 in
-      rw (o.left, o.store) (calls S _ start _ _ (Int c.args.m) (operator S c.args.op) (value_of w.result w.new.self.value ∷ []) c.args.at k _ _ _ _ (none_plain S (Int c.args.m) (operator S c.args.op) refl) d (on _ g1 refl)),
+      let d = rw (z, w.ensures.stays.1, sym e) at d0 in
+      rw (o.stays.2, o.stays.3) (calls S _ start _ _ (Int c.args.m) (operator S c.args.op) (value_of w.result w.new.self.value ∷ []) c.args.at k _ _ _ _ (none_plain S (Int c.args.m) (operator S c.args.op) refl) d (on _ g1 refl)),
 )
 
 pub combine_value-returns-then-is_left-clause-came : goal.combine_value-returns-then-is_left-clause-came
 combine_value-returns-then-is_left-clause-came g m c = λ S names size st e l.
     let t = c.take-receiver in
     let w = c.walk-came in
-    let under = moved _ _ t.ensures.base refl (sub (fits S c.args.value.now) l l.fits) in (
+    let under = moved _ _ t.ensures.stays.0 refl (sub (fits S c.args.value.now) l l.fits) in (
       λ i p q.
-          let f = rw t.ensures.context at w.ensures.came in
-          (f S names size st e under).0 i p (omega (arith, q, t.ensures.base)),
+          let f = rw t.ensures.stays.1 at w.ensures.came in
+          (f S names size st e under).0 i p (omega (arith, q, t.ensures.stays.0)),
       λ start k a.
-          let f = rw (t.ensures.context, t.ensures.left, t.ensures.store) at w.ensures.came in
+          let f = rw (t.ensures.stays.1, t.ensures.stays.2, t.ensures.stays.3) at w.ensures.came in
           let e1 = (f S names size st e under).1 start (Then (RightOf (value_of c.args.current c.args.self.now.value) c.args.op c.args.at) ∷ k) a in
           passes S _ start _ w.result w.new.self.value w.new.self.leave _ (RightOf (value_of c.args.current c.args.self.now.value) c.args.op c.args.at) k _ _ _ (sym c.is_left.ensures ∙ c.if-is_left.true) e1,
     )
@@ -2098,19 +2098,19 @@ pub combine_value-returns-clause-came : goal.combine_value-returns-clause-came
 combine_value-returns-clause-came g m c = λ S names size st e l.
     let t = c.take-receiver in
     let w = c.walk-came in
-    let under = moved _ _ t.ensures.base refl (sub (fits S c.args.value.now) l l.fits) in (
+    let under = moved _ _ t.ensures.stays.0 refl (sub (fits S c.args.value.now) l l.fits) in (
       λ i p q.
-          let f = rw t.ensures.context at w.ensures.came in
-          (f S names size st e under).0 i p (omega (arith, q, t.ensures.base)),
+          let f = rw t.ensures.stays.1 at w.ensures.came in
+          (f S names size st e under).0 i p (omega (arith, q, t.ensures.stays.0)),
       λ start k a.
-          let f = rw (t.ensures.context, t.ensures.left, t.ensures.store) at w.ensures.came in
+          let f = rw (t.ensures.stays.1, t.ensures.stays.2, t.ensures.stays.3) at w.ensures.came in
           let e1 = (f S names size st e under).1 start (Then (RightOf (value_of c.args.current c.args.self.now.value) c.args.op c.args.at) ∷ k) a in
           let g1 = given w.result w.new.self.value w.new.self.leave (sym c.is_left.ensures ∙ c.if-is_left.false) e1 in
           let y = c.take-arg in
           let o = c.call_with.ensures in
           let v = value_of c.args.current c.args.self.now.value in
           let number = operator_number S c.args.op ∙ sym c.method_of-method.ensures in
-          let f1 = rw (y.ensures.context, w.ensures.context, t.ensures.context, t.ensures.value, y.ensures.value, y.ensures.left, y.ensures.store) at o.came in
+          let f1 = rw (y.ensures.stays.1, w.ensures.stays.1, t.ensures.stays.1, t.ensures.value, y.ensures.value, y.ensures.stays.2, y.ensures.stays.3) at o.came in
           calls_builtin S _ start _ _ _ _ _ _ _ _ _ _ c.args.self.now.context.program.now c.method_of-method.result v (operator S c.args.op) (value_of w.result w.new.self.value ∷ []) c.args.at (update_none c.args.self.now.context.script.now S st v c.args.op) number e f1 (on _ g1 refl),
     )
 
@@ -2122,18 +2122,18 @@ arguments-each-preserved g m c =
       | arguments-else-self-room x ↦ alike _ _ x.self-is
     ] in
     let w = c.evaluate_call-came.ensures in
-    let edge = rw same.0 at w.base in
-    let fewer = rw same.2 at w.less in
+    let edge = rw same.0 at w.stays.0 in
+    let fewer = rw same.2 at w.stays.2 in
     let t = c.move_to.ensures in
     let p = t.passed in
     let old = c.each.invariant in
     let long : length c.move_to.new.room ≡ length c.evaluate_call-came.new.room = ap length p.2 ∙ len_set c.evaluate_call-came.new.room c.evaluate_call-came.new.self.base p.0 in
     record {
-      base = omega (arith, t.base, edge, old.base);
-      bound = λ r. omega (arith, long, t.base, c.if-self-room-2.false);
-      context = t.context ∙ ((rw same.1 at w.context) ∙ old.context);
-      room = long ∙ (w.room ∙ old.room);
-      less = omega (arith, t.left, fewer, old.less);
+      base = omega (arith, t.stays.0, edge, old.base);
+      bound = λ r. omega (arith, long, t.stays.0, c.if-self-room-2.false);
+      context = t.stays.1 ∙ ((rw same.1 at w.stays.1) ∙ old.context);
+      room = long ∙ (w.stays.3 ∙ old.room);
+      less = omega (arith, t.stays.2, fewer, old.less);
       kept = λ S names size st e l i p q.
           let loop = c.each in
           let inv = loop.invariant in
@@ -2160,7 +2160,7 @@ arguments-each-preserved g m c =
           let within : base + loop.arg-index < length w.new.room = omega (arith, edge, inv.base, c.if-self-room-2.false) in
           let f2 = rw (same.0, same.1, same.2, same.3, inv.context) at w.ensures.came in
           let g1 = given w.result w.new.self.value w.new.self.leave (sym c.is_left.ensures ∙ c.if-is_left.false) come in
-          rw (t.left, t.store, t.passed.2, spot) (joined (me_of c.args.self.now.context.me) names base loop.arg-index loop.room w.new.room t.passed.0 v t.passed.1 (omega (arith, l.within, l.below)) within (λ j q. (f2 S names size st e under).0 (base + j) (omega (arith, l.below)) (omega (arith, q, inv.base))) g1);
+          rw (t.stays.2, t.stays.3, t.passed.2, spot) (joined (me_of c.args.self.now.context.me) names base loop.arg-index loop.room w.new.room t.passed.0 v t.passed.1 (omega (arith, l.within, l.below)) within (λ j q. (f2 S names size st e under).0 (base + j) (omega (arith, l.below)) (omega (arith, q, inv.base))) g1);
     }
 
 pub evaluate-returns-in-Some-clause-came : goal.evaluate-returns-in-Some-clause-came
@@ -2195,7 +2195,7 @@ literal-returns-in-Some-clause-came g m c = λ S names size st e l. (
   λ i p q. refl,
   λ start k a.
       let o = c.share_text.ensures in
-      rw (o.left, o.store) (whole_text S _ start _ _ c.in-Some.text.now c.args.pieces.now c.args.at k _ _ _ _ c.in-Some.ensures o.gives a),
+      rw (o.stays.2, o.stays.3) (whole_text S _ start _ _ c.in-Some.text.now c.args.pieces.now c.args.at k _ _ _ _ c.in-Some.ensures o.gives a),
 )
 
 pub literal-returns-in-None-clause-came : goal.literal-returns-in-None-clause-came
@@ -2218,7 +2218,7 @@ evaluate_call-returns-in-Some-clause-came g m c = λ S names size st e l. (
       let inside = Under c.args.depth ∷ k in
       let b = begins _ _ inside _ _ _ (shows-operate c.args.code.now x.method x.field-1 x.left x.right x.at x.is) (counts (omega (arith, c.if-self-gt6.true)) (omega (arith, c.if-depth.true)) a) in
       let thrice : c.args.self.now.left - 3 ≡ c.args.self.now.left - 1 - 2 = omega arith in
-      rw (o.gives, o.left, o.store, sym (is.4 S.program (text_of S x.field-1) number), thrice)
+      rw (o.gives, o.stays.2, o.stays.3, sym (is.4 S.program (text_of S x.field-1) number), thrice)
       (left S _ start _ _ _ k _ _ _ _ (calls_pair S _ start _ _ inside _ names size (c.args.depth + 1) (c.args.self.now.left - 1) c.args.room.now x.field-1 first second x.at (Int is.0) (Int is.1) _ (none_plain S (Int is.0) (text_of S x.field-1) refl) fl fr len (omega (arith, c.if-self-gt6.true)) (omega (arith, c.if-depth.true)) is.2 is.3 (inl refl) (rw (c.get-left.ensures, c.get-right.ensures) b))),
 )
 
@@ -2239,7 +2239,7 @@ evaluate_call-returns-in-Some-quick_twice-clause-came g m c = λ S names size st
       let inside = Under c.args.depth ∷ k in
       let b = begins _ _ inside _ _ _ (shows-operate c.args.code.now x.method x.field-1 x.left x.right x.at x.is) (counts (omega (arith, c.if-self-gt6.true)) (omega (arith, c.if-depth.true)) a) in
       let fifth : c.args.self.now.left - 5 ≡ c.args.self.now.left - 1 - 4 = omega arith in
-      rw (o.gives, o.left, o.store, sym (is.4 S.program (text_of S x.field-1) number), fifth)
+      rw (o.gives, o.stays.2, o.stays.3, sym (is.4 S.program (text_of S x.field-1) number), fifth)
       (left S _ start _ _ _ k _ _ _ _ (calls_twice S _ start _ _ inside _ names size (c.args.depth + 1) (c.args.self.now.left - 1) c.args.room.now x.field-1 first second x.at is.0 (Int is.1) _ fl fr len (omega (arith, c.if-self-gt6.true)) (omega (arith, c.if-depth.true)) is.2 is.3 (inl refl) (rw (c.get-left.ensures, c.get-right.ensures) b))),
 )
 
@@ -2288,7 +2288,7 @@ evaluate_call-returns-then-depth-lt-MAX_DEPTH-3-clause-came g m c = λ S names s
   λ start k a.
       let o = c.field_apart.ensures in
       let b = begins _ _ (Under c.args.depth ∷ k) _ _ _ (shows-field c.args.code.now c.in-Field.name c.in-Field.at c.in-Field.is) (counts c.if-self-gt0-3.true c.if-depth-lt-MAX_DEPTH-3.true a) in
-      rw o.left (left S _ start _ _ _ k _ _ _ _ (o.came S start (Under c.args.depth ∷ k) _ (c.args.depth + 1) b)),
+      rw o.stays.2 (left S _ start _ _ _ k _ _ _ _ (o.came S start (Under c.args.depth ∷ k) _ (c.args.depth + 1) b)),
 )
 
 pub evaluate_call-returns-else-self-gt0-3-clause-came : goal.evaluate_call-returns-else-self-gt0-3-clause-came
@@ -2335,7 +2335,7 @@ begin_operand-returns-in-Field-clause-came g m c = λ S names size st e l. (
   λ i p q. refl,
   λ start k a.
       let o = c.field_apart.ensures in
-      rw o.left (o.came S start k _ c.args.depth (begins _ _ k _ _ _ (shows-field c.args.code.now c.in-Field.name c.in-Field.at c.in-Field.is) a)),
+      rw o.stays.2 (o.came S start k _ c.args.depth (begins _ _ k _ _ _ (shows-field c.args.code.now c.in-Field.name c.in-Field.at c.in-Field.is) a)),
 )
 
 pub begin_operand-returns-in-Local-clause-came : goal.begin_operand-returns-in-Local-clause-came
@@ -2347,7 +2347,7 @@ begin_operand-returns-in-Local-clause-came g m c = λ S names size st e l. (
       let len : length names ≤ length c.args.room.now = omega (arith, l.within, l.below, l.room) in
       let b = begins _ _ k _ _ _ (shows-local c.args.code.now x.slot x.field-1 x.field-2 x.is) a in
       let r = c.read in
-      rw (r.ensures.left, r.ensures.store) (reads S _ start _ _ k c.args.depth _ x.field-1 names c.args.room.now x.slot _ (outcome r.result r.new.self.value r.new.self.leave) len s r.ensures.gives b),
+      rw (r.ensures.stays.2, r.ensures.stays.3) (reads S _ start _ _ k c.args.depth _ x.field-1 names c.args.room.now x.slot _ (outcome r.result r.new.self.value r.new.self.leave) len s r.ensures.gives b),
 )
 
 pub begin_operand-returns-in-False-clause-came : goal.begin_operand-returns-in-False-clause-came
@@ -2368,7 +2368,7 @@ begin_operand-returns-in_default-clause-came g m c = c.begin_send.ensures.came
 pub enter-returns-then-count-len-clause-came : goal.enter-returns-then-count-len-clause-came
 enter-returns-then-count-len-clause-came g m c = λ S start k names st e right le long a.
     let o = c.raise.ensures in
-    rw (o.gives, o.left, o.store) (other_count c.args.method.now (me_of c.args.me) c.args.count c.args.self.now.base c.args.room.now c.args.at k _ _ _ (λ z. omega (arith, z, c.if-count-len.true, c.len.ensures)) long a)
+    rw (o.gives, o.stays.2, o.stays.3) (other_count c.args.method.now (me_of c.args.me) c.args.count c.args.self.now.base c.args.room.now c.args.at k _ _ _ (λ z. omega (arith, z, c.if-count-len.true, c.len.ensures)) long a)
 
 pub run_in-returns-clause-came : goal.run_in-returns-clause-came
 run_in-returns-clause-came g m c = λ S start k sc st e right long a.
@@ -2377,12 +2377,12 @@ run_in-returns-clause-came g m c = λ S start k sc st e right long a.
     let g1 = rw c.as_slice.ensures at c.body-came.ensures.came in
     let done = (g1 S (S.method_names (erase_method meth)) meth.size st e inside).1 start (Frame sc ∷ k) a in
     let o = c.out_of_call.ensures in
-    rw (o.gives, o.left, o.store) (called S _ start _ _ _ sc k _ _ _ done)
+    rw (o.gives, o.stays.2, o.stays.3) (called S _ start _ _ _ sc k _ _ _ done)
 
 pub enter_apart-returns-in_default-clause-came : goal.enter_apart-returns-in_default-clause-came
 enter_apart-returns-in_default-clause-came g m c = λ S start k sc at st e right counts a.
     let o = c.over.ensures in
-    rw (o.left, o.store) (cut S _ start _ _ _ k _ _ _ _ o.gives a (enter_left S (erase_method c.args.method.now) (me_of c.args.me) (map plain c.args.args.now) at k sc c.args.depth c.args.self.now.left))
+    rw (o.stays.2, o.stays.3) (cut S _ start _ _ _ k _ _ _ _ o.gives a (enter_left S (erase_method c.args.method.now) (me_of c.args.me) (map plain c.args.args.now) at k sc c.args.depth c.args.self.now.left))
 
 pub enter_apart-returns-clause-came : goal.enter_apart-returns-clause-came
 enter_apart-returns-clause-came g m c = λ S start k sc at st e right counts a.
@@ -2432,7 +2432,7 @@ enter-returns-clause-came g m c = λ S start k names st e right le long a.
 pub enter_with-returns-then-self-room-clause-came : goal.enter_with-returns-then-self-room-clause-came
 enter_with-returns-then-self-room-clause-came g m c = λ S start k names st e right le long a.
     let o = c.over.ensures in
-    rw (o.left, o.store) (cut S _ start _ _ _ k _ _ _ _ o.gives a (enter_left S (erase_method c.args.target.method.now) (me_of (Some c.args.target.object)) (plain c.args.arg ∷ []) c.args.at k (scope_of (me_of c.args.self.now.context.me) names c.args.room.now) c.args.depth c.args.self.now.left))
+    rw (o.stays.2, o.stays.3) (cut S _ start _ _ _ k _ _ _ _ o.gives a (enter_left S (erase_method c.args.target.method.now) (me_of (Some c.args.target.object)) (plain c.args.arg ∷ []) c.args.at k (scope_of (me_of c.args.self.now.context.me) names c.args.room.now) c.args.depth c.args.self.now.left))
 
 pub enter_with-returns-clause-kept : goal.enter_with-returns-clause-kept
 enter_with-returns-clause-kept g m c = λ i q.
@@ -2486,7 +2486,7 @@ enter_storing-returns-in-None-clause-came g m c = rw (c.entered_writer.ensures.n
 pub enter_storing_with-returns-then-self-room-clause-came : goal.enter_storing_with-returns-then-self-room-clause-came
 enter_storing_with-returns-then-self-room-clause-came g m c = λ S start k names st e right le long a.
     let o = c.over.ensures in
-    rw (o.left, o.store) (cut S _ start _ _ _ k _ _ _ _ o.gives a (enter_left S (erase_method c.args.target.method.now) (me_of (Some c.args.target.object)) (plain c.args.arg ∷ []) c.args.at k (scope_of (me_of c.args.self.now.context.me) names c.args.room.now) c.args.depth c.args.self.now.left))
+    rw (o.stays.2, o.stays.3) (cut S _ start _ _ _ k _ _ _ _ o.gives a (enter_left S (erase_method c.args.target.method.now) (me_of (Some c.args.target.object)) (plain c.args.arg ∷ []) c.args.at k (scope_of (me_of c.args.self.now.context.me) names c.args.room.now) c.args.depth c.args.self.now.left))
 
 pub enter_storing_with-returns-clause-kept : goal.enter_storing_with-returns-clause-kept
 enter_storing_with-returns-clause-kept g m c = λ i q.
@@ -2561,7 +2561,7 @@ function-returns-in_default-clause-came g m c = λ S names size st e l. (
   λ i p q. refl,
   λ start k a.
       let o = c.over.ensures in
-      rw (o.left, o.store) (cut S _ start _ _ _ k _ _ _ _ o.gives a refl),
+      rw (o.stays.2, o.stays.3) (cut S _ start _ _ _ k _ _ _ _ o.gives a refl),
 )
 
 pub function-returns-then-is_left-clause-came : goal.function-returns-then-is_left-clause-came
@@ -2624,21 +2624,21 @@ operate_value-returns-in-Some-target_of-clause-came g m c = λ S names size st e
     let t = c.take-receiver in
     let w = c.walk-came in
     let u = c.take-arg in
-    let under = moved _ _ t.ensures.base refl (sub (fits S c.args.right.now) l (snd _ _ l.fits)) in (
+    let under = moved _ _ t.ensures.stays.0 refl (sub (fits S c.args.right.now) l (snd _ _ l.fits)) in (
       λ i p q.
-          let f = rw t.ensures.context at w.ensures.came in
-          c.enter_with.ensures.kept i (omega (arith, q, t.ensures.base, w.ensures.base, u.ensures.base)) ∙ (f S names size st e under).0 i p (omega (arith, q, t.ensures.base)),
+          let f = rw t.ensures.stays.1 at w.ensures.came in
+          c.enter_with.ensures.kept i (omega (arith, q, t.ensures.stays.0, w.ensures.stays.0, u.ensures.stays.0)) ∙ (f S names size st e under).0 i p (omega (arith, q, t.ensures.stays.0)),
       λ start k a.
           let v = value_of c.args.came c.args.self.now.value in
-          let f = rw (t.ensures.context, t.ensures.left, t.ensures.store) at w.ensures.came in
+          let f = rw (t.ensures.stays.1, t.ensures.stays.2, t.ensures.stays.3) at w.ensures.came in
           let come = (f S names size st e under).1 start (Then (Argument (OnReceiver v (text_of S c.args.name) None) [] [] c.args.at) ∷ k) a in
           let g1 = given w.result w.new.self.value w.new.self.leave (sym c.is_left.ensures ∙ c.if-is_left.false) come in
           let x = value_of w.result w.new.self.value in
-          let target = rw (u.ensures.context, w.ensures.context, t.ensures.context, t.ensures.value) at c.in-Some-target_of.ensures.some in
+          let target = rw (u.ensures.stays.1, w.ensures.stays.1, t.ensures.stays.1, t.ensures.value) at c.in-Some-target_of.ensures.some in
           let entered = same (on _ (on _ g1 refl) refl) (by_receiver S v (me_of (Some c.in-Some-target_of.target.object)) (text_of S c.args.name) (erase_method c.in-Some-target_of.target.method.now) (x ∷ []) c.args.at k _ _ _ (target.finds S st) target.me) in
-          let base = u.ensures.base ∙ (w.ensures.base ∙ t.ensures.base) in
-          let h1 = rw (u.ensures.context, w.ensures.context, t.ensures.context, u.ensures.left, u.ensures.store, u.ensures.value) at c.enter_with.ensures.came in
-          h1 S start k names st e (target.right S st) (omega (arith, l.within, l.below, base)) (omega (arith, l.room, base, w.ensures.room)) entered,
+          let base = u.ensures.stays.0 ∙ (w.ensures.stays.0 ∙ t.ensures.stays.0) in
+          let h1 = rw (u.ensures.stays.1, w.ensures.stays.1, t.ensures.stays.1, u.ensures.stays.2, u.ensures.stays.3, u.ensures.value) at c.enter_with.ensures.came in
+          h1 S start k names st e (target.right S st) (omega (arith, l.within, l.below, base)) (omega (arith, l.room, base, w.ensures.stays.3)) entered,
     )
 
 pub send-returns-clause-came : goal.send-returns-clause-came
@@ -2646,9 +2646,9 @@ send-returns-clause-came g m c = λ S names size st e l.
     let w = c.walk_here-came in (
       λ i p q.
           let first = (w.ensures.came S names size st e (sub (fits S c.args.receiver.now) l (fst _ _ (snd _ _ l.fits)))).0 i p q in
-          let under = moved _ _ (c.take-receiver.ensures.base ∙ w.ensures.base) w.ensures.room (sub (every (map (fits S) c.args.args.now)) l (snd _ _ (snd _ _ l.fits))) in
-          let f = rw (c.take-receiver.ensures.context, w.ensures.context) at c.arguments-came.ensures.kept in
-          c.invoke.ensures.kept i (omega (arith, q, c.take-receiver.ensures.base, w.ensures.base)) ∙ (f S names size st e under i p (omega (arith, q, c.take-receiver.ensures.base, w.ensures.base)) ∙ first),
+          let under = moved _ _ (c.take-receiver.ensures.stays.0 ∙ w.ensures.stays.0) w.ensures.stays.3 (sub (every (map (fits S) c.args.args.now)) l (snd _ _ (snd _ _ l.fits))) in
+          let f = rw (c.take-receiver.ensures.stays.1, w.ensures.stays.1) at c.arguments-came.ensures.kept in
+          c.invoke.ensures.kept i (omega (arith, q, c.take-receiver.ensures.stays.0, w.ensures.stays.0)) ∙ (f S names size st e under i p (omega (arith, q, c.take-receiver.ensures.stays.0, w.ensures.stays.0)) ∙ first),
       λ start k a.
           let step = ReceiverOf (text_of S c.args.name) (map erase c.args.args.now) None c.args.at in
           let come = (w.ensures.came S names size st e (sub (fits S c.args.receiver.now) l (fst _ _ (snd _ _ l.fits)))).1 start (Then step ∷ k) a in
@@ -2656,22 +2656,22 @@ send-returns-clause-came g m c = λ S names size st e l.
           let v = value_of w.result w.new.self.value in
           let g1 = given w.result w.new.self.value w.new.self.leave none come in
           let t = c.take-receiver in
-          let under = moved _ _ (t.ensures.base ∙ w.ensures.base) w.ensures.room (sub (every (map (fits S) c.args.args.now)) l (snd _ _ (snd _ _ l.fits))) in
-          let f = rw (t.ensures.context, w.ensures.context, t.ensures.left, t.ensures.store) at c.arguments-came.ensures.came in
+          let under = moved _ _ (t.ensures.stays.0 ∙ w.ensures.stays.0) w.ensures.stays.3 (sub (every (map (fits S) c.args.args.now)) l (snd _ _ (snd _ _ l.fits))) in
+          let f = rw (t.ensures.stays.1, w.ensures.stays.1, t.ensures.stays.2, t.ensures.stays.3) at c.arguments-came.ensures.came in
           let p = f (OnReceiver v (text_of S c.args.name) None) c.args.at S start k names size st e under (on _ g1 refl) in
           let r = c.arguments-came in
           let came = sym c.is_left-2.ensures ∙ c.if-is_left-2.false in
           let base = t.new.self.base in
           let long : base + length c.args.args.now ≤ length r.new.room = omega (arith, r.ensures.base came, r.ensures.fits under.room) in
           let number = same_is _ _ (fst _ _ l.fits) in
-          let h1 = rw (r.ensures.context, t.ensures.context, w.ensures.context, t.ensures.value) at c.invoke.ensures.came in
+          let h1 = rw (r.ensures.context, t.ensures.stays.1, w.ensures.stays.1, t.ensures.value) at c.invoke.ensures.came in
           h1 S start k names st e number (omega (arith, under.within, under.below)) long (on _ (p.1 came) refl),
     )
 
 pub store_with-returns-in_default-clause-came : goal.store_with-returns-in_default-clause-came
 store_with-returns-in_default-clause-came g m c = λ S start k names st e right le long a.
     let o = c.over.ensures in
-    rw (o.left, o.store) (cut S _ start _ _ _ k _ _ _ _ o.gives a (enter_left S (erase_method c.args.target.method.now) (me_of (Some c.args.target.object)) (map plain (take c.args.count (drop c.args.self.now.base c.args.room.now))) c.args.at _ (scope_of (me_of c.args.self.now.context.me) names c.args.room.now) c.args.depth c.args.self.now.left))
+    rw (o.stays.2, o.stays.3) (cut S _ start _ _ _ k _ _ _ _ o.gives a (enter_left S (erase_method c.args.target.method.now) (me_of (Some c.args.target.object)) (map plain (take c.args.count (drop c.args.self.now.base c.args.room.now))) c.args.at _ (scope_of (me_of c.args.self.now.context.me) names c.args.room.now) c.args.depth c.args.self.now.left))
 
 pub store_with-returns-then-is_left-clause-kept : goal.store_with-returns-then-is_left-clause-kept
 store_with-returns-then-is_left-clause-kept g m c = c.enter_storing-came.ensures.kept
@@ -2695,7 +2695,7 @@ store_with-returns-clause-came g m c = λ S start k names st e right le long a.
     let g1 = given y.result y.new.self.value y.new.self.leave (sym c.is_left.ensures ∙ c.if-is_left.false) come in
     let o = c.give.ensures in
     let last : plain c.in-Ok.last ≡ last_value S values = c.in-Ok.ensures S ∙ ap (λ vs. last_value S (map plain vs)) (c.passed.ensures long) in
-    rw (o.gives, o.left, o.store, last) (on _ g1 refl)
+    rw (o.gives, o.stays.2, o.stays.3, last) (on _ g1 refl)
 
 pub write_member-returns-in_default-clause-came : goal.write_member-returns-in_default-clause-came
 write_member-returns-in_default-clause-came g m c = λ name S start k names st e writes free le bound_ a.
@@ -2703,7 +2703,7 @@ write_member-returns-in_default-clause-came g m c = λ name S start k names st e
     let v = value_of c.args.came c.args.self.now.value in
     let receiver = plain c.args.receiver.now in
     let o = c.raise.ensures in
-    rw (o.gives, o.left, o.store) (same a (no_such S receiver (text_of S name ++ codes "=") (v ∷ []) None c.args.at (Then (Instead v) ∷ k) _ _ _ (writer_none script S st receiver c.args.writer name writes (c.writer_of.ensures.none c.in_default.is)) free))
+    rw (o.gives, o.stays.2, o.stays.3) (same a (no_such S receiver (text_of S name ++ codes "=") (v ∷ []) None c.args.at (Then (Instead v) ∷ k) _ _ _ (writer_none script S st receiver c.args.writer name writes (c.writer_of.ensures.none c.in_default.is)) free))
 
 pub write_member-returns-then-is_left-clause-came : goal.write_member-returns-then-is_left-clause-came
 write_member-returns-then-is_left-clause-came g m c = λ name S start k names st e writes free le bound_ a.
@@ -2733,7 +2733,7 @@ write_member-returns-in-Some-entered_writing-clause-came g m c = λ name S start
     comes S _ start _ _ k _ _ _ _ _ (gave c.args.came y.new.self.value y.new.self.leave c.requires.came ∙ ap Gave (c.in-Some-entered_writing.ensures.integer y.new.self.value c.args.self.now.value)) (on _ g1 refl)
 
 pub write_member-returns-then-is_left-2-clause-kept : goal.write_member-returns-then-is_left-2-clause-kept
-write_member-returns-then-is_left-2-clause-kept g m c = λ i q. c.enter_storing_with-came.ensures.kept i (omega (arith, q, c.take-value.ensures.base, c.entered_giving.ensures.base, c.entered_writing.ensures.base))
+write_member-returns-then-is_left-2-clause-kept g m c = λ i q. c.enter_storing_with-came.ensures.kept i (omega (arith, q, c.take-value.ensures.stays.0, c.entered_giving.ensures.stays.0, c.entered_writing.ensures.stays.0))
 
 pub write_member-returns-then-is_left-2-clause-came : goal.write_member-returns-then-is_left-2-clause-came
 write_member-returns-then-is_left-2-clause-came g m c = λ name S start k names st e writes free le bound_ a.
@@ -2749,12 +2749,12 @@ write_member-returns-then-is_left-2-clause-came g m c = λ name S start k names 
     let is = c.in-Some.ensures.some in
     let entered = same a (by_receiver S receiver to (text_of S name ++ codes "=") (erase_method meth) (v ∷ []) c.args.at (Then (Instead v) ∷ k) _ _ _ (writer_some script S st receiver c.args.writer name c.in-Some.target.object meth writes is) (writer_me script receiver c.args.writer c.in-Some.target.object meth is)) in
     let same_value : plain c.in-Ok.copy ≡ v = c.in-Ok.ensures.value ∙ taken in
-    let f = rw (t.ensures.context, t.ensures.left, t.ensures.store, n, same_value) at y.ensures.came in
-    let come = f S start (Then (Instead v) ∷ k) names st e (writer_right script S st receiver c.args.writer c.in-Some.target.object meth is) (omega (arith, le, t.ensures.base, c.entered_giving.ensures.base, c.entered_writing.ensures.base)) (omega (arith, bound_, t.ensures.base, c.entered_giving.ensures.base, c.entered_writing.ensures.base)) entered in
+    let f = rw (t.ensures.stays.1, t.ensures.stays.2, t.ensures.stays.3, n, same_value) at y.ensures.came in
+    let come = f S start (Then (Instead v) ∷ k) names st e (writer_right script S st receiver c.args.writer c.in-Some.target.object meth is) (omega (arith, le, t.ensures.stays.0, c.entered_giving.ensures.stays.0, c.entered_writing.ensures.stays.0)) (omega (arith, bound_, t.ensures.stays.0, c.entered_giving.ensures.stays.0, c.entered_writing.ensures.stays.0)) entered in
     passes S _ start _ y.result y.new.self.value y.new.self.leave _ (Instead v) k _ _ _ (sym c.is_left-2.ensures ∙ c.if-is_left-2.true) come
 
 pub write_member-returns-clause-kept : goal.write_member-returns-clause-kept
-write_member-returns-clause-kept g m c = λ i q. c.enter_storing_with-came.ensures.kept i (omega (arith, q, c.take-value.ensures.base, c.entered_giving.ensures.base, c.entered_writing.ensures.base))
+write_member-returns-clause-kept g m c = λ i q. c.enter_storing_with-came.ensures.kept i (omega (arith, q, c.take-value.ensures.stays.0, c.entered_giving.ensures.stays.0, c.entered_writing.ensures.stays.0))
 
 pub write_member-returns-clause-came : goal.write_member-returns-clause-came
 write_member-returns-clause-came g m c = λ name S start k names st e writes free le bound_ a.
@@ -2770,11 +2770,11 @@ write_member-returns-clause-came g m c = λ name S start k names st e writes fre
     let is = c.in-Some.ensures.some in
     let entered = same a (by_receiver S receiver to (text_of S name ++ codes "=") (erase_method meth) (v ∷ []) c.args.at (Then (Instead v) ∷ k) _ _ _ (writer_some script S st receiver c.args.writer name c.in-Some.target.object meth writes is) (writer_me script receiver c.args.writer c.in-Some.target.object meth is)) in
     let same_value : plain c.in-Ok.copy ≡ v = c.in-Ok.ensures.value ∙ taken in
-    let f = rw (t.ensures.context, t.ensures.left, t.ensures.store, n, same_value) at y.ensures.came in
-    let come = f S start (Then (Instead v) ∷ k) names st e (writer_right script S st receiver c.args.writer c.in-Some.target.object meth is) (omega (arith, le, t.ensures.base, c.entered_giving.ensures.base, c.entered_writing.ensures.base)) (omega (arith, bound_, t.ensures.base, c.entered_giving.ensures.base, c.entered_writing.ensures.base)) entered in
+    let f = rw (t.ensures.stays.1, t.ensures.stays.2, t.ensures.stays.3, n, same_value) at y.ensures.came in
+    let come = f S start (Then (Instead v) ∷ k) names st e (writer_right script S st receiver c.args.writer c.in-Some.target.object meth is) (omega (arith, le, t.ensures.stays.0, c.entered_giving.ensures.stays.0, c.entered_writing.ensures.stays.0)) (omega (arith, bound_, t.ensures.stays.0, c.entered_giving.ensures.stays.0, c.entered_writing.ensures.stays.0)) entered in
     let g1 = given y.result y.new.self.value y.new.self.leave (sym c.is_left-2.ensures ∙ c.if-is_left-2.false) come in
     let o = c.give.ensures in
-    rw (o.gives, o.left, o.store, taken) (on _ g1 refl)
+    rw (o.gives, o.stays.2, o.stays.3, taken) (on _ g1 refl)
 
 pub set_member-returns-then-is_left-clause-came : goal.set_member-returns-then-is_left-clause-came
 set_member-returns-then-is_left-clause-came g m c = λ name S start k names size st e l a.
@@ -2786,7 +2786,7 @@ set_member-returns-then-is_left-clause-came g m c = λ name S start k names size
 pub set_member-returns-clause-kept : goal.set_member-returns-clause-kept
 set_member-returns-clause-kept g m c = λ S names size st e l i p q.
     let w = c.walk-came in
-    c.write_member.ensures.kept i (omega (arith, q, w.ensures.base)) ∙ (w.ensures.came S names size st e l).0 i p q
+    c.write_member.ensures.kept i (omega (arith, q, w.ensures.stays.0)) ∙ (w.ensures.came S names size st e l).0 i p q
 
 pub set_member-returns-clause-came : goal.set_member-returns-clause-came
 set_member-returns-clause-came g m c = λ name S start k names size st e l a.
@@ -2794,8 +2794,8 @@ set_member-returns-clause-came g m c = λ name S start k names size st e l a.
     let step = WriteTo (OfAttribute (plain c.args.receiver.now) (text_of S name)) c.args.at in
     let e1 = (w.ensures.came S names size st e (sub (fits S c.args.value.now) l (snd _ _ (snd _ _ l.fits)))).1 start (Then step ∷ k) a in
     let g1 = given w.result w.new.self.value w.new.self.leave (sym c.is_left.ensures ∙ c.if-is_left.false) e1 in
-    let f = rw w.ensures.context at c.write_member.ensures.came in
-    f name S start k names st e (fst _ _ l.fits) (fst _ _ (snd _ _ l.fits)) (omega (arith, l.within, l.below, w.ensures.base)) (omega (arith, l.room, w.ensures.base, w.ensures.room)) (on _ g1 refl)
+    let f = rw w.ensures.stays.1 at c.write_member.ensures.came in
+    f name S start k names st e (fst _ _ l.fits) (fst _ _ (snd _ _ l.fits)) (omega (arith, l.within, l.below, w.ensures.stays.0)) (omega (arith, l.room, w.ensures.stays.0, w.ensures.stays.3)) (on _ g1 refl)
 
 pub update_member-returns-then-is_true_now-clause-came : goal.update_member-returns-then-is_true_now-clause-came
 update_member-returns-then-is_true_now-clause-came g m c = λ name S start k names size st e l a.
@@ -2827,7 +2827,7 @@ update_member-returns-then-is_left-clause-came g m c = λ name S start k names s
 pub update_member-returns-else-is_left-clause-kept : goal.update_member-returns-else-is_left-clause-kept
 update_member-returns-else-is_left-clause-kept g m c = λ S names size st e l i p q.
     let y = c.combine-made in
-    c.write_member.ensures.kept i (omega (arith, q, y.ensures.base)) ∙ (y.ensures.came S names size st e l).0 i p q
+    c.write_member.ensures.kept i (omega (arith, q, y.ensures.stays.0)) ∙ (y.ensures.came S names size st e l).0 i p q
 
 pub update_member-returns-else-is_left-clause-came : goal.update_member-returns-else-is_left-clause-came
 update_member-returns-else-is_left-clause-came g m c = λ name S start k names size st e l a.
@@ -2835,8 +2835,8 @@ update_member-returns-else-is_left-clause-came g m c = λ name S start k names s
     let place = OfAttribute (plain c.args.receiver.now) (text_of S name) in
     let e2 = (y.ensures.came S names size st e (sub (fits S c.args.value.now) l (snd _ _ (snd _ _ l.fits)))).1 start (Then (WriteTo place c.args.at) ∷ k) (operates S _ start _ (value_of c.args.current c.args.self.now.value) place c.args.op (erase c.args.value.now) c.args.at c.in_default.not-OrElse c.in_default.not-AndThen a) in
     let g2 = given y.result y.new.self.value y.new.self.leave (sym c.is_left.ensures ∙ c.if-is_left.false) e2 in
-    let f = rw y.ensures.context at c.write_member.ensures.came in
-    f name S start k names st e (fst _ _ l.fits) (fst _ _ (snd _ _ l.fits)) (omega (arith, l.within, l.below, y.ensures.base)) (omega (arith, l.room, y.ensures.base, y.ensures.room)) (on _ g2 refl)
+    let f = rw y.ensures.stays.1 at c.write_member.ensures.came in
+    f name S start k names st e (fst _ _ l.fits) (fst _ _ (snd _ _ l.fits)) (omega (arith, l.within, l.below, y.ensures.stays.0)) (omega (arith, l.room, y.ensures.stays.0, y.ensures.stays.3)) (on _ g2 refl)
 
 pub update_attribute-returns-then-is_left-clause-came : goal.update_attribute-returns-then-is_left-clause-came
 update_attribute-returns-then-is_left-clause-came g m c = λ S names size st e l.
@@ -2853,7 +2853,7 @@ pub update_attribute-returns-then-is_left-2-clause-came : goal.update_attribute-
 update_attribute-returns-then-is_left-2-clause-came g m c = λ S names size st e l.
     let is = attribute_is S c.args.number c.args.writer c.args.name c.args.receiver.now c.args.value.now names size l.fits in
     let w = c.walk-came in (
-      λ i p q. c.invoke-current.ensures.kept i (omega (arith, q, c.take-receiver.ensures.base, w.ensures.base)) ∙ (w.ensures.came S names size st e (sub (fits S c.args.receiver.now) l is.1)).0 i p q,
+      λ i p q. c.invoke-current.ensures.kept i (omega (arith, q, c.take-receiver.ensures.stays.0, w.ensures.stays.0)) ∙ (w.ensures.came S names size st e (sub (fits S c.args.receiver.now) l is.1)).0 i p q,
       λ start k a.
           let step = MemberOf (text_of S c.args.name) c.args.op (erase c.args.value.now) c.args.at in
           let e1 = (w.ensures.came S names size st e (sub (fits S c.args.receiver.now) l is.1)).1 start (Then step ∷ k) a in
@@ -2862,9 +2862,9 @@ update_attribute-returns-then-is_left-2-clause-came g m c = λ S names size st e
           let t = c.take-receiver in
           let y = c.invoke-current in
           let reads = ReadOf (OfAttribute first (text_of S c.args.name)) c.args.op (erase c.args.value.now) c.args.at in
-          let base = t.ensures.base ∙ w.ensures.base in
-          let f = rw (t.ensures.context, w.ensures.context, t.ensures.left, t.ensures.store, t.ensures.value) at y.ensures.came in
-          let e2 = f S start (Then reads ∷ k) names st e (same_is _ _ is.0) (omega (arith, l.within, l.below, base)) (omega (arith, l.room, base, w.ensures.room)) (on _ g1 refl) in
+          let base = t.ensures.stays.0 ∙ w.ensures.stays.0 in
+          let f = rw (t.ensures.stays.1, w.ensures.stays.1, t.ensures.stays.2, t.ensures.stays.3, t.ensures.value) at y.ensures.came in
+          let e2 = f S start (Then reads ∷ k) names st e (same_is _ _ is.0) (omega (arith, l.within, l.below, base)) (omega (arith, l.room, base, w.ensures.stays.3)) (on _ g1 refl) in
           passes S _ start _ y.result y.new.self.value y.new.self.leave _ reads k _ _ _ (sym c.is_left-2.ensures ∙ c.if-is_left-2.true) e2,
     )
 
@@ -2875,22 +2875,22 @@ update_attribute-returns-clause-came g m c = λ S names size st e l.
     let t = c.take-receiver in
     let y = c.invoke-current in (
       λ i p q.
-          let base = y.ensures.base ∙ (t.ensures.base ∙ w.ensures.base) in
-          let f = rw (y.ensures.context, t.ensures.context, w.ensures.context) at c.update_member.ensures.kept in
-          let under = moved _ _ base (y.ensures.room ∙ w.ensures.room) (sub (fits S c.args.value.now) l (snd _ _ (snd _ _ is.2))) in
-          f S names size st e under i p (omega (arith, q, base)) ∙ (y.ensures.kept i (omega (arith, q, t.ensures.base, w.ensures.base)) ∙ (w.ensures.came S names size st e (sub (fits S c.args.receiver.now) l is.1)).0 i p q),
+          let base = y.ensures.stays.0 ∙ (t.ensures.stays.0 ∙ w.ensures.stays.0) in
+          let f = rw (y.ensures.stays.1, t.ensures.stays.1, w.ensures.stays.1) at c.update_member.ensures.kept in
+          let under = moved _ _ base (y.ensures.stays.3 ∙ w.ensures.stays.3) (sub (fits S c.args.value.now) l (snd _ _ (snd _ _ is.2))) in
+          f S names size st e under i p (omega (arith, q, base)) ∙ (y.ensures.kept i (omega (arith, q, t.ensures.stays.0, w.ensures.stays.0)) ∙ (w.ensures.came S names size st e (sub (fits S c.args.receiver.now) l is.1)).0 i p q),
       λ start k a.
           let step = MemberOf (text_of S c.args.name) c.args.op (erase c.args.value.now) c.args.at in
           let e1 = (w.ensures.came S names size st e (sub (fits S c.args.receiver.now) l is.1)).1 start (Then step ∷ k) a in
           let first = value_of w.result w.new.self.value in
           let g1 = given w.result w.new.self.value w.new.self.leave (sym c.is_left.ensures ∙ c.if-is_left.false) e1 in
           let reads = ReadOf (OfAttribute first (text_of S c.args.name)) c.args.op (erase c.args.value.now) c.args.at in
-          let base = t.ensures.base ∙ w.ensures.base in
-          let f = rw (t.ensures.context, w.ensures.context, t.ensures.left, t.ensures.store, t.ensures.value) at y.ensures.came in
-          let e2 = f S start (Then reads ∷ k) names st e (same_is _ _ is.0) (omega (arith, l.within, l.below, base)) (omega (arith, l.room, base, w.ensures.room)) (on _ g1 refl) in
+          let base = t.ensures.stays.0 ∙ w.ensures.stays.0 in
+          let f = rw (t.ensures.stays.1, w.ensures.stays.1, t.ensures.stays.2, t.ensures.stays.3, t.ensures.value) at y.ensures.came in
+          let e2 = f S start (Then reads ∷ k) names st e (same_is _ _ is.0) (omega (arith, l.within, l.below, base)) (omega (arith, l.room, base, w.ensures.stays.3)) (on _ g1 refl) in
           let g2 = given y.result y.new.self.value y.new.self.leave (sym c.is_left-2.ensures ∙ c.if-is_left-2.false) e2 in
-          let h1 = rw (y.ensures.context, t.ensures.context, w.ensures.context, t.ensures.value) at c.update_member.ensures.came in
-          let under = moved _ _ (y.ensures.base ∙ base) (y.ensures.room ∙ w.ensures.room) (sub (written_by c.args.writer c.args.name (λ S. fits S c.args.value.now) S) l is.2) in
+          let h1 = rw (y.ensures.stays.1, t.ensures.stays.1, w.ensures.stays.1, t.ensures.value) at c.update_member.ensures.came in
+          let under = moved _ _ (y.ensures.stays.0 ∙ base) (y.ensures.stays.3 ∙ w.ensures.stays.3) (sub (written_by c.args.writer c.args.name (λ S. fits S c.args.value.now) S) l is.2) in
           h1 c.args.name S start k names size st e under g2,
     )
 
@@ -2908,17 +2908,17 @@ pub store_by-returns-then-is_left-2-clause-came : goal.store_by-returns-then-is_
 store_by-returns-then-is_left-2-clause-came g m c = λ S names size st e l.
     let w = c.walk-came in
     let t = c.take-receiver in
-    let under = moved _ _ (t.ensures.base ∙ w.ensures.base) w.ensures.room (sub (every (map (fits S) c.args.args.now)) l (snd _ _ (snd _ _ l.fits))) in (
+    let under = moved _ _ (t.ensures.stays.0 ∙ w.ensures.stays.0) w.ensures.stays.3 (sub (every (map (fits S) c.args.args.now)) l (snd _ _ (snd _ _ l.fits))) in (
       λ i p q.
           let first = (w.ensures.came S names size st e (sub (fits S c.args.receiver.now) l (fst _ _ (snd _ _ l.fits)))).0 i p q in
-          let f = rw (t.ensures.context, w.ensures.context) at c.arguments-came.ensures.kept in
-          f S names size st e under i p (omega (arith, q, t.ensures.base, w.ensures.base)) ∙ first,
+          let f = rw (t.ensures.stays.1, w.ensures.stays.1) at c.arguments-came.ensures.kept in
+          f S names size st e under i p (omega (arith, q, t.ensures.stays.0, w.ensures.stays.0)) ∙ first,
       λ start k a.
           let step = ReceiverToStore (text_of S c.args.name) (map erase c.args.args.now) c.args.at in
           let come = (w.ensures.came S names size st e (sub (fits S c.args.receiver.now) l (fst _ _ (snd _ _ l.fits)))).1 start (Then step ∷ k) a in
           let v = value_of w.result w.new.self.value in
           let g1 = given w.result w.new.self.value w.new.self.leave (sym c.is_left.ensures ∙ c.if-is_left.false) come in
-          let f = rw (t.ensures.context, w.ensures.context, t.ensures.left, t.ensures.store) at c.arguments-came.ensures.came in
+          let f = rw (t.ensures.stays.1, w.ensures.stays.1, t.ensures.stays.2, t.ensures.stays.3) at c.arguments-came.ensures.came in
           let p = f (Storing v (text_of S c.args.name)) c.args.at S start k names size st e under (on _ g1 refl) in
           p.0 (sym c.is_left-2.ensures ∙ c.if-is_left-2.true),
     )
@@ -2927,26 +2927,26 @@ pub store_by-returns-in-Some-target_of-clause-came : goal.store_by-returns-in-So
 store_by-returns-in-Some-target_of-clause-came g m c = λ S names size st e l.
     let w = c.walk-came in
     let t = c.take-receiver in
-    let under = moved _ _ (t.ensures.base ∙ w.ensures.base) w.ensures.room (sub (every (map (fits S) c.args.args.now)) l (snd _ _ (snd _ _ l.fits))) in (
+    let under = moved _ _ (t.ensures.stays.0 ∙ w.ensures.stays.0) w.ensures.stays.3 (sub (every (map (fits S) c.args.args.now)) l (snd _ _ (snd _ _ l.fits))) in (
       λ i p q.
           let first = (w.ensures.came S names size st e (sub (fits S c.args.receiver.now) l (fst _ _ (snd _ _ l.fits)))).0 i p q in
-          let f = rw (t.ensures.context, w.ensures.context) at c.arguments-came.ensures.kept in
-          c.store_with.ensures.kept i (omega (arith, q, t.ensures.base, w.ensures.base)) ∙ (f S names size st e under i p (omega (arith, q, t.ensures.base, w.ensures.base)) ∙ first),
+          let f = rw (t.ensures.stays.1, w.ensures.stays.1) at c.arguments-came.ensures.kept in
+          c.store_with.ensures.kept i (omega (arith, q, t.ensures.stays.0, w.ensures.stays.0)) ∙ (f S names size st e under i p (omega (arith, q, t.ensures.stays.0, w.ensures.stays.0)) ∙ first),
       λ start k a.
           let step = ReceiverToStore (text_of S c.args.name) (map erase c.args.args.now) c.args.at in
           let come = (w.ensures.came S names size st e (sub (fits S c.args.receiver.now) l (fst _ _ (snd _ _ l.fits)))).1 start (Then step ∷ k) a in
           let v = value_of w.result w.new.self.value in
           let g1 = given w.result w.new.self.value w.new.self.leave (sym c.is_left.ensures ∙ c.if-is_left.false) come in
-          let f = rw (t.ensures.context, w.ensures.context, t.ensures.left, t.ensures.store) at c.arguments-came.ensures.came in
+          let f = rw (t.ensures.stays.1, w.ensures.stays.1, t.ensures.stays.2, t.ensures.stays.3) at c.arguments-came.ensures.came in
           let p = f (Storing v (text_of S c.args.name)) c.args.at S start k names size st e under (on _ g1 refl) in
           let r = c.arguments-came in
           let came = sym c.is_left-2.ensures ∙ c.if-is_left-2.false in
           let base = t.new.self.base in
           let long : base + length c.args.args.now ≤ length r.new.room = omega (arith, r.ensures.base came, r.ensures.fits under.room) in
           let values = map plain (take (length c.args.args.now) (drop base r.new.room)) in
-          let target = rw (r.ensures.context, t.ensures.context, w.ensures.context, t.ensures.value) at c.in-Some-target_of.ensures.some in
+          let target = rw (r.ensures.context, t.ensures.stays.1, w.ensures.stays.1, t.ensures.value) at c.in-Some-target_of.ensures.some in
           let entered = same (on _ (p.1 came) refl) (by_receiver S v (me_of (Some c.in-Some-target_of.target.object)) (text_of S c.args.name) (erase_method c.in-Some-target_of.target.method.now) values c.args.at (Then (Instead (last_value S values)) ∷ k) _ _ _ (target.finds S st) target.me) in
-          let h1 = rw (r.ensures.context, t.ensures.context, w.ensures.context) at c.store_with.ensures.came in
+          let h1 = rw (r.ensures.context, t.ensures.stays.1, w.ensures.stays.1) at c.store_with.ensures.came in
           h1 S start k names st e (target.right S st) (omega (arith, under.within, under.below)) long entered,
     )
 
@@ -2954,27 +2954,27 @@ pub store_by-returns-clause-came : goal.store_by-returns-clause-came
 store_by-returns-clause-came g m c = λ S names size st e l.
     let w = c.walk-came in
     let t = c.take-receiver in
-    let under = moved _ _ (t.ensures.base ∙ w.ensures.base) w.ensures.room (sub (every (map (fits S) c.args.args.now)) l (snd _ _ (snd _ _ l.fits))) in (
+    let under = moved _ _ (t.ensures.stays.0 ∙ w.ensures.stays.0) w.ensures.stays.3 (sub (every (map (fits S) c.args.args.now)) l (snd _ _ (snd _ _ l.fits))) in (
       λ i p q.
           let first = (w.ensures.came S names size st e (sub (fits S c.args.receiver.now) l (fst _ _ (snd _ _ l.fits)))).0 i p q in
-          let f = rw (t.ensures.context, w.ensures.context) at c.arguments-came.ensures.kept in
-          f S names size st e under i p (omega (arith, q, t.ensures.base, w.ensures.base)) ∙ first,
+          let f = rw (t.ensures.stays.1, w.ensures.stays.1) at c.arguments-came.ensures.kept in
+          f S names size st e under i p (omega (arith, q, t.ensures.stays.0, w.ensures.stays.0)) ∙ first,
       λ start k a.
           let step = ReceiverToStore (text_of S c.args.name) (map erase c.args.args.now) c.args.at in
           let come = (w.ensures.came S names size st e (sub (fits S c.args.receiver.now) l (fst _ _ (snd _ _ l.fits)))).1 start (Then step ∷ k) a in
           let v = value_of w.result w.new.self.value in
           let g1 = given w.result w.new.self.value w.new.self.leave (sym c.is_left.ensures ∙ c.if-is_left.false) come in
-          let f = rw (t.ensures.context, w.ensures.context, t.ensures.left, t.ensures.store) at c.arguments-came.ensures.came in
+          let f = rw (t.ensures.stays.1, w.ensures.stays.1, t.ensures.stays.2, t.ensures.stays.3) at c.arguments-came.ensures.came in
           let p = f (Storing v (text_of S c.args.name)) c.args.at S start k names size st e under (on _ g1 refl) in
           let r = c.arguments-came in
           let came = sym c.is_left-2.ensures ∙ c.if-is_left-2.false in
           let values = map plain (take (length c.args.args.now) (drop t.new.self.base r.new.room)) in
-          let none = (rw (r.ensures.context, t.ensures.context, w.ensures.context, t.ensures.value) at (c.target_of.ensures.none c.in-None.is)) S st in
+          let none = (rw (r.ensures.context, t.ensures.stays.1, w.ensures.stays.1, t.ensures.value) at (c.target_of.ensures.none c.in-None.is)) S st in
           let base = t.new.self.base in
           let long : base + length c.args.args.now ≤ length r.new.room = omega (arith, r.ensures.base came, r.ensures.fits under.room) in
           let o = c.store_builtin.ensures in
           let number = same_is (builtin_of (text_of S c.args.name)) c.args.method (fst _ _ l.fits) in
-          let h1 = rw (r.ensures.context, t.ensures.context, w.ensures.context, t.ensures.value, c.passed.ensures long) at (o.came (text_of S c.args.name) number) in
+          let h1 = rw (r.ensures.context, t.ensures.stays.1, w.ensures.stays.1, t.ensures.value, c.passed.ensures long) at (o.came (text_of S c.args.name) number) in
           stores_builtin S _ start _ _ _ _ _ _ _ _ _ _ c.args.self.now.context.program.now v (text_of S c.args.name) values c.args.at none e h1 (on _ (p.1 came) refl),
     )
 
@@ -2983,7 +2983,7 @@ begin_other-returns-in-SelfRef-clause-came g m c = λ S names size st e l. (
   λ i p q. refl,
   λ start k a.
       let o = c.give_self.ensures in
-      rw (o.gives, o.left, o.store) (begins _ _ k _ _ _ (shows-self_ref c.args.code.now c.in-SelfRef.field-0 c.in-SelfRef.is) a),
+      rw (o.gives, o.stays.2, o.stays.3) (begins _ _ k _ _ _ (shows-self_ref c.args.code.now c.in-SelfRef.field-0 c.in-SelfRef.is) a),
 )
 
 pub begin_other-returns-in-Start-clause-came : goal.begin_other-returns-in-Start-clause-came
@@ -3003,7 +3003,7 @@ begin_global-returns-in-Global-clause-came g m c = λ S names size st e l. (
       let x = c.in-Global in
       let sc = scope_of (me_of c.args.self.now.context.me) names c.args.room.now in
       let b = begins _ _ k _ _ _ (shows-global c.args.code.now x.name x.at x.is) a in
-      rw o.left (o.came S start k sc c.args.depth (same b (ap (λ v. ask_of v (GetField x.name) x.at k sc c.args.depth c.args.self.now.left) (sym c.globals.ensures)))),
+      rw o.stays.2 (o.came S start k sc c.args.depth (same b (ap (λ v. ask_of v (GetField x.name) x.at k sc c.args.depth c.args.self.now.left) (sym c.globals.ensures)))),
 )
 
 pub begin_global-returns-in-SetGlobal-clause-came : goal.begin_global-returns-in-SetGlobal-clause-came
@@ -3047,7 +3047,7 @@ begin_thread-returns-clause-came g m c = λ S names size st e l.
           let f = rw (y.ensures.context, values) at c.start.ensures.came in
           let have = fst (have_slots (S.captured_names c.args.body) names c.args.slots.now) (every (map (fits S) c.args.args.now) names size) l.fits in
           let short : length names ≤ length y.new.room = omega (arith, l.within, l.below, l.room, y.ensures.room) in
-          rw c.start.ensures.left (f S start k names c.args.depth e have short (on _ (both.1 came) refl)),
+          rw c.start.ensures.stays.2 (f S start k names c.args.depth e have short (on _ (both.1 came) refl)),
     )
 
 pub synchronize-returns-then-is_left-clause-came : goal.synchronize-returns-then-is_left-clause-came
@@ -3057,44 +3057,44 @@ synchronize-returns-then-is_left-clause-came g m c = λ S names size st e l. (
       let y = c.ask_apart-taken in
       let step = Locked (thing_of c.args.mutex) (erase_block c.args.block.now) c.args.at in
       let come = y.ensures.came S start (Then step ∷ k) (scope_of (me_of c.args.self.now.context.me) names c.args.room.now) c.args.depth a in
-      rw y.ensures.left (passes S _ start _ y.result y.new.self.value y.new.self.leave _ step k _ _ _ (sym c.is_left.ensures ∙ c.if-is_left.true) come),
+      rw y.ensures.stays.2 (passes S _ start _ y.result y.new.self.value y.new.self.leave _ step k _ _ _ (sym c.is_left.ensures ∙ c.if-is_left.true) come),
 )
 
 pub synchronize-returns-clause-came : goal.synchronize-returns-clause-came
 synchronize-returns-clause-came g m c = λ S names size st e l.
     let y = c.ask_apart-taken in
-    let inside = moved _ _ y.ensures.base refl l in
+    let inside = moved _ _ y.ensures.stays.0 refl l in
     let z = c.owning-came in
     let o = c.give_back.ensures in (
       λ i p q.
-          let f = rw y.ensures.context at z.ensures.kept in
-          f S names size st e inside i p (omega (arith, q, y.ensures.base)),
+          let f = rw y.ensures.stays.1 at z.ensures.kept in
+          f S names size st e inside i p (omega (arith, q, y.ensures.stays.0)),
       λ start k a.
           let block = c.args.block.now in
           let own = S.block_names block.at in
           let step = Locked (thing_of c.args.mutex) (erase_block block) c.args.at in
           let come = y.ensures.came S start (Then step ∷ k) (scope_of (me_of c.args.self.now.context.me) names c.args.room.now) c.args.depth a in
           let g1 = given y.result y.new.self.value y.new.self.leave (sym c.is_left.ensures ∙ c.if-is_left.false) come in
-          let f = rw (y.ensures.context, y.ensures.left) at z.ensures.came in
+          let f = rw (y.ensures.stays.1, y.ensures.stays.2) at z.ensures.came in
           let inner = f (thing_of c.args.mutex) c.args.at S start k names size st e inside (on _ g1 refl) in
-          let long : length names ≤ length z.new.room = omega (arith, l.within, l.below, l.room, z.ensures.room) in
-          let back_to = rw (z.ensures.context, y.ensures.context) at o.came in
+          let long : length names ≤ length z.new.room = omega (arith, l.within, l.below, l.room, z.ensures.stays.3) in
+          let back_to = rw (z.ensures.stays.1, y.ensures.stays.1) at o.came in
           let outer = back_to (erase_block block) S start k (scope_of (me_of c.args.self.now.context.me) (names ++ own) z.new.room) c.args.depth (length names) inner in
           let log = g.O.ThreadStore.log c.give_back.new.self.store in
           let private = g.O.ThreadStore.private c.give_back.new.self.store in
           let how = outcome c.give_back.result c.give_back.new.self.value c.give_back.new.self.leave in
-          rw o.left (subst (λ sc. Came S c.args.self.now.context.steps start log private how k sc c.args.depth z.new.self.left) (back_is (me_of c.args.self.now.context.me) names own z.new.room long) outer),
+          rw o.stays.2 (subst (λ sc. Came S c.args.self.now.context.steps start log private how k sc c.args.depth z.new.self.left) (back_is (me_of c.args.self.now.context.me) names own z.new.room long) outer),
     )
 
 pub owning-returns-then-self-eq0-clause-came : goal.owning-returns-then-self-eq0-clause-came
 owning-returns-then-self-eq0-clause-came g m c = λ mutex at S start k names size st e l a.
     let o = c.over.ensures in
-    rw (o.gives, o.left, o.store) (no_owning mutex _ at k _ _ _ c.if-self-eq0.true a)
+    rw (o.gives, o.stays.2, o.stays.3) (no_owning mutex _ at k _ _ _ c.if-self-eq0.true a)
 
 pub owning-returns-then-room-from-clause-came : goal.owning-returns-then-room-from-clause-came
 owning-returns-then-room-from-clause-came g m c = λ mutex at S start k names size st e l a.
     let o = c.over-then-room-from.ensures in
-    rw (o.gives, o.left, o.store) (_, a, owning_left S mutex (erase_block c.args.block.now) at k _ _ _)
+    rw (o.gives, o.stays.2, o.stays.3) (_, a, owning_left S mutex (erase_block c.args.block.now) at k _ _ _)
 
 pub owning-returns-clause-kept : goal.owning-returns-clause-kept
 owning-returns-clause-kept g m c = λ S names size st e l i p q.
@@ -3121,39 +3121,39 @@ send_block-returns-in-Owned-clause-came g m c = λ S names size st e l.
     let first = sub (fits S c.args.receiver.now) l (fst _ _ right) in
     let t = c.take-receiver.ensures in
     let y = c.arguments-came in
-    let under = moved _ _ w.ensures.base w.ensures.room (sub (every (map (fits S) c.args.args.now)) l (fst _ _ (snd _ _ right))) in
+    let under = moved _ _ w.ensures.stays.0 w.ensures.stays.3 (sub (every (map (fits S) c.args.args.now)) l (fst _ _ (snd _ _ right))) in
     let o = c.iterations.ensures in
-    let base : c.iterations.new.self.base ≡ c.args.self.now.base = o.base ∙ (t.base ∙ w.ensures.base) in
-    let inside = moved _ _ base (y.ensures.room ∙ w.ensures.room) (sub (block_fits S c.args.block.now) l (snd _ _ (snd _ _ right))) in (
+    let base : c.iterations.new.self.base ≡ c.args.self.now.base = o.stays.0 ∙ (t.stays.0 ∙ w.ensures.stays.0) in
+    let inside = moved _ _ base (y.ensures.room ∙ w.ensures.stays.3) (sub (block_fits S c.args.block.now) l (snd _ _ (snd _ _ right))) in (
       λ i p q.
-          let f = rw (t.context, t.base, w.ensures.context) at y.ensures.kept in
-          let stays = f S names size st e under i p (omega (arith, q, w.ensures.base)) ∙ (w.ensures.came S names size st e first).0 i p q in
-          let u = rw (o.context, y.ensures.context, t.context, w.ensures.context) at c.synchronize.ensures.came in
+          let f = rw (t.stays.1, t.stays.0, w.ensures.stays.1) at y.ensures.kept in
+          let stays = f S names size st e under i p (omega (arith, q, w.ensures.stays.0)) ∙ (w.ensures.came S names size st e first).0 i p q in
+          let u = rw (o.stays.1, y.ensures.context, t.stays.1, w.ensures.stays.1) at c.synchronize.ensures.came in
           (u S names size st e inside).0 i p (omega (arith, q, base)) ∙ stays,
       λ start k a.
           let step = ReceiverOf (text_of S c.args.name) (map erase c.args.args.now) (Some (erase_block c.args.block.now)) c.args.at in
           let come = (w.ensures.came S names size st e first).1 start (Then step ∷ k) a in
           let none = sym c.is_left.ensures ∙ c.if-is_left.false in
           let v = value_of w.result w.new.self.value in
-          let f = rw (t.context, t.base, t.left, t.store, w.ensures.context) at y.ensures.came in
+          let f = rw (t.stays.1, t.stays.0, t.stays.2, t.stays.3, w.ensures.stays.1) at y.ensures.came in
           let ends = f (OnReceiver v (text_of S c.args.name) (Some (erase_block c.args.block.now))) c.args.at S start k names size st e under (on _ (given w.result w.new.self.value w.new.self.leave none come) refl) in
           let at_end = ends.1 (sym c.is_left-2.ensures ∙ c.if-is_left-2.false) in
-          let short : w.new.self.base ≤ length w.new.room = still_within w.ensures.base w.ensures.room l.room in
-          let from = rw t.base at y.ensures.fits in
-          let end = rw t.base at y.ensures.base in
+          let short : w.new.self.base ≤ length w.new.room = still_within w.ensures.stays.0 w.ensures.stays.3 l.room in
+          let from = rw t.stays.0 at y.ensures.fits in
+          let end = rw t.stays.0 at y.ensures.base in
           let edge = from short in
           let last = end (sym c.is_left-2.ensures ∙ c.if-is_left-2.false) in
-          let passed = rw t.base at c.passed-args.ensures in
+          let passed = rw t.stays.0 at c.passed-args.ensures in
           let long : w.new.self.base + length c.args.args.now ≤ length y.new.room = up_to_end w.new.self.base _ _ (length c.args.args.now) edge last in
           let values = passed long in
           let number = same_is (builtin_of (text_of S c.args.name)) c.args.method (fst _ _ l.fits) in
           let args = map plain (take (length c.args.args.now) (drop w.new.self.base y.new.room)) in
           let answer = deed c.args.self.now.context.program.now v (text_of S c.args.name) args (Some (length c.args.block.now.params)) in
-          let none_own = (rw (y.ensures.context, t.context, w.ensures.context, t.value) at (c.target_of.ensures.none c.in_default.is)) S st in
+          let none_own = (rw (y.ensures.context, t.stays.1, w.ensures.stays.1, t.value) at (c.target_of.ensures.none c.in_default.is)) S st in
           let table = answers_block c.args.block.now v (text_of S c.args.name) args c.args.at answer none_own (ap (λ (ns : Program). deed ns v (text_of S c.args.name) args (Some (length c.args.block.now.params))) (sym e)) at_end in
-          let said = rw (y.ensures.context, t.context, w.ensures.context, t.value, values, c.len.ensures, c.in-Owned.is) at o.opens in
+          let said = rw (y.ensures.context, t.stays.1, w.ensures.stays.1, t.value, values, c.len.ensures, c.in-Owned.is) at o.opens in
           let turning = block_comes S _ start _ _ answer (Synchronizes (thing_of c.in-Owned.mutex)) (erase_block c.args.block.now) c.args.at k _ _ _ (said (text_of S c.args.name) number) table in
-          let u = rw (o.context, o.left, o.store, y.ensures.context, t.context, w.ensures.context) at c.synchronize.ensures.came in
+          let u = rw (o.stays.1, o.stays.2, o.stays.3, y.ensures.context, t.stays.1, w.ensures.stays.1) at c.synchronize.ensures.came in
           (u S names size st e inside).1 start k turning,
     )
 
@@ -3162,7 +3162,7 @@ begin-returns-in-Field-clause-came g m c = λ S names size st e l. (
   λ i p q. refl,
   λ start k a.
       let o = c.field_apart.ensures in
-      rw o.left (o.came S start k _ c.args.depth (begins _ _ k _ _ _ (shows-field c.args.code.now c.in-Field.name c.in-Field.at c.in-Field.is) a)),
+      rw o.stays.2 (o.came S start k _ c.args.depth (begins _ _ k _ _ _ (shows-field c.args.code.now c.in-Field.name c.in-Field.at c.in-Field.is) a)),
 )
 
 pub begin_set_field-returns-in-SetField-clause-came : goal.begin_set_field-returns-in-SetField-clause-came
@@ -3190,7 +3190,7 @@ begin_update_field-returns-in-None-clause-came g m c = λ S names size st e l.
     let x = c.in-UpdateField in
     let s = sym (ap (λ d. fits S d names size) x.is ∙ fits-update_field S names size x.name x.op x.value x.at) ∙ l.fits in
     let y = c.added.ensures in
-    let f = rw (y.context, y.base, y.log, y.still c.in-None.is, y.kept c.in-None.is) at c.update_field.ensures.came in
+    let f = rw (y.stays.1, y.stays.0, y.log, y.still c.in-None.is, y.kept c.in-None.is) at c.update_field.ensures.came in
     let promise = f (OfField x.name) (of_self refl) S names size st e (sub _ l (rw c.get-value.ensures s)) in (
       promise.0,
       λ start k a.
@@ -3220,8 +3220,8 @@ set_field-returns-clause-came g m c = λ step is S start k names size st e l a.
     let w = c.evaluate_leaf-came in
     let come = (w.ensures.came S names size st e l).1 start (Then step ∷ k) a in
     let g1 = given w.result w.new.self.value w.new.self.leave (sym c.is_left.ensures ∙ c.if-is_left.false) come in
-    let f = rw w.ensures.context at c.write_field.ensures.came in
-    rw c.write_field.ensures.left (f S start k _ c.args.depth (fielded_by S _ start _ (me_of c.args.owner) c.args.name c.args.at step is (value_of w.result w.new.self.value) g1))
+    let f = rw w.ensures.stays.1 at c.write_field.ensures.came in
+    rw c.write_field.ensures.stays.2 (f S start k _ c.args.depth (fielded_by S _ start _ (me_of c.args.owner) c.args.name c.args.at step is (value_of w.result w.new.self.value) g1))
 
 pub update_field-returns-then-is_left-clause-came : goal.update_field-returns-then-is_left-clause-came
 update_field-returns-then-is_left-clause-came g m c = λ place is S names size st e l. (
@@ -3230,7 +3230,7 @@ update_field-returns-then-is_left-clause-came g m c = λ place is S names size s
       let r = c.field-current in
       let step = ReadOf place c.args.op (erase c.args.value.now) c.args.at in
       let come = r.ensures.came S start (Then step ∷ k) (scope_of (me_of c.args.self.now.context.me) names c.args.room.now) c.args.depth (same a (read_so S _ _ c.args.name place c.args.op (erase c.args.value.now) c.args.at k (scope_of (me_of c.args.self.now.context.me) names c.args.room.now) c.args.depth _ refl is)) in
-      rw r.ensures.left (passes S _ start _ r.result r.new.self.value r.new.self.leave _ step k _ _ _ (sym c.is_left.ensures ∙ c.if-is_left.true) come),
+      rw r.ensures.stays.2 (passes S _ start _ r.result r.new.self.value r.new.self.leave _ step k _ _ _ (sym c.is_left.ensures ∙ c.if-is_left.true) come),
 )
 
 pub update_field-returns-then-is_true_now-clause-came : goal.update_field-returns-then-is_true_now-clause-came
@@ -3243,23 +3243,23 @@ update_field-returns-then-is_true_now-clause-came g m c = λ place is S names si
       let none = sym c.is_left.ensures ∙ c.if-is_left.false in
       let g1 = given r.result r.new.self.value r.new.self.leave none come in
       let t = sym (c.is_true_now.ensures none) ∙ c.if-is_true_now.true in
-      rw r.ensures.left (comes S _ start _ _ k _ _ _ _ _ (gave r.result r.new.self.value r.new.self.leave none) (or_else_stays S _ start _ (value_of r.result r.new.self.value) place c.args.op (erase c.args.value.now) c.args.at c.in-OrElse.is t g1)),
+      rw r.ensures.stays.2 (comes S _ start _ _ k _ _ _ _ _ (gave r.result r.new.self.value r.new.self.leave none) (or_else_stays S _ start _ (value_of r.result r.new.self.value) place c.args.op (erase c.args.value.now) c.args.at c.in-OrElse.is t g1)),
 )
 
 pub update_field-returns-else-is_true_now-clause-came : goal.update_field-returns-else-is_true_now-clause-came
 update_field-returns-else-is_true_now-clause-came g m c = λ place is S names size st e l.
     let r = c.field-current in (
       λ i p q.
-          let f = rw r.ensures.context at c.set_field.ensures.kept in
-          f S names size st e (moved _ _ r.ensures.base refl l) i p (omega (arith, q, r.ensures.base)),
+          let f = rw r.ensures.stays.1 at c.set_field.ensures.kept in
+          f S names size st e (moved _ _ r.ensures.stays.0 refl l) i p (omega (arith, q, r.ensures.stays.0)),
       λ start k a.
           let step = ReadOf place c.args.op (erase c.args.value.now) c.args.at in
           let come = r.ensures.came S start (Then step ∷ k) (scope_of (me_of c.args.self.now.context.me) names c.args.room.now) c.args.depth (same a (read_so S _ _ c.args.name place c.args.op (erase c.args.value.now) c.args.at k (scope_of (me_of c.args.self.now.context.me) names c.args.room.now) c.args.depth _ refl is)) in
           let none = sym c.is_left.ensures ∙ c.if-is_left.false in
           let g1 = given r.result r.new.self.value r.new.self.leave none come in
           let t = sym (c.is_true_now.ensures none) ∙ c.if-is_true_now.false in
-          let f = rw (r.ensures.context, r.ensures.left) at c.set_field.ensures.came in
-          f (WriteTo place c.args.at) (field_updated place is) S start k names size st e (moved _ _ r.ensures.base refl l) (or_else_goes S _ start _ (value_of r.result r.new.self.value) place c.args.op (erase c.args.value.now) c.args.at c.in-OrElse.is t g1),
+          let f = rw (r.ensures.stays.1, r.ensures.stays.2) at c.set_field.ensures.came in
+          f (WriteTo place c.args.at) (field_updated place is) S start k names size st e (moved _ _ r.ensures.stays.0 refl l) (or_else_goes S _ start _ (value_of r.result r.new.self.value) place c.args.op (erase c.args.value.now) c.args.at c.in-OrElse.is t g1),
     )
 
 pub update_field-returns-then-not-is_true_now-clause-came : goal.update_field-returns-then-not-is_true_now-clause-came
@@ -3272,39 +3272,39 @@ update_field-returns-then-not-is_true_now-clause-came g m c = λ place is S name
       let none = sym c.is_left.ensures ∙ c.if-is_left.false in
       let g1 = given r.result r.new.self.value r.new.self.leave none come in
       let t = sym (c.is_true_now-in-AndThen.ensures none) ∙ c.if-not-is_true_now.true in
-      rw r.ensures.left (comes S _ start _ _ k _ _ _ _ _ (gave r.result r.new.self.value r.new.self.leave none) (and_then_stays S _ start _ (value_of r.result r.new.self.value) place c.args.op (erase c.args.value.now) c.args.at c.in-AndThen.is t g1)),
+      rw r.ensures.stays.2 (comes S _ start _ _ k _ _ _ _ _ (gave r.result r.new.self.value r.new.self.leave none) (and_then_stays S _ start _ (value_of r.result r.new.self.value) place c.args.op (erase c.args.value.now) c.args.at c.in-AndThen.is t g1)),
 )
 
 pub update_field-returns-else-not-is_true_now-clause-came : goal.update_field-returns-else-not-is_true_now-clause-came
 update_field-returns-else-not-is_true_now-clause-came g m c = λ place is S names size st e l.
     let r = c.field-current in (
       λ i p q.
-          let f = rw r.ensures.context at c.set_field-in-AndThen.ensures.kept in
-          f S names size st e (moved _ _ r.ensures.base refl l) i p (omega (arith, q, r.ensures.base)),
+          let f = rw r.ensures.stays.1 at c.set_field-in-AndThen.ensures.kept in
+          f S names size st e (moved _ _ r.ensures.stays.0 refl l) i p (omega (arith, q, r.ensures.stays.0)),
       λ start k a.
           let step = ReadOf place c.args.op (erase c.args.value.now) c.args.at in
           let come = r.ensures.came S start (Then step ∷ k) (scope_of (me_of c.args.self.now.context.me) names c.args.room.now) c.args.depth (same a (read_so S _ _ c.args.name place c.args.op (erase c.args.value.now) c.args.at k (scope_of (me_of c.args.self.now.context.me) names c.args.room.now) c.args.depth _ refl is)) in
           let none = sym c.is_left.ensures ∙ c.if-is_left.false in
           let g1 = given r.result r.new.self.value r.new.self.leave none come in
           let t = sym (c.is_true_now-in-AndThen.ensures none) ∙ c.if-not-is_true_now.false in
-          let f = rw (r.ensures.context, r.ensures.left) at c.set_field-in-AndThen.ensures.came in
-          f (WriteTo place c.args.at) (field_updated place is) S start k names size st e (moved _ _ r.ensures.base refl l) (and_then_goes S _ start _ (value_of r.result r.new.self.value) place c.args.op (erase c.args.value.now) c.args.at c.in-AndThen.is t g1),
+          let f = rw (r.ensures.stays.1, r.ensures.stays.2) at c.set_field-in-AndThen.ensures.came in
+          f (WriteTo place c.args.at) (field_updated place is) S start k names size st e (moved _ _ r.ensures.stays.0 refl l) (and_then_goes S _ start _ (value_of r.result r.new.self.value) place c.args.op (erase c.args.value.now) c.args.at c.in-AndThen.is t g1),
     )
 
 pub update_field-returns-then-is_left-2-clause-came : goal.update_field-returns-then-is_left-2-clause-came
 update_field-returns-then-is_left-2-clause-came g m c = λ place is S names size st e l.
     let r = c.field-current in (
       λ i p q.
-          let f = rw r.ensures.context at c.combine-made.ensures.came in
-          (f S names size st e (moved _ _ r.ensures.base refl l)).0 i p (omega (arith, q, r.ensures.base)),
+          let f = rw r.ensures.stays.1 at c.combine-made.ensures.came in
+          (f S names size st e (moved _ _ r.ensures.stays.0 refl l)).0 i p (omega (arith, q, r.ensures.stays.0)),
       λ start k a.
           let step = ReadOf place c.args.op (erase c.args.value.now) c.args.at in
           let come = r.ensures.came S start (Then step ∷ k) (scope_of (me_of c.args.self.now.context.me) names c.args.room.now) c.args.depth (same a (read_so S _ _ c.args.name place c.args.op (erase c.args.value.now) c.args.at k (scope_of (me_of c.args.self.now.context.me) names c.args.room.now) c.args.depth _ refl is)) in
           let none = sym c.is_left.ensures ∙ c.if-is_left.false in
           let g1 = given r.result r.new.self.value r.new.self.leave none come in
           let y = c.combine-made in
-          let f = rw (r.ensures.context, r.ensures.left) at y.ensures.came in
-          let e2 = (f S names size st e (moved _ _ r.ensures.base refl l)).1 start (Then (WriteTo place c.args.at) ∷ k) (operates S _ start _ (value_of r.result r.new.self.value) place c.args.op (erase c.args.value.now) c.args.at c.in_default.not-OrElse c.in_default.not-AndThen g1) in
+          let f = rw (r.ensures.stays.1, r.ensures.stays.2) at y.ensures.came in
+          let e2 = (f S names size st e (moved _ _ r.ensures.stays.0 refl l)).1 start (Then (WriteTo place c.args.at) ∷ k) (operates S _ start _ (value_of r.result r.new.self.value) place c.args.op (erase c.args.value.now) c.args.at c.in_default.not-OrElse c.in_default.not-AndThen g1) in
           passes S _ start _ y.result y.new.self.value y.new.self.leave _ (WriteTo place c.args.at) k _ _ _ (sym c.is_left-in_default.ensures ∙ c.if-is_left-2.true) e2,
     )
 
@@ -3341,7 +3341,7 @@ begin_own-returns-clause-came g m c = λ S names size st e l.
           let both = y.ensures.came (ByName c.args.name) c.args.at S start k names size st e (sub (every (map (fits S) c.args.args.now)) l is.2) a in
           let came = sym c.is_left.ensures ∙ c.if-is_left.false in
           let o = c.raise.ensures in
-          rw (o.gives, o.left, o.store) (same (on _ (both.1 came) refl) (found_nowhere S c.args.name (map plain (take (length c.args.args.now) (drop c.args.self.now.base y.new.room))) c.args.at k _ _ _ (c.own_target.ensures.none c.in_default.is S st) is.0 is.1)),
+          rw (o.gives, o.stays.2, o.stays.3) (same (on _ (both.1 came) refl) (found_nowhere S c.args.name (map plain (take (length c.args.args.now) (drop c.args.self.now.base y.new.room))) c.args.at k _ _ _ (c.own_target.ensures.none c.in_default.is S st) is.0 is.1)),
     )
 
 pub begin_other-returns-in-Own-clause-came : goal.begin_other-returns-in-Own-clause-came
@@ -3358,22 +3358,24 @@ update_field-returns-else-is_left-2 g m c =
     let y = c.combine-made in
     let z = c.write_field.ensures in
     record {
-      base = z.base ∙ (y.ensures.base ∙ r.ensures.base);
-      context = z.context ∙ (y.ensures.context ∙ r.ensures.context);
-      room = y.ensures.room;
-      less = omega (arith, z.left, y.ensures.less, r.ensures.left);
+      stays = (
+        z.stays.0 ∙ (y.ensures.stays.0 ∙ r.ensures.stays.0),
+        z.stays.1 ∙ (y.ensures.stays.1 ∙ r.ensures.stays.1),
+        omega (arith, z.stays.2, y.ensures.stays.2, r.ensures.stays.2),
+        y.ensures.stays.3,
+      );
       came = λ place is S names size st e l.
-          let f = rw (r.ensures.context, r.ensures.left) at y.ensures.came in
-          let promise = f S names size st e (moved _ _ r.ensures.base refl l) in (
-            λ i p q. promise.0 i p (omega (arith, q, r.ensures.base)),
+          let f = rw (r.ensures.stays.1, r.ensures.stays.2) at y.ensures.came in
+          let promise = f S names size st e (moved _ _ r.ensures.stays.0 refl l) in (
+            λ i p q. promise.0 i p (omega (arith, q, r.ensures.stays.0)),
             λ start k a.
                 let come = r.ensures.came S start (Then (ReadOf place c.args.op (erase c.args.value.now) c.args.at) ∷ k) (scope_of (me_of c.args.self.now.context.me) names c.args.room.now) c.args.depth (same a (read_so S _ _ c.args.name place c.args.op (erase c.args.value.now) c.args.at k (scope_of (me_of c.args.self.now.context.me) names c.args.room.now) c.args.depth _ refl is)) in
                 let none = sym c.is_left.ensures ∙ c.if-is_left.false in
                 let g1 = given r.result r.new.self.value r.new.self.leave none come in
                 let e2 = promise.1 start (Then (WriteTo place c.args.at) ∷ k) (operates S _ start _ (value_of r.result r.new.self.value) place c.args.op (erase c.args.value.now) c.args.at c.in_default.not-OrElse c.in_default.not-AndThen g1) in
                 let g2 = given y.result y.new.self.value y.new.self.leave (sym c.is_left-in_default.ensures ∙ c.if-is_left-2.false) e2 in
-                let h1 = rw (y.ensures.context, r.ensures.context) at z.came in
-                rw z.left (h1 S start k _ c.args.depth (fielded_by S _ start _ (me_of c.args.owner) c.args.name c.args.at (WriteTo place c.args.at) (field_updated place is) (value_of y.result y.new.self.value) g2)),
+                let h1 = rw (y.ensures.stays.1, r.ensures.stays.1) at z.came in
+                rw z.stays.2 (h1 S start k _ c.args.depth (fielded_by S _ start _ (me_of c.args.owner) c.args.name c.args.at (WriteTo place c.args.at) (field_updated place is) (value_of y.result y.new.self.value) g2)),
           );
     }
 
@@ -3385,7 +3387,7 @@ create-returns-in_default-clause-came g m c = λ S names size st e l. (
       let both = y.ensures.came (Creating c.args.name) c.args.at S start k names size st e (sub (every (map (fits S) c.args.args.now)) l (snd _ _ l.fits)) a in
       let values = map plain (take (length c.args.args.now) (drop c.args.self.now.base y.new.room)) in
       let o = c.over.ensures in
-      rw (o.gives, o.left, o.store, c.in_default.ensures.err, c.make.ensures.log) (_, same (on _ (both.1 (sym c.is_left.ensures ∙ c.if-is_left.false)) refl) (created_from S c.args.class c.args.first c.args.name values c.args.at k _ _ _ (fst _ _ l.fits)), refl),
+      rw (o.gives, o.stays.2, o.stays.3, c.in_default.ensures.err, c.make.ensures.log) (_, same (on _ (both.1 (sym c.is_left.ensures ∙ c.if-is_left.false)) refl) (created_from S c.args.class c.args.first c.args.name values c.args.at k _ _ _ (fst _ _ l.fits)), refl),
 )
 
 pub create-returns-clause-came : goal.create-returns-clause-came
@@ -3411,7 +3413,7 @@ initialize-returns-then-count-gt0-clause-came g m c = λ name S start k names st
     let made = rw c.in_default.is at is in
     let some : length values ≡ 0 → ⊥ = λ z. omega (arith, z, c.if-count-gt0.true, len_map plain (take c.args.count (drop c.args.self.now.base c.args.room.now)), len_args c.args.room.now c.args.self.now.base c.args.count long) in
     let o = c.raise.ensures in
-    rw (o.gives, o.left, o.store) (same a (takes_none c.args.self.now.context.script.now S st c.args.object c.args.class name values c.args.at k _ _ _ c.requires.class made some))
+    rw (o.gives, o.stays.2, o.stays.3) (same a (takes_none c.args.self.now.context.script.now S st c.args.object c.args.class name values c.args.at k _ _ _ c.requires.class made some))
 
 pub initialize-returns-in_default-clause-came : goal.initialize-returns-in_default-clause-came
 initialize-returns-in_default-clause-came g m c = λ name S start k names st e is le long a.
@@ -3419,13 +3421,13 @@ initialize-returns-in_default-clause-came g m c = λ name S start k names st e i
     let made = rw c.in_default.is at is in
     let none : length values ≡ 0 = omega (arith, c.if-count-gt0.false, len_map plain (take c.args.count (drop c.args.self.now.base c.args.room.now)), len_args c.args.room.now c.args.self.now.base c.args.count long) in
     let o = c.give_thing.ensures in
-    rw (o.gives, o.left, o.store) (same a (is_ready c.args.self.now.context.script.now S st c.args.object c.args.class name values c.args.at k _ _ _ c.requires.class made none))
+    rw (o.gives, o.stays.2, o.stays.3) (same a (is_ready c.args.self.now.context.script.now S st c.args.object c.args.class name values c.args.at k _ _ _ c.requires.class made none))
 
 pub initialize-returns-in_default-method_at-clause-came : goal.initialize-returns-in_default-method_at-clause-came
 initialize-returns-in_default-method_at-clause-came g m c = λ name S start k names st e is le long a.
     let values = map plain (take c.args.count (drop c.args.self.now.base c.args.room.now)) in
     let o = c.over.ensures in
-    rw (o.left, o.store) (cut S _ start _ _ _ k _ _ _ _ o.gives a (initialize_left S (me_of (Some c.args.object)) values c.args.at k _ _ _))
+    rw (o.stays.2, o.stays.3) (cut S _ start _ _ _ k _ _ _ _ o.gives a (initialize_left S (me_of (Some c.args.object)) values c.args.at k _ _ _))
 
 pub initialize-returns-then-is_left-clause-kept : goal.initialize-returns-then-is_left-clause-kept
 initialize-returns-then-is_left-clause-kept g m c = c.enter_first-came.ensures.kept
@@ -3457,7 +3459,7 @@ initialize-returns-clause-came g m c = λ name S start k names st e is le long a
     let some = c.enter_first-came.ensures.came.1 (sym c.is_left.ensures ∙ c.if-is_left.false) in
     let g1 = some.1 S start (Then (Instead (me_of (Some c.args.object))) ∷ k) names st e (first_right script S st c.args.class c.in-Some.number c.in-Some-method_at.method.now found) le long entered in
     let o = c.give_thing-2.ensures in
-    rw (o.gives, o.left, o.store) (on _ g1 refl)
+    rw (o.gives, o.stays.2, o.stays.3) (on _ g1 refl)
 
 pub write_member-returns-in_default-share-clause-came : goal.write_member-returns-in_default-share-clause-came
 write_member-returns-in_default-share-clause-came g m c = λ name S start k names st e writes free le bound_ a.
@@ -3471,7 +3473,7 @@ write_member-returns-in_default-share-clause-came g m c = λ name S start k name
     let o = c.over.ensures in
     let n = c.entered_giving.ensures.none c.in_default-entered_giving.is ∙ c.entered_writing.ensures.none c.in_default-entered_writing.is in
     let t = c.take-value.ensures in
-    rw (o.left, o.store, t.left, t.store, n) (cut S _ start _ _ _ k _ _ _ _ o.gives entered (enter_left S (erase_method meth) to (v ∷ []) c.args.at (Then (Instead v) ∷ k) _ _ _))
+    rw (o.stays.2, o.stays.3, t.stays.2, t.stays.3, n) (cut S _ start _ _ _ k _ _ _ _ o.gives entered (enter_left S (erase_method meth) to (v ∷ []) c.args.at (Then (Instead v) ∷ k) _ _ _))
 
 pub send_block-returns-in-Some-clause-came : goal.send_block-returns-in-Some-clause-came
 send_block-returns-in-Some-clause-came g m c = λ S names size st e l.
@@ -3480,23 +3482,23 @@ send_block-returns-in-Some-clause-came g m c = λ S names size st e l.
     let first = sub (fits S c.args.receiver.now) l (fst _ _ right) in
     let t = c.take-receiver.ensures in
     let y = c.arguments-came in
-    let under = moved _ _ w.ensures.base w.ensures.room (sub (every (map (fits S) c.args.args.now)) l (fst _ _ (snd _ _ right))) in (
+    let under = moved _ _ w.ensures.stays.0 w.ensures.stays.3 (sub (every (map (fits S) c.args.args.now)) l (fst _ _ (snd _ _ right))) in (
       λ i p q.
-          let f = rw (t.context, t.base, w.ensures.context) at y.ensures.kept in
-          f S names size st e under i p (omega (arith, q, w.ensures.base)) ∙ (w.ensures.came S names size st e first).0 i p q,
+          let f = rw (t.stays.1, t.stays.0, w.ensures.stays.1) at y.ensures.kept in
+          f S names size st e under i p (omega (arith, q, w.ensures.stays.0)) ∙ (w.ensures.came S names size st e first).0 i p q,
       λ start k a.
           let block = Some (erase_block c.args.block.now) in
           let step = ReceiverOf (text_of S c.args.name) (map erase c.args.args.now) block c.args.at in
           let come = (w.ensures.came S names size st e first).1 start (Then step ∷ k) a in
           let none = sym c.is_left.ensures ∙ c.if-is_left.false in
           let v = value_of w.result w.new.self.value in
-          let f = rw (t.context, t.base, t.left, t.store, w.ensures.context) at y.ensures.came in
+          let f = rw (t.stays.1, t.stays.0, t.stays.2, t.stays.3, w.ensures.stays.1) at y.ensures.came in
           let ends = f (OnReceiver v (text_of S c.args.name) block) c.args.at S start k names size st e under (on _ (given w.result w.new.self.value w.new.self.leave none come) refl) in
           let at_end = ends.1 (sym c.is_left-2.ensures ∙ c.if-is_left-2.false) in
           let values = map plain (take (length c.args.args.now) (drop w.new.self.base y.new.room)) in
-          let target = rw (y.ensures.context, t.context, w.ensures.context, t.value) at c.in-Some.ensures.some in
+          let target = rw (y.ensures.context, t.stays.1, w.ensures.stays.1, t.value) at c.in-Some.ensures.some in
           let o = c.raise.ensures in
-          rw (o.gives, o.left, o.store) (same (on _ at_end refl) (blocked S v (text_of S c.args.name) _ values (erase_block c.args.block.now) c.args.at k _ _ _ (target.finds S st))),
+          rw (o.gives, o.stays.2, o.stays.3) (same (on _ at_end refl) (blocked S v (text_of S c.args.name) _ values (erase_block c.args.block.now) c.args.at k _ _ _ (target.finds S st))),
     )
 
 pub told-returns-in_default-clause-came : goal.told-returns-in_default-clause-came
@@ -3540,31 +3542,31 @@ told-returns-clause-came g m c = λ S start k names st e n b a.
     let come = w.ensures.came S start (Then (TextOf v) ∷ k) names st e (asked.right S st) n (omega (arith, b)) entered in
     let came = sym c.is_left.ensures ∙ c.if-is_left.false in
     let o = c.give.ensures in
-    rw (o.left, o.store) (told_by_class S _ start _ _ k _ _ _ v c.args.self.now.context.program.now w.result w.new.self.value w.new.self.leave _ e came (sym (c.is_text_now.ensures came) ∙ c.if-is_text_now.false) o.gives come)
+    rw (o.stays.2, o.stays.3) (told_by_class S _ start _ _ k _ _ _ v c.args.self.now.context.program.now w.result w.new.self.value w.new.self.leave _ e came (sym (c.is_text_now.ensures came) ∙ c.if-is_text_now.false) o.gives come)
 
 pub told_at-returns-in_default-clause-came : goal.told_at-returns-in_default-clause-came
 told_at-returns-in_default-clause-came g m c = λ v there S start k names st e n b a.
     let o = c.over.ensures in
-    rw (o.gives, o.left, o.store) (_, a, text_left S (plain v) c.args.at k _ _ _)
+    rw (o.gives, o.stays.2, o.stays.3) (_, a, text_left S (plain v) c.args.at k _ _ _)
 
 pub told_at-returns-then-is_left-clause-came : goal.told_at-returns-then-is_left-clause-came
 told_at-returns-then-is_left-clause-came g m c = λ v there S start k names st e n b a.
     let r = c.read_shared-came in
     let left = copy_left r.result r.new.self.value r.new.self.leave _ (sym c.is_left.ensures ∙ c.if-is_left.true) r.ensures.gives in
-    rw (left, r.ensures.left, r.ensures.store) (_, a, text_left S (plain v) c.args.at k _ _ _)
+    rw (left, r.ensures.stays.2, r.ensures.stays.3) (_, a, text_left S (plain v) c.args.at k _ _ _)
 
 pub told_at-returns-clause-came : goal.told_at-returns-clause-came
 told_at-returns-clause-came g m c = λ v there S start k names st e n b a.
     let r = c.read_shared-came in
     let copy = copy_came r.result r.new.self.value r.new.self.leave _ (sym c.is_left.ensures ∙ c.if-is_left.false) r.ensures.gives in
     let one = read_item c.args.room.now c.args.slot v c.in-Some.value.now there c.in-Some.ensures.lookup.1 in
-    let f = rw (r.ensures.context, r.ensures.base, r.ensures.left, r.ensures.store, copy, one) at c.told.ensures.came in
+    let f = rw (r.ensures.stays.1, r.ensures.stays.0, r.ensures.stays.2, r.ensures.stays.3, copy, one) at c.told.ensures.came in
     f S start k names st e n b a
 
 pub print_texts-returns-then-room-first-clause-came : goal.print_texts-returns-then-room-first-clause-came
 print_texts-returns-then-room-first-clause-came g m c = λ S start k names st e n b a.
     let o = c.over.ensures in
-    rw (o.gives, o.left, o.store) (_, a, write_left S (style_of c.args.style) [] _ c.args.at k _ _ _)
+    rw (o.gives, o.stays.2, o.stays.3) (_, a, write_left S (style_of c.args.style) [] _ c.args.at k _ _ _)
 
 pub print_texts-returns-clause-came : goal.print_texts-returns-clause-came
 print_texts-returns-clause-came g m c = c.print_from-came.ensures.came
@@ -3587,7 +3589,7 @@ pub line-returns-in_default-clause-came : goal.line-returns-in_default-clause-ca
 line-returns-in_default-clause-came g m c = λ S start k names st e n b a.
     let y = c.over in
     let o = y.ensures in
-    rw (o.gives, o.left, o.store) (left_only (is_left y.result) (ends_left y.result y.new.self.value y.new.self.leave ending.Memory o.gives) (_, a, text_left S (plain c.args.value.now) c.args.at (Under c.args.depth ∷ Then (LineOf c.args.draft.now c.args.at) ∷ k) _ _ _))
+    rw (o.gives, o.stays.2, o.stays.3) (left_only (is_left y.result) (ends_left y.result y.new.self.value y.new.self.leave ending.Memory o.gives) (_, a, text_left S (plain c.args.value.now) c.args.at (Under c.args.depth ∷ Then (LineOf c.args.draft.now c.args.at) ∷ k) _ _ _))
 
 pub line-returns-in_default-clause-work : goal.line-returns-in_default-clause-work
 line-returns-in_default-clause-work g m c = λ q.
@@ -3600,7 +3602,7 @@ line-returns-then-is_left-clause-came g m c = λ S start k names st e n b a.
     let r = c.read_shared-shared in
     let gone = sym c.is_left.ensures ∙ c.if-is_left.true in
     let left = copy_left r.result r.new.self.value r.new.self.leave _ gone r.ensures.gives in
-    rw (left, r.ensures.left, r.ensures.store) (left_only (is_left r.result) gone (_, a, text_left S (plain c.args.value.now) c.args.at (Under c.args.depth ∷ Then (LineOf c.args.draft.now c.args.at) ∷ k) _ _ _))
+    rw (left, r.ensures.stays.2, r.ensures.stays.3) (left_only (is_left r.result) gone (_, a, text_left S (plain c.args.value.now) c.args.at (Under c.args.depth ∷ Then (LineOf c.args.draft.now c.args.at) ∷ k) _ _ _))
 
 pub line-returns-then-is_left-clause-work : goal.line-returns-then-is_left-clause-work
 line-returns-then-is_left-clause-work g m c = λ q.
@@ -3613,7 +3615,7 @@ line-returns-then-is_left-2-clause-came g m c = λ S start k names st e n b a.
     let copy = copy_came r.result r.new.self.value r.new.self.leave _ (sym c.is_left.ensures ∙ c.if-is_left.false) r.ensures.gives in
     let inside = rw c.depth.ensures at c.in-Some.ensures in
     let t = c.told-came in
-    let f = rw (r.ensures.context, r.ensures.base, r.ensures.left, r.ensures.store, copy, inside) at t.ensures.came in
+    let f = rw (r.ensures.stays.1, r.ensures.stays.0, r.ensures.stays.2, r.ensures.stays.3, copy, inside) at t.ensures.came in
     let come = f S start (Under c.args.depth ∷ Then (LineOf c.args.draft.now c.args.at) ∷ k) names st e n b a in
     let gone = sym c.is_left-2.ensures ∙ c.if-is_left-2.true in
     left_only (is_left t.result) gone (line_passes S _ start _ _ c.args.draft.now c.args.at k _ _ _ _ c.args.self.now.context.program.now t.result t.new.self.value t.new.self.leave gone come)
@@ -3629,13 +3631,13 @@ line-returns-clause-came g m c = λ S start k names st e n b a.
     let copy = copy_came r.result r.new.self.value r.new.self.leave _ (sym c.is_left.ensures ∙ c.if-is_left.false) r.ensures.gives in
     let inside = rw c.depth.ensures at c.in-Some.ensures in
     let t = c.told-came in
-    let f = rw (r.ensures.context, r.ensures.base, r.ensures.left, r.ensures.store, copy, inside) at t.ensures.came in
+    let f = rw (r.ensures.stays.1, r.ensures.stays.0, r.ensures.stays.2, r.ensures.stays.3, copy, inside) at t.ensures.came in
     let come = f S start (Under c.args.depth ∷ Then (LineOf c.args.draft.now c.args.at) ∷ k) names st e n b a in
     let came = sym c.is_left-2.ensures ∙ c.if-is_left-2.false in
     let joins = told_line S _ start _ _ c.args.draft.now c.args.at k _ _ _ _ c.args.self.now.context.program.now t.result t.new.self.value t.new.self.leave came come in
     let y = c.add_line.ensures in
-    let g1 = rw (t.ensures.context, r.ensures.context) at y.came in
-    rw (y.left, y.store) (g1 S start k _ _ joins)
+    let g1 = rw (t.ensures.stays.1, r.ensures.stays.1) at y.came in
+    rw (y.stays.2, y.stays.3) (g1 S start k _ _ joins)
 
 pub line-returns-clause-work : goal.line-returns-clause-work
 line-returns-clause-work g m c = c.add_line.ensures.work
@@ -3650,7 +3652,7 @@ advance_line-returns-in-Text-clause-shortens g m c = λ t w q.
     let asked = rw c.in-Text.is at w in
     let f = asks_less c.args.self.now.context.program.now t _ (plain c.in-Text.value) asked in
     let y = c.line.ensures.work q in
-    let l = c.line.ensures.less in
+    let l = c.line.ensures.stays.2 in
     omega (arith, f, y, l)
 
 pub advance_line-returns-in_default-clause-came : goal.advance_line-returns-in_default-clause-came
@@ -3676,10 +3678,10 @@ lines-text-preserved g m c =
     let inv = c.text.invariant in
     let y = c.advance_line-came.ensures in
     record {
-      base = y.base ∙ inv.base;
-      context = y.context ∙ inv.context;
-      room = y.room ∙ inv.room;
-      less = omega (arith, y.less, inv.less);
+      base = y.stays.0 ∙ inv.base;
+      context = y.stays.1 ∙ inv.context;
+      room = y.stays.3 ∙ inv.room;
+      less = omega (arith, y.stays.2, inv.less);
       kept = λ i q. y.kept i (omega (arith, q, inv.base)) ∙ inv.kept i q;
       came = λ S start k names st e n b a.
           let f = rw (inv.context, inv.base) at y.came in
@@ -3692,10 +3694,10 @@ lines-text-preserved-else-is_left g m c =
     let inv = c.text.invariant in
     let y = c.advance_line-came.ensures in
     record {
-      base = y.base ∙ inv.base;
-      context = y.context ∙ inv.context;
-      room = y.room ∙ inv.room;
-      less = omega (arith, y.less, inv.less);
+      base = y.stays.0 ∙ inv.base;
+      context = y.stays.1 ∙ inv.context;
+      room = y.stays.3 ∙ inv.room;
+      less = omega (arith, y.stays.2, inv.less);
       kept = λ i q. y.kept i (omega (arith, q, inv.base)) ∙ inv.kept i q;
       came = λ S start k names st e n b a.
           let f = rw (inv.context, inv.base) at y.came in
@@ -3708,10 +3710,10 @@ lines-text-preserved-else-is_left-2 g m c =
     let inv = c.text.invariant in
     let y = c.advance_line-came.ensures in
     record {
-      base = y.base ∙ inv.base;
-      context = y.context ∙ inv.context;
-      room = y.room ∙ inv.room;
-      less = omega (arith, y.less, inv.less);
+      base = y.stays.0 ∙ inv.base;
+      context = y.stays.1 ∙ inv.context;
+      room = y.stays.3 ∙ inv.room;
+      less = omega (arith, y.stays.2, inv.less);
       kept = λ i q. y.kept i (omega (arith, q, inv.base)) ∙ inv.kept i q;
       came = λ S start k names st e n b a.
           let f = rw (inv.context, inv.base) at y.came in
@@ -3727,7 +3729,7 @@ lines-returns-in-Err-clause-came g m c = λ S start k names st e n b a.
     let inv = c.text.invariant in
     let o = c.end_text.ensures in
     let long = rw inv.context at c.in-Err.ensures.too_long in
-    rw (o.gives, o.left, o.store)
+    rw (o.gives, o.stays.2, o.stays.3)
     (text_ends S _ start _ _ c.args.self.now.context.program.now c.text.draft c.args.at k _ c.args.depth _ e c.in-Err.fault (λ q. long (ap Err q)) (inv.came S start k names st e n b a))
 
 pub lines-returns-in-Err-clause-text : goal.lines-returns-in-Err-clause-text
@@ -3739,7 +3741,7 @@ lines-returns-then-is_finished-clause-came g m c = λ S start k names st e n b a
     let o = c.give_bytes.ensures in
     let w = rw (finished_is c.in-Ok.want (sym c.is_finished.ensures ∙ c.if-is_finished.true), inv.context) at c.in-Ok.ensures.wants in
     let m = rw c.into_bytes.ensures at o.gives in
-    rw (o.left, o.store) (text_given S _ start _ _ c.args.self.now.context.program.now c.text.draft c.args.at k _ c.args.depth _ e _ _ w.0 m (inv.came S start k names st e n b a))
+    rw (o.stays.2, o.stays.3) (text_given S _ start _ _ c.args.self.now.context.program.now c.text.draft c.args.at k _ c.args.depth _ e _ _ w.0 m (inv.came S start k names st e n b a))
 
 pub lines-returns-then-is_finished-clause-text : goal.lines-returns-then-is_finished-clause-text
 lines-returns-then-is_finished-clause-text g m c = bytes_told c.args.self.now.context.program.now _ _ c.give_bytes.ensures.gives
@@ -3774,9 +3776,9 @@ write_array-returns-clause-came g m c = λ S start k names vs st e n b a.
     let come = y.ensures.came S start (Then step ∷ k) names st e n b a in
     let writes = lines_told S _ start _ _ c.args.bytes.now.items vs c.args.at k _ _ _ c.args.self.now.context.program.now y.result y.new.self.value y.new.self.leave came y.ensures.text come in
     let o = c.add_came.ensures in
-    let f = rw y.ensures.context at o.came in
+    let f = rw y.ensures.stays.1 at o.came in
     let sc = scope_of (me_of c.args.self.now.context.me) names y.new.room in
-    rw (o.left, o.store) (f S start k sc c.args.depth (λ bytes. write S Lines bytes vs c.args.at k sc c.args.depth y.new.self.left) (λ bytes. write_left S Lines bytes vs c.args.at k sc c.args.depth y.new.self.left) writes)
+    rw (o.stays.2, o.stays.3) (f S start k sc c.args.depth (λ bytes. write S Lines bytes vs c.args.at k sc c.args.depth y.new.self.left) (λ bytes. write_left S Lines bytes vs c.args.at k sc c.args.depth y.new.self.left) writes)
 
 pub write_array-returns-clause-fits : goal.write_array-returns-clause-fits
 write_array-returns-clause-fits g m c = c.add_came.ensures.fits
@@ -3815,9 +3817,9 @@ write_one-returns-clause-came g m c = λ v there S start k names vs st e n b a.
     let came = sym c.is_left.ensures ∙ c.if-is_left.false in
     let writes = told_writes S _ start _ _ style c.args.bytes.now.items vs c.args.at k _ _ _ c.args.self.now.context.program.now t.result t.new.self.value t.new.self.leave came come in
     let o = c.add_came.ensures in
-    let f = rw t.ensures.context at o.came in
+    let f = rw t.ensures.stays.1 at o.came in
     let sc = scope_of (me_of c.args.self.now.context.me) names t.new.room in
-    rw (o.left, o.store) (f S start k sc c.args.depth (λ bytes. write S style bytes vs c.args.at k sc c.args.depth t.new.self.left) (λ bytes. write_left S style bytes vs c.args.at k sc c.args.depth t.new.self.left) writes)
+    rw (o.stays.2, o.stays.3) (f S start k sc c.args.depth (λ bytes. write S style bytes vs c.args.at k sc c.args.depth t.new.self.left) (λ bytes. write_left S style bytes vs c.args.at k sc c.args.depth t.new.self.left) writes)
 
 pub write_one-returns-clause-fits : goal.write_one-returns-clause-fits
 write_one-returns-clause-fits g m c = c.add_came.ensures.fits
@@ -3830,7 +3832,7 @@ print_from-returns-then-is_left-2-clause-came g m c = λ S start k names st e n 
     let z = c.show_bytes-shown in
     let f = rw inv.context at z.ensures.came in
     let come = f S start _ (Instead Nil) c.args.at k _ _ shows in
-    rw (z.ensures.left, z.ensures.private) (passes S _ start _ z.result z.new.self.value z.new.self.leave _ (Instead Nil) k _ _ _ (sym c.is_left-2.ensures ∙ c.if-is_left-2.true) come)
+    rw (z.ensures.stays.2, z.ensures.private) (passes S _ start _ z.result z.new.self.value z.new.self.leave _ (Instead Nil) k _ _ _ (sym c.is_left-2.ensures ∙ c.if-is_left-2.true) come)
 
 pub print_from-returns-clause-came : goal.print_from-returns-clause-came
 print_from-returns-clause-came g m c = λ S start k names st e n b a.
@@ -3840,7 +3842,7 @@ print_from-returns-clause-came g m c = λ S start k names st e n b a.
     let z = c.show_bytes-shown in
     let f = rw inv.context at z.ensures.came in
     let come = f S start _ (Instead Nil) c.args.at k _ _ shows in
-    rw (z.ensures.left, z.ensures.private) (on _ (given z.result z.new.self.value z.new.self.leave (sym c.is_left-2.ensures ∙ c.if-is_left-2.false) come) refl)
+    rw (z.ensures.stays.2, z.ensures.private) (on _ (given z.result z.new.self.value z.new.self.leave (sym c.is_left-2.ensures ∙ c.if-is_left-2.false) come) refl)
 
 pub print-returns-then-is_left-clause-came : goal.print-returns-then-is_left-clause-came
 print-returns-then-is_left-clause-came g m c = λ S names size st e l.
@@ -3913,7 +3915,7 @@ print-returns-then-is_left-2-clause-came g m c = λ S names size st e l.
           let z = c.show-shown in
           let f = rw (r.ensures.context, sym e, c.passed-3.ensures long) at (z.ensures.came S start (g.O.ThreadStore.private r.new.self.store) (Instead Nil) k sc c.args.depth) in
           let show = f q in
-          rw (z.ensures.left, z.ensures.private) (passes S _ start _ z.result z.new.self.value z.new.self.leave _ (Instead Nil) k _ _ _ (sym c.is_left-2.ensures ∙ c.if-is_left-2.true) show),
+          rw (z.ensures.stays.2, z.ensures.private) (passes S _ start _ z.result z.new.self.value z.new.self.leave _ (Instead Nil) k _ _ _ (sym c.is_left-2.ensures ∙ c.if-is_left-2.true) show),
     )
 
 pub print-returns-clause-came : goal.print-returns-clause-came
@@ -3937,7 +3939,7 @@ print-returns-clause-came g m c = λ S names size st e l.
           let f = rw (r.ensures.context, sym e, c.passed-3.ensures long) at (z.ensures.came S start (g.O.ThreadStore.private r.new.self.store) (Instead Nil) k sc c.args.depth) in
           let show = f q in
           let g1 = given z.result z.new.self.value z.new.self.leave (sym c.is_left-2.ensures ∙ c.if-is_left-2.false) show in
-          rw (z.ensures.left, z.ensures.private) (on _ g1 refl),
+          rw (z.ensures.stays.2, z.ensures.private) (on _ g1 refl),
     )
 
 pub print_from-values-preserved : goal.print_from-values-preserved
@@ -3946,10 +3948,10 @@ print_from-values-preserved g m c =
     let y = c.write_one-came.ensures in
     let going = sym c.is_left.ensures ∙ c.if-is_left.false in
     record {
-      base = y.base ∙ inv.base;
-      context = y.context ∙ inv.context;
-      room = y.room ∙ inv.room;
-      less = omega (arith, y.less, inv.less);
+      base = y.stays.0 ∙ inv.base;
+      context = y.stays.1 ∙ inv.context;
+      room = y.stays.3 ∙ inv.room;
+      less = omega (arith, y.stays.2, inv.less);
       fits = y.fits going;
       kept = λ i q. y.kept i (omega (arith, q, inv.base)) ∙ inv.kept i q;
       came = λ S start k names st e n a.
@@ -3981,7 +3983,7 @@ text-returns-in-Err-clause-came g m c = λ S names size st e l. (
   λ i p q. c.pieces.invariant.kept S names size st e l i p q,
   λ start k a.
       let o = c.over.ensures in
-      rw (o.gives, o.left, o.store) (_, c.pieces.invariant.came S start k names size st e l a, refl),
+      rw (o.gives, o.stays.2, o.stays.3) (_, c.pieces.invariant.came S start k names size st e l a, refl),
 )
 
 pub text-returns-then-is_left-clause-came : goal.text-returns-then-is_left-clause-came
@@ -4015,7 +4017,7 @@ text-returns-then-is_left-2-clause-came g m c = λ S names size st e l.
           let under = moved _ _ inv.base inv.room (sub (fits S c.in-Code.code) l right) in
           let f = rw inv.context at c.walk-came.ensures.came in
           let walked = (f S names size st e under).0 i p (omega (arith, q, inv.base)) ∙ inv.kept S names size st e l i p q in
-          c.told-told.ensures.kept i (omega (arith, q, inv.base, c.walk-came.ensures.base)) ∙ walked,
+          c.told-told.ensures.kept i (omega (arith, q, inv.base, c.walk-came.ensures.stays.0)) ∙ walked,
       λ start k a.
           let loop = c.pieces in
           let inv = loop.invariant in
@@ -4029,9 +4031,9 @@ text-returns-then-is_left-2-clause-came g m c = λ S names size st e l.
           let come = (f S names size st e under).1 start (Then step ∷ k) (joins_code _ (shows_code c.piece-item.result c.in-Code.code c.in-Code.is) before) in
           let given_now = given w.result w.new.self.value w.new.self.leave (sym c.is_left.ensures ∙ c.if-is_left.false) come in
           let u = c.told-told in
-          let f2 = rw (w.ensures.context, inv.context) at u.ensures.came in
-          let edge : c.args.self.now.base ≡ w.new.self.base = sym (w.ensures.base ∙ inv.base) in
-          let tells = f2 S start (Then (JoinTo loop.bytes.items rest c.args.at) ∷ k) names st e (omega (arith, l.within, l.below, edge)) (omega (arith, l.room, edge, w.ensures.room, inv.room)) (asks_piece given_now) in
+          let f2 = rw (w.ensures.stays.1, inv.context) at u.ensures.came in
+          let edge : c.args.self.now.base ≡ w.new.self.base = sym (w.ensures.stays.0 ∙ inv.base) in
+          let tells = f2 S start (Then (JoinTo loop.bytes.items rest c.args.at) ∷ k) names st e (omega (arith, l.within, l.below, edge)) (omega (arith, l.room, edge, w.ensures.stays.3, inv.room)) (asks_piece given_now) in
           let left = sym c.is_left-in-Code.ensures ∙ c.if-is_left-2.true in
           let join_step = JoinTo loop.bytes.items rest c.args.at in
           passes S _ start _ u.result u.new.self.value u.new.self.leave _ join_step k _ _ _ left (told_passes S _ start _ _ k _ _ _ (Then join_step) c.args.self.now.context.program.now u.result u.new.self.value u.new.self.leave left tells),
@@ -4045,7 +4047,7 @@ text-returns-in-Err-add_value-clause-came g m c = λ S names size st e l.
           let under = moved _ _ inv.base inv.room (sub (fits S c.in-Code.code) l right) in
           let f = rw inv.context at c.walk-came.ensures.came in
           let walked = (f S names size st e under).0 i p (omega (arith, q, inv.base)) ∙ inv.kept S names size st e l i p q in
-          c.told-told.ensures.kept i (omega (arith, q, inv.base, c.walk-came.ensures.base)) ∙ walked,
+          c.told-told.ensures.kept i (omega (arith, q, inv.base, c.walk-came.ensures.stays.0)) ∙ walked,
       λ start k a.
           let loop = c.pieces in
           let inv = loop.invariant in
@@ -4059,13 +4061,13 @@ text-returns-in-Err-add_value-clause-came g m c = λ S names size st e l.
           let come = (f S names size st e under).1 start (Then step ∷ k) (joins_code _ (shows_code c.piece-item.result c.in-Code.code c.in-Code.is) before) in
           let given_now = given w.result w.new.self.value w.new.self.leave (sym c.is_left.ensures ∙ c.if-is_left.false) come in
           let u = c.told-told in
-          let f2 = rw (w.ensures.context, inv.context) at u.ensures.came in
-          let edge : c.args.self.now.base ≡ w.new.self.base = sym (w.ensures.base ∙ inv.base) in
-          let tells = f2 S start (Then (JoinTo loop.bytes.items rest c.args.at) ∷ k) names st e (omega (arith, l.within, l.below, edge)) (omega (arith, l.room, edge, w.ensures.room, inv.room)) (asks_piece given_now) in
+          let f2 = rw (w.ensures.stays.1, inv.context) at u.ensures.came in
+          let edge : c.args.self.now.base ≡ w.new.self.base = sym (w.ensures.stays.0 ∙ inv.base) in
+          let tells = f2 S start (Then (JoinTo loop.bytes.items rest c.args.at) ∷ k) names st e (omega (arith, l.within, l.below, edge)) (omega (arith, l.room, edge, w.ensures.stays.3, inv.room)) (asks_piece given_now) in
           let gives_text = told_gives S _ start _ _ (Then (JoinTo loop.bytes.items rest c.args.at) ∷ k) _ _ _ c.args.self.now.context.program.now u.result u.new.self.value u.new.self.leave (sym c.is_left-in-Code.ensures ∙ c.if-is_left-2.false) tells in
           let t = c.take-value.ensures in
           let o = c.over-in-Err-add_value.ensures in
-          rw (o.gives, o.left, o.store, t.left, t.store) (_, gives_text, refl),
+          rw (o.gives, o.stays.2, o.stays.3, t.stays.2, t.stays.3) (_, gives_text, refl),
     )
 
 pub text-returns-then-len-gt-MAX_BYTES-clause-came : goal.text-returns-then-len-gt-MAX_BYTES-clause-came
@@ -4079,7 +4081,7 @@ text-returns-then-len-gt-MAX_BYTES-clause-came g m c = λ S names size st e l. (
             let under = moved _ _ inv.base inv.room (sub (fits S x.in-Code.code) l right) in
             let f = rw inv.context at x.walk-came.ensures.came in
             let walked = (f S names size st e under).0 i p (omega (arith, q, inv.base)) ∙ inv.kept S names size st e l i p q in
-            rw x.room-is (x.told-told.ensures.kept i (omega (arith, q, inv.base, x.walk-came.ensures.base)) ∙ walked)
+            rw x.room-is (x.told-told.ensures.kept i (omega (arith, q, inv.base, x.walk-came.ensures.stays.0)) ∙ walked)
       ],
   λ start k a.
       let loop = c.pieces in
@@ -4088,7 +4090,7 @@ text-returns-then-len-gt-MAX_BYTES-clause-came g m c = λ S names size st e l. (
       let before = joining _ (sym (ap (map erase_piece) item)) (inv.came S start k names size st e l a) in
       let long : 16777216 < length c.match-piece.bytes.items = omega (arith, c.if-len-gt-MAX_BYTES.true, c.len.ensures, c.match-piece.bytes.ok) in
       let o = c.raise.ensures in
-      rw (o.gives, o.left, o.store) (elim c.match-piece.branch [
+      rw (o.gives, o.stays.2, o.stays.3) (elim c.match-piece.branch [
         | text-in-Text+in_default x ↦
             let shows = shows_text c.piece-item.result x.in-Text.text x.as_slice.result.now x.in-Text.is x.as_slice.ensures in
             rw x.self-is (text_long loop.bytes.items x.as_slice.result.now _ _ c.args.at k _ _ _ c.match-piece.bytes.items shows (rw x.bytes-is x.in_default.ensures) long before)
@@ -4102,13 +4104,13 @@ text-returns-then-len-gt-MAX_BYTES-clause-came g m c = λ S names size st e l. (
             let come = (f S names size st e under).1 start (Then step ∷ k) (joins_code _ (shows_code c.piece-item.result x.in-Code.code x.in-Code.is) before) in
             let given_now = given w.result w.new.self.value w.new.self.leave (sym x.is_left.ensures ∙ x.if-is_left.false) come in
             let u = x.told-told in
-            let f2 = rw (w.ensures.context, inv.context) at u.ensures.came in
-            let edge : c.args.self.now.base ≡ w.new.self.base = sym (w.ensures.base ∙ inv.base) in
-            let tells = f2 S start (Then (JoinTo loop.bytes.items rest c.args.at) ∷ k) names st e (omega (arith, l.within, l.below, edge)) (omega (arith, l.room, edge, w.ensures.room, inv.room)) (asks_piece given_now) in
+            let f2 = rw (w.ensures.stays.1, inv.context) at u.ensures.came in
+            let edge : c.args.self.now.base ≡ w.new.self.base = sym (w.ensures.stays.0 ∙ inv.base) in
+            let tells = f2 S start (Then (JoinTo loop.bytes.items rest c.args.at) ∷ k) names st e (omega (arith, l.within, l.below, edge)) (omega (arith, l.room, edge, w.ensures.stays.3, inv.room)) (asks_piece given_now) in
             let joins = told_joins S _ start _ _ loop.bytes.items rest c.args.at k _ _ _ c.args.self.now.context.program.now u.result u.new.self.value u.new.self.leave (sym x.is_left-in-Code.ensures ∙ x.if-is_left-2.false) tells in
             let t = x.take-value.ensures in
-            let said = rw (t.context, u.ensures.context, w.ensures.context, inv.context, t.value) at x.in_default-add_value.ensures in
-            rw (x.self-is, t.left, t.store) (too_long loop.bytes.items _ rest c.args.at k _ _ _ c.match-piece.bytes.items (rw x.bytes-is said) long joins)
+            let said = rw (t.stays.1, u.ensures.stays.1, w.ensures.stays.1, inv.context, t.value) at x.in_default-add_value.ensures in
+            rw (x.self-is, t.stays.2, t.stays.3) (too_long loop.bytes.items _ rest c.args.at k _ _ _ c.match-piece.bytes.items (rw x.bytes-is said) long joins)
       ]),
 )
 
@@ -4118,7 +4120,7 @@ text-returns-in-Ok-clause-came g m c = λ S names size st e l. (
   λ start k a.
       let o = c.give.ensures in
       let inv = c.pieces.invariant in
-      rw (o.gives, o.left, o.store, c.in-Ok.ensures) (on _ (joining [] (sym (ap (map erase_piece) (drop_all _ _ c.pieces-test.false))) (inv.came S start k names size st e l a)) refl),
+      rw (o.gives, o.stays.2, o.stays.3, c.in-Ok.ensures) (on _ (joining [] (sym (ap (map erase_piece) (drop_all _ _ c.pieces-test.false))) (inv.came S start k names size st e l a)) refl),
 )
 
 pub text-returns-in-Err-from_vec-clause-came : goal.text-returns-in-Err-from_vec-clause-came
@@ -4126,7 +4128,7 @@ text-returns-in-Err-from_vec-clause-came g m c = λ S names size st e l. (
   λ i p q. c.pieces.invariant.kept S names size st e l i p q,
   λ start k a.
       let o = c.over-in-Err-from_vec.ensures in
-      rw (o.gives, o.left, o.store) (_, c.pieces.invariant.came S start k names size st e l a, refl),
+      rw (o.gives, o.stays.2, o.stays.3) (_, c.pieces.invariant.came S start k names size st e l a, refl),
 )
 
 pub text-pieces-preserved : goal.text-pieces-preserved
@@ -4152,16 +4154,16 @@ text-pieces-preserved g m c =
           let v = x.told-told.ensures in
           let t0 = x.take-value.ensures in
           rw (x.self-is, x.room-is) (record {
-            base = t0.base ∙ (v.base ∙ (y.base ∙ inv.base));
-            context = t0.context ∙ (v.context ∙ (y.context ∙ inv.context));
-            room = v.room ∙ (y.room ∙ inv.room);
-            less = omega (arith, t0.left, v.less, y.less, inv.less);
+            base = t0.stays.0 ∙ (v.stays.0 ∙ (y.stays.0 ∙ inv.base));
+            context = t0.stays.1 ∙ (v.stays.1 ∙ (y.stays.1 ∙ inv.context));
+            room = v.stays.3 ∙ (y.stays.3 ∙ inv.room);
+            less = omega (arith, t0.stays.2, v.stays.2, y.stays.2, inv.less);
             kept = λ S names size st e l i p q.
                 let right = piece_code S _ _ c.piece-item.result x.in-Code.code names size c.pieces-test.true c.piece-item.is x.in-Code.is l.fits in
                 let under = moved _ _ inv.base inv.room (sub (fits S x.in-Code.code) l right) in
                 let f = rw inv.context at x.walk-came.ensures.came in
                 let walked = (f S names size st e under).0 i p (omega (arith, q, inv.base)) ∙ inv.kept S names size st e l i p q in
-                x.told-told.ensures.kept i (omega (arith, q, inv.base, x.walk-came.ensures.base)) ∙ walked;
+                x.told-told.ensures.kept i (omega (arith, q, inv.base, x.walk-came.ensures.stays.0)) ∙ walked;
             came = λ S start k names size st e l a.
                 let item = next_item _ _ c.piece-item.result c.pieces-test.true c.piece-item.is in
                 let before = joining _ (sym (ap (map erase_piece) item)) (inv.came S start k names size st e l a) in
@@ -4174,13 +4176,13 @@ text-pieces-preserved g m c =
                 let come = (f S names size st e under).1 start (Then step ∷ k) (joins_code _ (shows_code c.piece-item.result x.in-Code.code x.in-Code.is) before) in
                 let given_now = given w.result w.new.self.value w.new.self.leave (sym x.is_left.ensures ∙ x.if-is_left.false) come in
                 let u = x.told-told in
-                let f2 = rw (w.ensures.context, inv.context) at u.ensures.came in
-                let edge : c.args.self.now.base ≡ w.new.self.base = sym (w.ensures.base ∙ inv.base) in
-                let tells = f2 S start (Then (JoinTo loop.bytes.items rest c.args.at) ∷ k) names st e (omega (arith, l.within, l.below, edge)) (omega (arith, l.room, edge, w.ensures.room, inv.room)) (asks_piece given_now) in
+                let f2 = rw (w.ensures.stays.1, inv.context) at u.ensures.came in
+                let edge : c.args.self.now.base ≡ w.new.self.base = sym (w.ensures.stays.0 ∙ inv.base) in
+                let tells = f2 S start (Then (JoinTo loop.bytes.items rest c.args.at) ∷ k) names st e (omega (arith, l.within, l.below, edge)) (omega (arith, l.room, edge, w.ensures.stays.3, inv.room)) (asks_piece given_now) in
                 let joins = told_joins S _ start _ _ loop.bytes.items rest c.args.at k _ _ _ c.args.self.now.context.program.now u.result u.new.self.value u.new.self.leave (sym x.is_left-in-Code.ensures ∙ x.if-is_left-2.false) tells in
                 let t = x.take-value.ensures in
-                let said = rw (t.context, u.ensures.context, w.ensures.context, inv.context, t.value) at x.in_default-add_value.ensures in
-                rw (t.left, t.store) (not_long loop.bytes.items _ rest c.args.at k _ _ _ c.match-piece.bytes.items (rw x.bytes-is said) short joins);
+                let said = rw (t.stays.1, u.ensures.stays.1, w.ensures.stays.1, inv.context, t.value) at x.in_default-add_value.ensures in
+                rw (t.stays.2, t.stays.3) (not_long loop.bytes.items _ rest c.args.at k _ _ _ c.match-piece.bytes.items (rw x.bytes-is said) short joins);
           })
     ]
 
@@ -4199,7 +4201,7 @@ array-returns-clause-came g m c = λ at S names size st e l. (
       let none = sym c.is_left.ensures ∙ c.if-is_left.false in
       let long : c.args.self.now.base + length c.args.items.now ≤ length y.new.room = omega (arith, y.ensures.base none, y.ensures.fits l.room) in
       let f = rw (y.ensures.context, c.passed.ensures long) at c.list.ensures.came in
-      rw c.list.ensures.left (f c.args.depth S start k _ e (on _ (both.1 none) refl)),
+      rw c.list.ensures.stays.2 (f c.args.depth S start k _ e (on _ (both.1 none) refl)),
 )
 
 pub hash-returns-then-is_left-clause-came : goal.hash-returns-then-is_left-clause-came
@@ -4217,7 +4219,7 @@ hash-returns-clause-came g m c = λ S names size st e l. (
       let none = sym c.is_left.ensures ∙ c.if-is_left.false in
       let long : c.args.self.now.base + length c.args.items.now ≤ length y.new.room = omega (arith, y.ensures.base none, y.ensures.fits l.room) in
       let f = rw (y.ensures.context, c.passed.ensures long) at c.pairs.ensures.came in
-      rw c.pairs.ensures.left (f c.args.depth S start k _ e (on _ (both.1 none) refl)),
+      rw c.pairs.ensures.stays.2 (f c.args.depth S start k _ e (on _ (both.1 none) refl)),
 )
 
 pub create_builtin-returns-then-is_left-clause-came : goal.create_builtin-returns-then-is_left-clause-came
@@ -4240,7 +4242,7 @@ create_builtin-returns-clause-came g m c = λ S names size st e l. (
       let long : base + count ≤ length y.new.room = omega (arith, y.ensures.base none, y.ensures.fits l.room) in
       let values = map plain (take count (drop base y.new.room)) in
       let f = rw (y.ensures.context, c.passed.ensures long) at c.build.ensures.came in
-      rw c.build.ensures.left (f c.args.depth S start k _ e (same (on _ (both.1 none) refl) (built_from S c.args.class c.args.name values c.args.at k _ _ _ (fst _ _ l.fits)))),
+      rw c.build.ensures.stays.2 (f c.args.depth S start k _ e (same (on _ (both.1 none) refl) (built_from S c.args.class c.args.name values c.args.at k _ _ _ (fst _ _ l.fits)))),
 )
 
 pub set_element-returns-then-is_left-clause-came : goal.set_element-returns-then-is_left-clause-came
@@ -4263,7 +4265,7 @@ set_element-returns-clause-came g m c = λ S names size st e l. (
       let come = (w.ensures.came S names size st e l).1 start (Then step ∷ k) a in
       let g1 = given w.result w.new.self.value w.new.self.leave (sym c.is_left.ensures ∙ c.if-is_left.false) come in
       let o = c.write_element.ensures in
-      let f = rw w.ensures.context at o.came in
+      let f = rw w.ensures.stays.1 at o.came in
       writes_element S _ start _ _ _ _ _ _ _ _ _ _ c.args.self.now.context.program.now v (value_of w.result w.new.self.value) (plain c.args.index) c.args.at (operator_none c.args.self.now.context.script.now S st v (codes "[]=") refl) e (f) (on _ g1 refl),
 )
 
@@ -4319,7 +4321,7 @@ update_at-returns-else-is_left-clause-came g m c = λ S names size st e l. (
       let e2 = (y.ensures.came S names size st e l).1 start (Then (WriteTo place c.args.at) ∷ k) (operates S _ start _ (value_of c.args.current c.args.self.now.value) place c.args.op (erase c.args.value.now) c.args.at c.in_default.not-OrElse c.in_default.not-AndThen a) in
       let g2 = given y.result y.new.self.value y.new.self.leave (sym c.is_left.ensures ∙ c.if-is_left.false) e2 in
       let o = c.write_element.ensures in
-      let f = rw y.ensures.context at o.came in
+      let f = rw y.ensures.stays.1 at o.came in
       writes_element S _ start _ _ _ _ _ _ _ _ _ _ c.args.self.now.context.program.now v (value_of y.result y.new.self.value) (plain c.args.index) c.args.at (operator_none c.args.self.now.context.script.now S st v (codes "[]=") refl) e (f) (on _ g2 refl),
 )
 
@@ -4341,17 +4343,17 @@ update_element-returns-then-is_left-2-clause-came g m c = λ S names size st e l
     let u = c.walk-came-2 in (
       λ i p q.
           let before = (w.ensures.came S names size st e (sub (fits S c.args.receiver.now) l (fst _ _ l.fits))).0 i p q in
-          let base = t.ensures.base ∙ w.ensures.base in
-          let under = moved _ _ base w.ensures.room (sub (fits S c.args.index.now) l (fst _ _ (snd _ _ l.fits))) in
-          let f = rw (t.ensures.context, w.ensures.context) at u.ensures.came in
+          let base = t.ensures.stays.0 ∙ w.ensures.stays.0 in
+          let under = moved _ _ base w.ensures.stays.3 (sub (fits S c.args.index.now) l (fst _ _ (snd _ _ l.fits))) in
+          let f = rw (t.ensures.stays.1, w.ensures.stays.1) at u.ensures.came in
           let behind = (f S names size st e under).0 i p (omega (arith, q, base)) ∙ before in
           behind,
       λ start k a.
           let e1 = (w.ensures.came S names size st e (sub (fits S c.args.receiver.now) l (fst _ _ l.fits))).1 start (Then (IndexedBy (erase c.args.index.now) c.args.op (erase c.args.value.now) c.args.at) ∷ k) a in
           let first = value_of w.result w.new.self.value in
           let g1 = given w.result w.new.self.value w.new.self.leave (sym c.is_left.ensures ∙ c.if-is_left.false) e1 in
-          let under = moved _ _ (t.ensures.base ∙ w.ensures.base) w.ensures.room (sub (fits S c.args.index.now) l (fst _ _ (snd _ _ l.fits))) in
-          let f = rw (t.ensures.context, w.ensures.context, t.ensures.left, t.ensures.store) at u.ensures.came in
+          let under = moved _ _ (t.ensures.stays.0 ∙ w.ensures.stays.0) w.ensures.stays.3 (sub (fits S c.args.index.now) l (fst _ _ (snd _ _ l.fits))) in
+          let f = rw (t.ensures.stays.1, w.ensures.stays.1, t.ensures.stays.2, t.ensures.stays.3) at u.ensures.came in
           let e2 = (f S names size st e under).1 start (Then (IndexOf first c.args.op (erase c.args.value.now) c.args.at) ∷ k) (on _ g1 refl) in
           passes S _ start _ u.result u.new.self.value u.new.self.leave _ (IndexOf first c.args.op (erase c.args.value.now) c.args.at) k _ _ _ (sym c.is_left-2.ensures ∙ c.if-is_left-2.true) e2,
     )
@@ -4363,23 +4365,23 @@ update_element-returns-in_default-clause-came g m c = λ S names size st e l.
     let u = c.walk-came-2 in (
       λ i p q.
           let before = (w.ensures.came S names size st e (sub (fits S c.args.receiver.now) l (fst _ _ l.fits))).0 i p q in
-          let base = t.ensures.base ∙ w.ensures.base in
-          let under = moved _ _ base w.ensures.room (sub (fits S c.args.index.now) l (fst _ _ (snd _ _ l.fits))) in
-          let f = rw (t.ensures.context, w.ensures.context) at u.ensures.came in
+          let base = t.ensures.stays.0 ∙ w.ensures.stays.0 in
+          let under = moved _ _ base w.ensures.stays.3 (sub (fits S c.args.index.now) l (fst _ _ (snd _ _ l.fits))) in
+          let f = rw (t.ensures.stays.1, w.ensures.stays.1) at u.ensures.came in
           let behind = (f S names size st e under).0 i p (omega (arith, q, base)) ∙ before in
           behind,
       λ start k a.
           let e1 = (w.ensures.came S names size st e (sub (fits S c.args.receiver.now) l (fst _ _ l.fits))).1 start (Then (IndexedBy (erase c.args.index.now) c.args.op (erase c.args.value.now) c.args.at) ∷ k) a in
           let first = value_of w.result w.new.self.value in
           let g1 = given w.result w.new.self.value w.new.self.leave (sym c.is_left.ensures ∙ c.if-is_left.false) e1 in
-          let under = moved _ _ (t.ensures.base ∙ w.ensures.base) w.ensures.room (sub (fits S c.args.index.now) l (fst _ _ (snd _ _ l.fits))) in
-          let f = rw (t.ensures.context, w.ensures.context, t.ensures.left, t.ensures.store) at u.ensures.came in
+          let under = moved _ _ (t.ensures.stays.0 ∙ w.ensures.stays.0) w.ensures.stays.3 (sub (fits S c.args.index.now) l (fst _ _ (snd _ _ l.fits))) in
+          let f = rw (t.ensures.stays.1, w.ensures.stays.1, t.ensures.stays.2, t.ensures.stays.3) at u.ensures.came in
           let e2 = (f S names size st e under).1 start (Then (IndexOf first c.args.op (erase c.args.value.now) c.args.at) ∷ k) (on _ g1 refl) in
           let second = value_of u.result u.new.self.value in
           let g2 = given u.result u.new.self.value u.new.self.leave (sym c.is_left-2.ensures ∙ c.if-is_left-2.false) e2 in
           let y = c.take-index in
           let o = c.over.ensures in
-          rw (o.gives, o.left, o.store, y.ensures.left, y.ensures.store) (_, g2, refl),
+          rw (o.gives, o.stays.2, o.stays.3, y.ensures.stays.2, y.ensures.stays.3) (_, g2, refl),
     )
 
 pub update_element-returns-then-is_left-3-clause-came : goal.update_element-returns-then-is_left-3-clause-came
@@ -4389,24 +4391,24 @@ update_element-returns-then-is_left-3-clause-came g m c = λ S names size st e l
     let u = c.walk-came-2 in (
       λ i p q.
           let before = (w.ensures.came S names size st e (sub (fits S c.args.receiver.now) l (fst _ _ l.fits))).0 i p q in
-          let base = t.ensures.base ∙ w.ensures.base in
-          let under = moved _ _ base w.ensures.room (sub (fits S c.args.index.now) l (fst _ _ (snd _ _ l.fits))) in
-          let f = rw (t.ensures.context, w.ensures.context) at u.ensures.came in
+          let base = t.ensures.stays.0 ∙ w.ensures.stays.0 in
+          let under = moved _ _ base w.ensures.stays.3 (sub (fits S c.args.index.now) l (fst _ _ (snd _ _ l.fits))) in
+          let f = rw (t.ensures.stays.1, w.ensures.stays.1) at u.ensures.came in
           let behind = (f S names size st e under).0 i p (omega (arith, q, base)) ∙ before in
           behind,
       λ start k a.
           let e1 = (w.ensures.came S names size st e (sub (fits S c.args.receiver.now) l (fst _ _ l.fits))).1 start (Then (IndexedBy (erase c.args.index.now) c.args.op (erase c.args.value.now) c.args.at) ∷ k) a in
           let first = value_of w.result w.new.self.value in
           let g1 = given w.result w.new.self.value w.new.self.leave (sym c.is_left.ensures ∙ c.if-is_left.false) e1 in
-          let under = moved _ _ (t.ensures.base ∙ w.ensures.base) w.ensures.room (sub (fits S c.args.index.now) l (fst _ _ (snd _ _ l.fits))) in
-          let f = rw (t.ensures.context, w.ensures.context, t.ensures.left, t.ensures.store) at u.ensures.came in
+          let under = moved _ _ (t.ensures.stays.0 ∙ w.ensures.stays.0) w.ensures.stays.3 (sub (fits S c.args.index.now) l (fst _ _ (snd _ _ l.fits))) in
+          let f = rw (t.ensures.stays.1, w.ensures.stays.1, t.ensures.stays.2, t.ensures.stays.3) at u.ensures.came in
           let e2 = (f S names size st e under).1 start (Then (IndexOf first c.args.op (erase c.args.value.now) c.args.at) ∷ k) (on _ g1 refl) in
           let second = value_of u.result u.new.self.value in
           let g2 = given u.result u.new.self.value u.new.self.leave (sym c.is_left-2.ensures ∙ c.if-is_left-2.false) e2 in
           let y = c.take-index in
           let r = c.call_with-current in
           let same_copy : plain c.in-Ok.copy ≡ second = c.in-Ok.ensures.value ∙ y.ensures.value in
-          let f3 = rw (y.ensures.context, u.ensures.context, t.ensures.context, w.ensures.context, y.ensures.left, y.ensures.store, t.ensures.value, same_copy) at r.ensures.came in
+          let f3 = rw (y.ensures.stays.1, u.ensures.stays.1, t.ensures.stays.1, w.ensures.stays.1, y.ensures.stays.2, y.ensures.stays.3, t.ensures.value, same_copy) at r.ensures.came in
           let reads = ReadOf (OfElement first second) c.args.op (erase c.args.value.now) c.args.at in
           let none = operator_none c.args.self.now.context.script.now S st first (codes "[]") refl in
           let e3 = calls_builtin S _ start _ _ _ _ _ _ _ _ _ _ c.args.self.now.context.program.now (Some builtin.Index) first (codes "[]") (second ∷ []) c.args.at none refl e f3 (on _ g2 refl) in
@@ -4422,32 +4424,32 @@ update_element-returns-clause-came g m c = λ S names size st e l.
     let r = c.call_with-current in (
       λ i p q.
           let before = (w.ensures.came S names size st e (sub (fits S c.args.receiver.now) l (fst _ _ l.fits))).0 i p q in
-          let base = t.ensures.base ∙ w.ensures.base in
-          let under = moved _ _ base w.ensures.room (sub (fits S c.args.index.now) l (fst _ _ (snd _ _ l.fits))) in
-          let f = rw (t.ensures.context, w.ensures.context) at u.ensures.came in
+          let base = t.ensures.stays.0 ∙ w.ensures.stays.0 in
+          let under = moved _ _ base w.ensures.stays.3 (sub (fits S c.args.index.now) l (fst _ _ (snd _ _ l.fits))) in
+          let f = rw (t.ensures.stays.1, w.ensures.stays.1) at u.ensures.came in
           let behind = (f S names size st e under).0 i p (omega (arith, q, base)) ∙ before in
-          let all = r.ensures.base ∙ (y.ensures.base ∙ (u.ensures.base ∙ base)) in
-          let last = moved _ _ all (u.ensures.room ∙ w.ensures.room) (sub (fits S c.args.value.now) l (snd _ _ (snd _ _ l.fits))) in
-          let f1 = rw (r.ensures.context, y.ensures.context, u.ensures.context, t.ensures.context, w.ensures.context) at c.update_at.ensures.came in
+          let all = r.ensures.stays.0 ∙ (y.ensures.stays.0 ∙ (u.ensures.stays.0 ∙ base)) in
+          let last = moved _ _ all (u.ensures.stays.3 ∙ w.ensures.stays.3) (sub (fits S c.args.value.now) l (snd _ _ (snd _ _ l.fits))) in
+          let f1 = rw (r.ensures.stays.1, y.ensures.stays.1, u.ensures.stays.1, t.ensures.stays.1, w.ensures.stays.1) at c.update_at.ensures.came in
           (f1 S names size st e last).0 i p (omega (arith, q, all)) ∙ behind,
       λ start k a.
           let e1 = (w.ensures.came S names size st e (sub (fits S c.args.receiver.now) l (fst _ _ l.fits))).1 start (Then (IndexedBy (erase c.args.index.now) c.args.op (erase c.args.value.now) c.args.at) ∷ k) a in
           let first = value_of w.result w.new.self.value in
           let g1 = given w.result w.new.self.value w.new.self.leave (sym c.is_left.ensures ∙ c.if-is_left.false) e1 in
-          let under = moved _ _ (t.ensures.base ∙ w.ensures.base) w.ensures.room (sub (fits S c.args.index.now) l (fst _ _ (snd _ _ l.fits))) in
-          let f = rw (t.ensures.context, w.ensures.context, t.ensures.left, t.ensures.store) at u.ensures.came in
+          let under = moved _ _ (t.ensures.stays.0 ∙ w.ensures.stays.0) w.ensures.stays.3 (sub (fits S c.args.index.now) l (fst _ _ (snd _ _ l.fits))) in
+          let f = rw (t.ensures.stays.1, w.ensures.stays.1, t.ensures.stays.2, t.ensures.stays.3) at u.ensures.came in
           let e2 = (f S names size st e under).1 start (Then (IndexOf first c.args.op (erase c.args.value.now) c.args.at) ∷ k) (on _ g1 refl) in
           let second = value_of u.result u.new.self.value in
           let g2 = given u.result u.new.self.value u.new.self.leave (sym c.is_left-2.ensures ∙ c.if-is_left-2.false) e2 in
           let same_copy : plain c.in-Ok.copy ≡ second = c.in-Ok.ensures.value ∙ y.ensures.value in
-          let f3 = rw (y.ensures.context, u.ensures.context, t.ensures.context, w.ensures.context, y.ensures.left, y.ensures.store, t.ensures.value, same_copy) at r.ensures.came in
+          let f3 = rw (y.ensures.stays.1, u.ensures.stays.1, t.ensures.stays.1, w.ensures.stays.1, y.ensures.stays.2, y.ensures.stays.3, t.ensures.value, same_copy) at r.ensures.came in
           let reads = ReadOf (OfElement first second) c.args.op (erase c.args.value.now) c.args.at in
           let none = operator_none c.args.self.now.context.script.now S st first (codes "[]") refl in
           let e3 = calls_builtin S _ start _ _ _ _ _ _ _ _ _ _ c.args.self.now.context.program.now (Some builtin.Index) first (codes "[]") (second ∷ []) c.args.at none refl e f3 (on _ g2 refl) in
           let g3 = given r.result r.new.self.value r.new.self.leave (sym c.is_left-3.ensures ∙ c.if-is_left-3.false) e3 in
-          let all = r.ensures.base ∙ (y.ensures.base ∙ (u.ensures.base ∙ (t.ensures.base ∙ w.ensures.base))) in
-          let last = moved _ _ all (u.ensures.room ∙ w.ensures.room) (sub (fits S c.args.value.now) l (snd _ _ (snd _ _ l.fits))) in
-          let h1 = rw (r.ensures.context, y.ensures.context, u.ensures.context, t.ensures.context, w.ensures.context, t.ensures.value, y.ensures.value) at c.update_at.ensures.came in
+          let all = r.ensures.stays.0 ∙ (y.ensures.stays.0 ∙ (u.ensures.stays.0 ∙ (t.ensures.stays.0 ∙ w.ensures.stays.0))) in
+          let last = moved _ _ all (u.ensures.stays.3 ∙ w.ensures.stays.3) (sub (fits S c.args.value.now) l (snd _ _ (snd _ _ l.fits))) in
+          let h1 = rw (r.ensures.stays.1, y.ensures.stays.1, u.ensures.stays.1, t.ensures.stays.1, w.ensures.stays.1, t.ensures.value, y.ensures.value) at c.update_at.ensures.came in
           (h1 S names size st e last).1 start k g3,
     )
 
@@ -4457,7 +4459,7 @@ iteration-returns-then-self-eq0-clause-counted g m c = λ f. absurd (over_stops 
 pub iteration-returns-then-self-eq0-clause-came : goal.iteration-returns-then-self-eq0-clause-came
 iteration-returns-then-self-eq0-clause-came g m c = λ later S start k names size st e l a.
     let o = c.over.ensures in
-    rw (o.gives, o.left, o.store) (λ f. absurd (cc), λ f. no_step later _ _ k _ _ _ c.if-self-eq0.true a)
+    rw (o.gives, o.stays.2, o.stays.3) (λ f. absurd (cc), λ f. no_step later _ _ k _ _ _ c.if-self-eq0.true a)
 
 pub iteration-returns-then-room-from-clause-counted : goal.iteration-returns-then-room-from-clause-counted
 iteration-returns-then-room-from-clause-counted g m c = λ f. absurd (over_stops _ _ c.over-then-room-from.ensures.gives f)
@@ -4465,10 +4467,10 @@ iteration-returns-then-room-from-clause-counted g m c = λ f. absurd (over_stops
 pub iteration-returns-then-room-from-clause-came : goal.iteration-returns-then-room-from-clause-came
 iteration-returns-then-room-from-clause-came g m c = λ later S start k names size st e l a.
     let o = c.over-then-room-from.ensures in
-    rw (o.gives, o.left, o.store) (λ f. absurd (cc), λ f. (_, a, start_left S later _ (erase_block c.args.block.now) k _ _ _))
+    rw (o.gives, o.stays.2, o.stays.3) (λ f. absurd (cc), λ f. (_, a, start_left S later _ (erase_block c.args.block.now) k _ _ _))
 
 pub iteration-returns-clause-counted : goal.iteration-returns-clause-counted
-iteration-returns-clause-counted g m c = λ f. omega (arith, c.if-self-eq0.false, c.body.ensures.less)
+iteration-returns-clause-counted g m c = λ f. omega (arith, c.if-self-eq0.false, c.body.ensures.stays.2)
 
 pub iteration-returns-clause-kept : goal.iteration-returns-clause-kept
 iteration-returns-clause-kept g m c = λ S names size st e l i p q.
@@ -4488,7 +4490,7 @@ iteration-returns-clause-came g m c = λ later S start k names size st e l a.
     let within = deeper S block (moved _ _ refl c.open_block.ensures.room l) in
     let f = rw c.as_slice.ensures at c.body.ensures.came in
     let come = (f S (names ++ own) size st e within).1 start (Turn later (erase_block block) (length names) ∷ k) t in
-    let long : length names ≤ length c.body.new.room = omega (arith, l.within, l.below, l.room, c.body.ensures.room, c.open_block.ensures.room) in
+    let long : length names ≤ length c.body.new.room = omega (arith, l.within, l.below, l.room, c.body.ensures.stays.3, c.open_block.ensures.room) in
     (λ go. iteration_goes S _ start _ _ _ later (erase_block block) k _ names own _ _ _ long go come, λ stop. closes_out S _ start _ _ _ later (erase_block block) k _ names own _ _ _ long stop come)
 
 pub walk_elements-returns-in_default-clause-came : goal.walk_elements-returns-in_default-clause-came
@@ -4503,8 +4505,8 @@ walk_elements-returns-in_default-clause-came g m c = λ S names size st e l. (
       let none = rw inv.context at c.next_element.ensures.none in
       let ends = none c.in_default.is (walking c.args.pass made i.0) block S start k _ _ i.1 in
       let z = c.finish.ensures in
-      let f = rw (y.context, inv.context, y.left) at z.came in
-      rw (z.left, y.left) (f i.0 c.args.depth S start k _ e ends),
+      let f = rw (y.stays.1, inv.context, y.stays.2) at z.came in
+      rw (z.stays.2, y.stays.2) (f i.0 c.args.depth S start k _ e ends),
 )
 
 pub walk_elements-returns-then-is_left-clause-came : goal.walk_elements-returns-then-is_left-clause-came
@@ -4518,7 +4520,7 @@ walk_elements-returns-then-is_left-clause-came g m c = λ S names size st e l. (
       let y = c.next_element.ensures in
       let found = rw inv.context at c.in-Some.ensures.some in
       let s = found (walking c.args.pass made i.0) block S start k _ _ i.1 in
-      rw y.left (s.0 (sym c.is_left.ensures ∙ c.if-is_left.true)),
+      rw y.stays.2 (s.0 (sym c.is_left.ensures ∙ c.if-is_left.true)),
 )
 
 pub walk_elements-returns-in_default-held-clause-came : goal.walk_elements-returns-in_default-held-clause-came
@@ -4538,7 +4540,7 @@ walk_elements-returns-in_default-held-clause-came g m c = λ S names size st e l
       let v = value_of c.in-Some.found next.value in
       let gives = given c.in-Some.found next.value next.leave none (s.1 none) in
       let o = c.over.ensures in
-      rw (o.left, o.store, t.left, t.store, y.left) (cut S _ start _ _ _ k _ _ _ _ o.gives gives refl),
+      rw (o.stays.2, o.stays.3, t.stays.2, t.stays.3, y.stays.2) (cut S _ start _ _ _ k _ _ _ _ o.gives gives refl),
 )
 
 pub walk_elements-returns-then-not-goes_on-clause-came : goal.walk_elements-returns-then-not-goes_on-clause-came
@@ -4546,9 +4548,9 @@ walk_elements-returns-then-not-goes_on-clause-came g m c = λ S names size st e 
     let inv = c.elements.invariant in
     let y = c.next_element.ensures in
     let t = c.take-element.ensures in
-    let base : c.take-element.new.self.base ≡ c.args.self.now.base = t.base ∙ (y.base ∙ inv.base) in (
+    let base : c.take-element.new.self.base ≡ c.args.self.now.base = t.stays.0 ∙ (y.stays.0 ∙ inv.base) in (
       λ i p q.
-          let f = rw (t.context, y.context, inv.context) at c.iteration-came.ensures.kept in
+          let f = rw (t.stays.1, y.stays.1, inv.context) at c.iteration-came.ensures.kept in
           f S names size st e (moved _ _ base inv.room l) i p (omega (arith, q, base)) ∙ inv.kept S names size st e l i p q,
       λ start k a.
           let i = inv.came S start k names size st e l a in
@@ -4561,7 +4563,7 @@ walk_elements-returns-then-not-goes_on-clause-came g m c = λ S names size st e 
           let v = value_of c.in-Some.found next.value in
           let gives = given c.in-Some.found next.value next.leave none (s.1 none) in
           let later = Walking (thing_of c.args.array) (suc c.elements.next) (holding v (walking c.args.pass made i.0)) c.args.at in
-          let f = rw (t.context, y.context, inv.context, t.left, y.left, t.store, t.value, c.second_value.ensures) at c.iteration-came.ensures.came in
+          let f = rw (t.stays.1, y.stays.1, inv.context, t.stays.2, y.stays.2, t.stays.3, t.value, c.second_value.ensures) at c.iteration-came.ensures.came in
           let r = f later S start k names size st e (moved _ _ base inv.room l) (element_begins c.args.pass made i.0 v gives) in
           let stop = sym c.goes_on.ensures ∙ c.if-not-goes_on.true in
           rw (c.out_of_loop.ensures stop) (r.1 stop),
@@ -4572,9 +4574,9 @@ walk_elements-returns-in-Err-clause-came g m c = λ S names size st e l.
     let inv = c.elements.invariant in
     let y = c.next_element.ensures in
     let t = c.take-element.ensures in
-    let base : c.take-element.new.self.base ≡ c.args.self.now.base = t.base ∙ (y.base ∙ inv.base) in (
+    let base : c.take-element.new.self.base ≡ c.args.self.now.base = t.stays.0 ∙ (y.stays.0 ∙ inv.base) in (
       λ i p q.
-          let f = rw (t.context, y.context, inv.context) at c.iteration-came.ensures.kept in
+          let f = rw (t.stays.1, y.stays.1, inv.context) at c.iteration-came.ensures.kept in
           f S names size st e (moved _ _ base inv.room l) i p (omega (arith, q, base)) ∙ inv.kept S names size st e l i p q,
       λ start k a.
           let i = inv.came S start k names size st e l a in
@@ -4587,12 +4589,12 @@ walk_elements-returns-in-Err-clause-came g m c = λ S names size st e l.
           let v = value_of c.in-Some.found next.value in
           let gives = given c.in-Some.found next.value next.leave none (s.1 none) in
           let later = Walking (thing_of c.args.array) (suc c.elements.next) (holding v (walking c.args.pass made i.0)) c.args.at in
-          let f = rw (t.context, y.context, inv.context, t.left, y.left, t.store, t.value, c.second_value.ensures) at c.iteration-came.ensures.came in
+          let f = rw (t.stays.1, y.stays.1, inv.context, t.stays.2, y.stays.2, t.stays.3, t.value, c.second_value.ensures) at c.iteration-came.ensures.came in
           let r = f later S start k names size st e (moved _ _ base inv.room l) (element_begins c.args.pass made i.0 v gives) in
           let goes = r.0 (sym c.goes_on.ensures ∙ c.if-not-goes_on.false) in
           let u = c.value_on-given.ensures in
           let o = c.over-in-Err.ensures in
-          rw (o.left, o.store, u.left, u.store) (cut S _ start _ _ _ k _ _ _ _ o.gives goes refl),
+          rw (o.stays.2, o.stays.3, u.stays.2, u.stays.3) (cut S _ start _ _ _ k _ _ _ _ o.gives goes refl),
     )
 
 pub walk_elements-returns-then-next-clause-came : goal.walk_elements-returns-then-next-clause-came
@@ -4600,9 +4602,9 @@ walk_elements-returns-then-next-clause-came g m c = λ S names size st e l.
     let inv = c.elements.invariant in
     let y = c.next_element.ensures in
     let t = c.take-element.ensures in
-    let base : c.take-element.new.self.base ≡ c.args.self.now.base = t.base ∙ (y.base ∙ inv.base) in (
+    let base : c.take-element.new.self.base ≡ c.args.self.now.base = t.stays.0 ∙ (y.stays.0 ∙ inv.base) in (
       λ i p q.
-          let f = rw (t.context, y.context, inv.context) at c.iteration-came.ensures.kept in
+          let f = rw (t.stays.1, y.stays.1, inv.context) at c.iteration-came.ensures.kept in
           f S names size st e (moved _ _ base inv.room l) i p (omega (arith, q, base)) ∙ inv.kept S names size st e l i p q,
       λ start k a.
           let i = inv.came S start k names size st e l a in
@@ -4615,12 +4617,12 @@ walk_elements-returns-then-next-clause-came g m c = λ S names size st e l.
           let v = value_of c.in-Some.found next.value in
           let gives = given c.in-Some.found next.value next.leave none (s.1 none) in
           let later = Walking (thing_of c.args.array) (suc c.elements.next) (holding v (walking c.args.pass made i.0)) c.args.at in
-          let f = rw (t.context, y.context, inv.context, t.left, y.left, t.store, t.value, c.second_value.ensures) at c.iteration-came.ensures.came in
+          let f = rw (t.stays.1, y.stays.1, inv.context, t.stays.2, y.stays.2, t.stays.3, t.value, c.second_value.ensures) at c.iteration-came.ensures.came in
           let r = f later S start k names size st e (moved _ _ base inv.room l) (element_begins c.args.pass made i.0 v gives) in
           let goes = r.0 (sym c.goes_on.ensures ∙ c.if-not-goes_on.false) in
           let u = c.value_on-given.ensures in
           let o = c.over-then-next.ensures in
-          rw (o.left, o.store, u.left, u.store) (cut S _ start _ _ _ k _ _ _ _ o.gives goes refl),
+          rw (o.stays.2, o.stays.3, u.stays.2, u.stays.3) (cut S _ start _ _ _ k _ _ _ _ o.gives goes refl),
     )
 
 pub walk_elements-elements-init : goal.walk_elements-elements-init
@@ -4641,16 +4643,16 @@ walk_elements-elements-preserved g m c =
     let x = c.iteration-came.ensures in
     let u = c.value_on-given.ensures in
     record {
-      base = u.base ∙ (x.base ∙ (t.base ∙ (y.base ∙ old.base)));
-      context = u.context ∙ (x.context ∙ (t.context ∙ (y.context ∙ old.context)));
-      room = x.room ∙ old.room;
-      less = omega (arith, u.left, x.less, t.left, y.left, old.less);
+      base = u.stays.0 ∙ (x.stays.0 ∙ (t.stays.0 ∙ (y.stays.0 ∙ old.base)));
+      context = u.stays.1 ∙ (x.stays.1 ∙ (t.stays.1 ∙ (y.stays.1 ∙ old.context)));
+      room = x.stays.3 ∙ old.room;
+      less = omega (arith, u.stays.2, x.stays.2, t.stays.2, y.stays.2, old.less);
       kept = λ S names size st e l i p q.
           let inv = c.elements.invariant in
           let y = c.next_element.ensures in
           let t = c.take-element.ensures in
-          let base : c.take-element.new.self.base ≡ c.args.self.now.base = t.base ∙ (y.base ∙ inv.base) in
-          let f = rw (t.context, y.context, inv.context) at c.iteration-came.ensures.kept in
+          let base : c.take-element.new.self.base ≡ c.args.self.now.base = t.stays.0 ∙ (y.stays.0 ∙ inv.base) in
+          let f = rw (t.stays.1, y.stays.1, inv.context) at c.iteration-came.ensures.kept in
           f S names size st e (moved _ _ base inv.room l) i p (omega (arith, q, base)) ∙ inv.kept S names size st e l i p q;
       came = λ S start k names size st e l a.
           let inv = c.elements.invariant in
@@ -4665,12 +4667,12 @@ walk_elements-elements-preserved g m c =
           let next = c.next_element.new.self in
           let v = value_of c.in-Some.found next.value in
           let gives = given c.in-Some.found next.value next.leave none (s.1 none) in
-          let base : c.take-element.new.self.base ≡ c.args.self.now.base = t.base ∙ (y.base ∙ inv.base) in
+          let base : c.take-element.new.self.base ≡ c.args.self.now.base = t.stays.0 ∙ (y.stays.0 ∙ inv.base) in
           let later = Walking (thing_of c.args.array) (suc c.elements.next) (holding v (walking c.args.pass made i.0)) c.args.at in
-          let f = rw (t.context, y.context, inv.context, t.left, y.left, t.store, t.value, c.second_value.ensures) at c.iteration-came.ensures.came in
+          let f = rw (t.stays.1, y.stays.1, inv.context, t.stays.2, y.stays.2, t.stays.3, t.value, c.second_value.ensures) at c.iteration-came.ensures.came in
           let r = f later S start k names size st e (moved _ _ base inv.room l) (element_begins c.args.pass made i.0 v gives) in
           let goes = r.0 (sym c.goes_on.ensures ∙ c.if-not-goes_on.false) in
-          rw (u.left, u.store) (plain c.in-Ok.last, element_ends c.args.pass made _ i.0 (plain c.in-Ok.last) v _ ((rw t.value at c.in-Ok.ensures) made i.0) (rw u.value at c.in_default-gather.ensures) refl goes);
+          rw (u.stays.2, u.stays.3) (plain c.in-Ok.last, element_ends c.args.pass made _ i.0 (plain c.in-Ok.last) v _ ((rw t.value at c.in-Ok.ensures) made i.0) (rw u.value at c.in_default-gather.ensures) refl goes);
     }
 
 pub pair_turns-pairs-init : goal.pair_turns-pairs-init
@@ -4688,10 +4690,10 @@ pair_turns-pairs-preserved g m c =
     let old = c.pairs.invariant in
     let x = c.iteration-came.ensures in
     record {
-      base = x.base ∙ old.base;
-      context = x.context ∙ old.context;
-      room = x.room ∙ old.room;
-      less = omega (arith, x.less, old.less);
+      base = x.stays.0 ∙ old.base;
+      context = x.stays.1 ∙ old.context;
+      room = x.stays.3 ∙ old.room;
+      less = omega (arith, x.stays.2, old.less);
       kept = λ S names size st e l i p q.
           let inv = c.pairs.invariant in
           let f = rw inv.context at c.iteration-came.ensures.kept in
@@ -4724,22 +4726,22 @@ pair_turns-returns-clause-came g m c = λ S names size st e l. (
   λ start k a.
       let inv = c.pairs.invariant in
       let o = c.give.ensures in
-      rw (o.gives, o.left, o.store) (pairs_end (no_pairs _ (omega (arith, c.in-None.ensures.steps.0))) (inv.came S start k names size st e l a)),
+      rw (o.gives, o.stays.2, o.stays.3) (pairs_end (no_pairs _ (omega (arith, c.in-None.ensures.steps.0))) (inv.came S start k names size st e l a)),
 )
 
 pub walk_pairs-returns-in-Ok-Pairs-clause-came : goal.walk_pairs-returns-in-Ok-Pairs-clause-came
 walk_pairs-returns-in-Ok-Pairs-clause-came g m c = λ S names size st e l.
     let o = c.copied.ensures in (
       λ i p q.
-          let f = rw o.context at c.pair_turns.ensures.came in
-          (f S names size st e (moved _ _ o.base refl l)).0 i p (omega (arith, q, o.base)),
+          let f = rw o.stays.1 at c.pair_turns.ensures.came in
+          (f S names size st e (moved _ _ o.stays.0 refl l)).0 i p (omega (arith, q, o.stays.0)),
       λ start k a.
           let hash = c.args.hash in
           let purpose = ForEach (To (thing_of hash)) (erase_block c.args.block.now) in
           let y = c.in-Ok-Pairs.ensures in
           let come = y.reads purpose c.args.at S start k _ _ a in
-          let f = rw (o.context, o.left) at c.pair_turns.ensures.came in
-          (f S names size st e (moved _ _ o.base refl l)).1 start k (rw c.in-Ok-Pairs.field-0-is at come),
+          let f = rw (o.stays.1, o.stays.2) at c.pair_turns.ensures.came in
+          (f S names size st e (moved _ _ o.stays.0 refl l)).1 start k (rw c.in-Ok-Pairs.field-0-is at come),
     )
 
 pub walk_pairs-returns-in-Ok-clause-came : goal.walk_pairs-returns-in-Ok-clause-came
@@ -4751,7 +4753,7 @@ walk_pairs-returns-in-Ok-clause-came g m c = λ S names size st e l. (
       let come = c.in-Ok.ensures.reads purpose c.args.at S start k _ _ a in
       let o = c.over.ensures in
       let y = c.copied.ensures in
-      rw (o.left, o.store, y.left) (cut S _ start _ _ _ k _ _ _ _ o.gives come (copied_left c.args.at k _ _ _ (To (thing_of hash)) (erase_block c.args.block.now) (thing_of hash) _)),
+      rw (o.stays.2, o.stays.3, y.stays.2) (cut S _ start _ _ _ k _ _ _ _ o.gives come (copied_left c.args.at k _ _ _ (To (thing_of hash)) (erase_block c.args.block.now) (thing_of hash) _)),
 )
 
 pub walk_pairs-returns-clause-came : goal.walk_pairs-returns-clause-came
@@ -4760,7 +4762,7 @@ walk_pairs-returns-clause-came g m c = λ S names size st e l. (
   λ start k a.
       let hash = c.args.hash in
       let purpose = ForEach (To (thing_of hash)) (erase_block c.args.block.now) in
-      rw c.copied.ensures.left (c.in-Err.ensures.ends purpose c.args.at S start k _ _ a),
+      rw c.copied.ensures.stays.2 (c.in-Err.ensures.ends purpose c.args.at S start k _ _ a),
 )
 
 pub send_block-returns-in-Elements-clause-came : goal.send_block-returns-in-Elements-clause-came
@@ -4770,39 +4772,39 @@ send_block-returns-in-Elements-clause-came g m c = λ S names size st e l.
     let first = sub (fits S c.args.receiver.now) l (fst _ _ right) in
     let t = c.take-receiver.ensures in
     let y = c.arguments-came in
-    let under = moved _ _ w.ensures.base w.ensures.room (sub (every (map (fits S) c.args.args.now)) l (fst _ _ (snd _ _ right))) in
+    let under = moved _ _ w.ensures.stays.0 w.ensures.stays.3 (sub (every (map (fits S) c.args.args.now)) l (fst _ _ (snd _ _ right))) in
     let o = c.iterations.ensures in
-    let base : c.iterations.new.self.base ≡ c.args.self.now.base = o.base ∙ (t.base ∙ w.ensures.base) in
-    let inside = moved _ _ base (y.ensures.room ∙ w.ensures.room) (sub (block_fits S c.args.block.now) l (snd _ _ (snd _ _ right))) in (
+    let base : c.iterations.new.self.base ≡ c.args.self.now.base = o.stays.0 ∙ (t.stays.0 ∙ w.ensures.stays.0) in
+    let inside = moved _ _ base (y.ensures.room ∙ w.ensures.stays.3) (sub (block_fits S c.args.block.now) l (snd _ _ (snd _ _ right))) in (
       λ i p q.
-          let f = rw (t.context, t.base, w.ensures.context) at y.ensures.kept in
-          let stays = f S names size st e under i p (omega (arith, q, w.ensures.base)) ∙ (w.ensures.came S names size st e first).0 i p q in
-          let u = rw (o.context, y.ensures.context, t.context, w.ensures.context) at c.walk_elements.ensures.came in
+          let f = rw (t.stays.1, t.stays.0, w.ensures.stays.1) at y.ensures.kept in
+          let stays = f S names size st e under i p (omega (arith, q, w.ensures.stays.0)) ∙ (w.ensures.came S names size st e first).0 i p q in
+          let u = rw (o.stays.1, y.ensures.context, t.stays.1, w.ensures.stays.1) at c.walk_elements.ensures.came in
           (u S names size st e inside).0 i p (omega (arith, q, base)) ∙ stays,
       λ start k a.
           let step = ReceiverOf (text_of S c.args.name) (map erase c.args.args.now) (Some (erase_block c.args.block.now)) c.args.at in
           let come = (w.ensures.came S names size st e first).1 start (Then step ∷ k) a in
           let none = sym c.is_left.ensures ∙ c.if-is_left.false in
           let v = value_of w.result w.new.self.value in
-          let f = rw (t.context, t.base, t.left, t.store, w.ensures.context) at y.ensures.came in
+          let f = rw (t.stays.1, t.stays.0, t.stays.2, t.stays.3, w.ensures.stays.1) at y.ensures.came in
           let ends = f (OnReceiver v (text_of S c.args.name) (Some (erase_block c.args.block.now))) c.args.at S start k names size st e under (on _ (given w.result w.new.self.value w.new.self.leave none come) refl) in
           let at_end = ends.1 (sym c.is_left-2.ensures ∙ c.if-is_left-2.false) in
-          let short : w.new.self.base ≤ length w.new.room = still_within w.ensures.base w.ensures.room l.room in
-          let from = rw t.base at y.ensures.fits in
-          let end = rw t.base at y.ensures.base in
+          let short : w.new.self.base ≤ length w.new.room = still_within w.ensures.stays.0 w.ensures.stays.3 l.room in
+          let from = rw t.stays.0 at y.ensures.fits in
+          let end = rw t.stays.0 at y.ensures.base in
           let edge = from short in
           let last = end (sym c.is_left-2.ensures ∙ c.if-is_left-2.false) in
-          let passed = rw t.base at c.passed-args.ensures in
+          let passed = rw t.stays.0 at c.passed-args.ensures in
           let long : w.new.self.base + length c.args.args.now ≤ length y.new.room = up_to_end w.new.self.base _ _ (length c.args.args.now) edge last in
           let values = passed long in
           let number = same_is (builtin_of (text_of S c.args.name)) c.args.method (fst _ _ l.fits) in
           let args = map plain (take (length c.args.args.now) (drop w.new.self.base y.new.room)) in
           let answer = deed c.args.self.now.context.program.now v (text_of S c.args.name) args (Some (length c.args.block.now.params)) in
-          let none_own = (rw (y.ensures.context, t.context, w.ensures.context, t.value) at (c.target_of.ensures.none c.in_default.is)) S st in
+          let none_own = (rw (y.ensures.context, t.stays.1, w.ensures.stays.1, t.value) at (c.target_of.ensures.none c.in_default.is)) S st in
           let table = answers_block c.args.block.now v (text_of S c.args.name) args c.args.at answer none_own (ap (λ (ns : Program). deed ns v (text_of S c.args.name) args (Some (length c.args.block.now.params))) (sym e)) at_end in
-          let said = rw (y.ensures.context, t.context, w.ensures.context, t.value, values, c.len.ensures, c.in-Elements.is) at o.opens in
+          let said = rw (y.ensures.context, t.stays.1, w.ensures.stays.1, t.value, values, c.len.ensures, c.in-Elements.is) at o.opens in
           let turning = block_comes S _ start _ _ answer (LoopsOver (thing_of c.in-Elements.array) (walk_of c.in-Elements.pass)) (erase_block c.args.block.now) c.args.at k _ _ _ (said (text_of S c.args.name) number) table in
-          let u = rw (o.context, o.left, o.store, y.ensures.context, t.context, w.ensures.context) at c.walk_elements.ensures.came in
+          let u = rw (o.stays.1, o.stays.2, o.stays.3, y.ensures.context, t.stays.1, w.ensures.stays.1) at c.walk_elements.ensures.came in
           (u S names size st e inside).1 start k turning,
     )
 
@@ -4813,39 +4815,39 @@ send_block-returns-in-Pairs-clause-came g m c = λ S names size st e l.
     let first = sub (fits S c.args.receiver.now) l (fst _ _ right) in
     let t = c.take-receiver.ensures in
     let y = c.arguments-came in
-    let under = moved _ _ w.ensures.base w.ensures.room (sub (every (map (fits S) c.args.args.now)) l (fst _ _ (snd _ _ right))) in
+    let under = moved _ _ w.ensures.stays.0 w.ensures.stays.3 (sub (every (map (fits S) c.args.args.now)) l (fst _ _ (snd _ _ right))) in
     let o = c.iterations.ensures in
-    let base : c.iterations.new.self.base ≡ c.args.self.now.base = o.base ∙ (t.base ∙ w.ensures.base) in
-    let inside = moved _ _ base (y.ensures.room ∙ w.ensures.room) (sub (block_fits S c.args.block.now) l (snd _ _ (snd _ _ right))) in (
+    let base : c.iterations.new.self.base ≡ c.args.self.now.base = o.stays.0 ∙ (t.stays.0 ∙ w.ensures.stays.0) in
+    let inside = moved _ _ base (y.ensures.room ∙ w.ensures.stays.3) (sub (block_fits S c.args.block.now) l (snd _ _ (snd _ _ right))) in (
       λ i p q.
-          let f = rw (t.context, t.base, w.ensures.context) at y.ensures.kept in
-          let stays = f S names size st e under i p (omega (arith, q, w.ensures.base)) ∙ (w.ensures.came S names size st e first).0 i p q in
-          let u = rw (o.context, y.ensures.context, t.context, w.ensures.context) at c.walk_pairs.ensures.came in
+          let f = rw (t.stays.1, t.stays.0, w.ensures.stays.1) at y.ensures.kept in
+          let stays = f S names size st e under i p (omega (arith, q, w.ensures.stays.0)) ∙ (w.ensures.came S names size st e first).0 i p q in
+          let u = rw (o.stays.1, y.ensures.context, t.stays.1, w.ensures.stays.1) at c.walk_pairs.ensures.came in
           (u S names size st e inside).0 i p (omega (arith, q, base)) ∙ stays,
       λ start k a.
           let step = ReceiverOf (text_of S c.args.name) (map erase c.args.args.now) (Some (erase_block c.args.block.now)) c.args.at in
           let come = (w.ensures.came S names size st e first).1 start (Then step ∷ k) a in
           let none = sym c.is_left.ensures ∙ c.if-is_left.false in
           let v = value_of w.result w.new.self.value in
-          let f = rw (t.context, t.base, t.left, t.store, w.ensures.context) at y.ensures.came in
+          let f = rw (t.stays.1, t.stays.0, t.stays.2, t.stays.3, w.ensures.stays.1) at y.ensures.came in
           let ends = f (OnReceiver v (text_of S c.args.name) (Some (erase_block c.args.block.now))) c.args.at S start k names size st e under (on _ (given w.result w.new.self.value w.new.self.leave none come) refl) in
           let at_end = ends.1 (sym c.is_left-2.ensures ∙ c.if-is_left-2.false) in
-          let short : w.new.self.base ≤ length w.new.room = still_within w.ensures.base w.ensures.room l.room in
-          let from = rw t.base at y.ensures.fits in
-          let end = rw t.base at y.ensures.base in
+          let short : w.new.self.base ≤ length w.new.room = still_within w.ensures.stays.0 w.ensures.stays.3 l.room in
+          let from = rw t.stays.0 at y.ensures.fits in
+          let end = rw t.stays.0 at y.ensures.base in
           let edge = from short in
           let last = end (sym c.is_left-2.ensures ∙ c.if-is_left-2.false) in
-          let passed = rw t.base at c.passed-args.ensures in
+          let passed = rw t.stays.0 at c.passed-args.ensures in
           let long : w.new.self.base + length c.args.args.now ≤ length y.new.room = up_to_end w.new.self.base _ _ (length c.args.args.now) edge last in
           let values = passed long in
           let number = same_is (builtin_of (text_of S c.args.name)) c.args.method (fst _ _ l.fits) in
           let args = map plain (take (length c.args.args.now) (drop w.new.self.base y.new.room)) in
           let answer = deed c.args.self.now.context.program.now v (text_of S c.args.name) args (Some (length c.args.block.now.params)) in
-          let none_own = (rw (y.ensures.context, t.context, w.ensures.context, t.value) at (c.target_of.ensures.none c.in_default.is)) S st in
+          let none_own = (rw (y.ensures.context, t.stays.1, w.ensures.stays.1, t.value) at (c.target_of.ensures.none c.in_default.is)) S st in
           let table = answers_block c.args.block.now v (text_of S c.args.name) args c.args.at answer none_own (ap (λ (ns : Program). deed ns v (text_of S c.args.name) args (Some (length c.args.block.now.params))) (sym e)) at_end in
-          let said = rw (y.ensures.context, t.context, w.ensures.context, t.value, values, c.len.ensures, c.in-Pairs.is) at o.opens in
+          let said = rw (y.ensures.context, t.stays.1, w.ensures.stays.1, t.value, values, c.len.ensures, c.in-Pairs.is) at o.opens in
           let turning = block_comes S _ start _ _ answer (EachPairOf (thing_of c.in-Pairs.hash)) (erase_block c.args.block.now) c.args.at k _ _ _ (said (text_of S c.args.name) number) table in
-          let u = rw (o.context, o.left, o.store, y.ensures.context, t.context, w.ensures.context) at c.walk_pairs.ensures.came in
+          let u = rw (o.stays.1, o.stays.2, o.stays.3, y.ensures.context, t.stays.1, w.ensures.stays.1) at c.walk_pairs.ensures.came in
           (u S names size st e inside).1 start k turning,
     )
 
@@ -4853,9 +4855,9 @@ pub operate-returns-in-Some-clause-came : goal.operate-returns-in-Some-clause-ca
 operate-returns-in-Some-clause-came g m c = λ S names size st e l.
     let w = c.evaluate-came in
     let right = two _ (fits S c.args.right.now names size) (fst _ _ l.fits) (snd _ _ (snd _ _ l.fits)) in
-    let under = moved _ _ w.ensures.base w.ensures.room (sub (numbered c.args.method c.args.name (λ S. fits S c.args.right.now) S) l right) in
-    let f = rw w.ensures.context at c.operate_collection.ensures.came in (
-      λ i p q. (f S names size st e under).0 i p (omega (arith, q, w.ensures.base)) ∙ (w.ensures.came S names size st e (sub (fits S c.args.left.now) l (fst _ _ (snd _ _ l.fits)))).0 i p q,
+    let under = moved _ _ w.ensures.stays.0 w.ensures.stays.3 (sub (numbered c.args.method c.args.name (λ S. fits S c.args.right.now) S) l right) in
+    let f = rw w.ensures.stays.1 at c.operate_collection.ensures.came in (
+      λ i p q. (f S names size st e under).0 i p (omega (arith, q, w.ensures.stays.0)) ∙ (w.ensures.came S names size st e (sub (fits S c.args.left.now) l (fst _ _ (snd _ _ l.fits)))).0 i p q,
       λ start k a.
           let e1 = (w.ensures.came S names size st e (sub (fits S c.args.left.now) l (fst _ _ (snd _ _ l.fits)))).1 start (Then (ReceiverOf (text_of S c.args.name) (erase c.args.right.now ∷ []) None c.args.at) ∷ k) a in
           let g1 = given w.result w.new.self.value w.new.self.leave (sym c.is_left.ensures ∙ c.if-is_left.false) e1 in
@@ -4884,7 +4886,7 @@ operate_collection-returns-clause-came g m c = λ S names size st e l. (
       let g1 = given w.result w.new.self.value w.new.self.leave (sym c.is_left.ensures ∙ c.if-is_left.false) come in
       let o = c.asked_with.ensures in
       let number = same_is (builtin_of (text_of S c.args.name)) c.args.method (fst _ _ l.fits) in
-      let f1 = rw w.ensures.context at o.came in
+      let f1 = rw w.ensures.stays.1 at o.came in
       calls_builtin S _ start _ _ _ _ _ _ _ _ _ _ c.args.self.now.context.program.now c.args.method to (text_of S c.args.name) (value_of w.result w.new.self.value ∷ []) c.args.at (c.requires.alone S st) number e f1 (on _ (on _ g1 refl) refl),
 )
 
@@ -4906,7 +4908,7 @@ begin_slow_operate-returns-in-Some-local_collection-clause-came g m c = λ S nam
     )
 
 pub begin_store-returns-in_default-clause-came : goal.begin_store-returns-in_default-clause-came
-begin_store-returns-in_default-clause-came g m c = λ S names size st e l. (λ i p q. refl, λ start k a. let o = c.over.ensures in no_arm S _ k _ _ _ o.gives o.left (ap g.O.ThreadStore.log o.store) (ap g.O.ThreadStore.private o.store) a)
+begin_store-returns-in_default-clause-came g m c = λ S names size st e l. (λ i p q. refl, λ start k a. let o = c.over.ensures in no_arm S _ k _ _ _ o.gives o.stays.2 (ap g.O.ThreadStore.log o.stays.3) (ap g.O.ThreadStore.private o.stays.3) a)
 
 pub begin-returns-in-Store-clause-came : goal.begin-returns-in-Store-clause-came
 begin-returns-in-Store-clause-came g m c = c.begin_store.ensures.came
@@ -4972,10 +4974,10 @@ store_element-returns-then-is_left-2-clause-came g m c = λ S names size st e l.
     let w = c.evaluate-first in
     let t = c.take-index in
     let y = c.evaluate-came in
-    let under = moved _ _ (t.ensures.base ∙ w.ensures.base) w.ensures.room (sub (fits S c.args.value.now) l (snd _ _ (snd _ _ l.fits))) in (
+    let under = moved _ _ (t.ensures.stays.0 ∙ w.ensures.stays.0) w.ensures.stays.3 (sub (fits S c.args.value.now) l (snd _ _ (snd _ _ l.fits))) in (
       λ i p q.
-          let f = rw (t.ensures.context, w.ensures.context) at y.ensures.came in
-          (f S names size st e under).0 i p (omega (arith, q, t.ensures.base, w.ensures.base)) ∙ (w.ensures.came S names size st e (sub (fits S c.args.index.now) l (fst _ _ (snd _ _ l.fits)))).0 i p q,
+          let f = rw (t.ensures.stays.1, w.ensures.stays.1) at y.ensures.came in
+          (f S names size st e under).0 i p (omega (arith, q, t.ensures.stays.0, w.ensures.stays.0)) ∙ (w.ensures.came S names size st e (sub (fits S c.args.index.now) l (fst _ _ (snd _ _ l.fits)))).0 i p q,
       λ start k a.
           let aim = Storing (me_of (Some c.args.thing)) (text_of S c.args.name) in
           let step = Argument aim [] (erase c.args.value.now ∷ []) c.args.at in
@@ -4983,7 +4985,7 @@ store_element-returns-then-is_left-2-clause-came g m c = λ S names size st e l.
           let v = value_of w.result w.new.self.value in
           let g1 = given w.result w.new.self.value w.new.self.leave (sym c.is_left.ensures ∙ c.if-is_left.false) come in
           let next = Argument aim (v ∷ []) [] c.args.at in
-          let f = rw (t.ensures.context, w.ensures.context, t.ensures.left, t.ensures.store) at y.ensures.came in
+          let f = rw (t.ensures.stays.1, w.ensures.stays.1, t.ensures.stays.2, t.ensures.stays.3) at y.ensures.came in
           let h = (f S names size st e under).1 start (Then next ∷ k) (on _ (on _ g1 refl) refl) in
           passes S _ start _ y.result y.new.self.value y.new.self.leave _ next k _ _ _ (sym c.is_left-2.ensures ∙ c.if-is_left-2.true) h,
     )
@@ -4993,10 +4995,10 @@ store_element-returns-clause-came g m c = λ S names size st e l.
     let w = c.evaluate-first in
     let t = c.take-index in
     let y = c.evaluate-came in
-    let under = moved _ _ (t.ensures.base ∙ w.ensures.base) w.ensures.room (sub (fits S c.args.value.now) l (snd _ _ (snd _ _ l.fits))) in (
+    let under = moved _ _ (t.ensures.stays.0 ∙ w.ensures.stays.0) w.ensures.stays.3 (sub (fits S c.args.value.now) l (snd _ _ (snd _ _ l.fits))) in (
       λ i p q.
-          let f = rw (t.ensures.context, w.ensures.context) at y.ensures.came in
-          (f S names size st e under).0 i p (omega (arith, q, t.ensures.base, w.ensures.base)) ∙ (w.ensures.came S names size st e (sub (fits S c.args.index.now) l (fst _ _ (snd _ _ l.fits)))).0 i p q,
+          let f = rw (t.ensures.stays.1, w.ensures.stays.1) at y.ensures.came in
+          (f S names size st e under).0 i p (omega (arith, q, t.ensures.stays.0, w.ensures.stays.0)) ∙ (w.ensures.came S names size st e (sub (fits S c.args.index.now) l (fst _ _ (snd _ _ l.fits)))).0 i p q,
       λ start k a.
           let to = me_of (Some c.args.thing) in
           let aim = Storing to (text_of S c.args.name) in
@@ -5005,13 +5007,13 @@ store_element-returns-clause-came g m c = λ S names size st e l.
           let v = value_of w.result w.new.self.value in
           let g1 = given w.result w.new.self.value w.new.self.leave (sym c.is_left.ensures ∙ c.if-is_left.false) come in
           let next = Argument aim (v ∷ []) [] c.args.at in
-          let f = rw (t.ensures.context, w.ensures.context, t.ensures.left, t.ensures.store) at y.ensures.came in
+          let f = rw (t.ensures.stays.1, w.ensures.stays.1, t.ensures.stays.2, t.ensures.stays.3) at y.ensures.came in
           let h = (f S names size st e under).1 start (Then next ∷ k) (on _ (on _ g1 refl) refl) in
           let g2 = given y.result y.new.self.value y.new.self.leave (sym c.is_left-2.ensures ∙ c.if-is_left-2.false) h in
           let values = v ∷ value_of y.result y.new.self.value ∷ [] in
           let o = c.stored.ensures in
           let number = same_is (builtin_of (text_of S c.args.name)) c.args.method (fst _ _ l.fits) in
-          let f1 = rw (y.ensures.context, t.ensures.context, w.ensures.context, t.ensures.value) at (o.came (text_of S c.args.name) number) in
+          let f1 = rw (y.ensures.stays.1, t.ensures.stays.1, w.ensures.stays.1, t.ensures.value) at (o.came (text_of S c.args.name) number) in
           stores_builtin S _ start _ _ _ _ _ _ _ _ _ _ c.args.self.now.context.program.now to (text_of S c.args.name) values c.args.at (c.requires.alone S st) e f1 (on _ (on _ g2 refl) refl),
     )
 
@@ -5107,7 +5109,7 @@ store_target-returns-in-Some-entered_giving-clause-came g m c = λ S names size 
       let come = (w.ensures.came S names size st e l).1 start (Then (Argument (Storing to (text_of S c.args.name)) [] [] c.args.at) ∷ k) a in
       let g1 = given w.result w.new.self.value w.new.self.leave (sym c.is_left.ensures ∙ c.if-is_left.false) come in
       let g2 = same (on _ (on _ g1 refl) refl) (by_receiver S to to (text_of S c.args.name) (erase_method c.args.target.method.now) (x ∷ []) c.args.at (Then (Instead x) ∷ k) _ _ _ (target.finds S st) refl) in
-      let f = rw (n, w.ensures.context) at c.in-Some-entered_giving.ensures.came in
+      let f = rw (n, w.ensures.stays.1) at c.in-Some-entered_giving.ensures.came in
       let done = f S start (Then (Instead x) ∷ k) (scope_of (me_of c.args.self.now.context.me) names w.new.room) c.args.at (target.right S st) g2 in
       stored S _ start _ x _ _ k _ _ _ (rw n at c.in-Some-entered_giving.ensures.settled) done,
 )
@@ -5181,7 +5183,7 @@ begin_slow_operate-returns-in-Some-clause-came g m c = λ S names size st e l. (
       let o = c.answer.ensures in
       let number = same_is (builtin_of (text_of S x.name)) x.method (fst _ _ s) in
       let b = begins _ _ k _ _ _ (shows-operate c.args.code.now x.method x.name x.left x.right x.at x.is) a in
-      rw (o.gives, o.left, o.store)
+      rw (o.gives, o.stays.2, o.stays.3)
       (compares S _ start _ c.args.self.now.context.script.now _ k (me_of c.args.self.now.context.me) names size c.args.depth c.args.self.now.left c.args.room.now x.method x.name first second x.at _ st number fl fr len c.if-self-gt1.true c.if-depth-lt-MAX_DEPTH.true c.in-Some.ensures (rw (c.get-left.ensures, c.get-right.ensures) b)),
 )
 
@@ -5236,7 +5238,7 @@ operate_value-returns-then-is_nil_asked-clause-came g m c = λ S names size st e
       let e1 = asked.right c.if-is_nil_asked.true c.args.room.now S _ names size c.args.depth c.args.self.now.left start _ _ waits (me_of c.args.self.now.context.me) (snd _ _ l.fits) len c.if-self-gt0.true c.if-depth-lt-MAX_DEPTH.true a in
       let number = same_is (builtin_of text) c.args.method (fst _ _ l.fits) ∙ asked.method c.if-is_nil_asked.true in
       let o = c.answer.ensures in
-      rw (o.gives, o.left, o.store)
+      rw (o.gives, o.stays.2, o.stays.3)
       (asks_nil S _ start _ _ k _ _ _ v text c.args.at _ (c.target_now.ensures.none c.requires.came c.in_default.is S st) number c.nil_came-answer.ensures e1),
 )
 
@@ -5254,9 +5256,9 @@ send-returns-in-Some-entered_reader-clause-came g m c = λ S names size st e l. 
       let sc = scope_of (me_of c.args.self.now.context.me) names w.new.room in
       let none = no_items c.args.args.now c.in-Some-entered_reader.ensures.count in
       let g3 = same g2 (ap (λ args. On (Passing (OnReceiver to text None) [] (map erase args) c.args.at) k sc c.args.depth w.new.self.left) none) in
-      let target = rw w.ensures.context at c.in-Some.ensures.target in
+      let target = rw w.ensures.stays.1 at c.in-Some.ensures.target in
       let entered = same (on _ g3 refl) (by_receiver S to to text (erase_method c.in-Some.target.method.now) [] c.args.at k _ _ _ (target.finds S st) refl) in
-      let f = rw w.ensures.context at c.in-Some-entered_reader.ensures.came in
+      let f = rw w.ensures.stays.1 at c.in-Some-entered_reader.ensures.came in
       f S start k sc c.args.at (target.right S st) entered,
 )
 
@@ -5273,20 +5275,20 @@ send-returns-in-Some-collection_now-clause-came g m c = λ S names size st e l. 
       let g2 = on _ (gives to c.in-Some-collection_now.ensures.value g1) refl in
       let sc = scope_of (me_of c.args.self.now.context.me) names w.new.room in
       let g3 = same g2 (ap (λ args. On (Passing (OnReceiver to text None) [] (map erase args) c.args.at) k sc c.args.depth w.new.self.left) (is_nothing c.args.args.now c.if-is_empty.ensures)) in
-      let none = (rw w.ensures.context at c.in-Some-collection_now.ensures.alone) c.args.name S st in
+      let none = (rw w.ensures.stays.1 at c.in-Some-collection_now.ensures.alone) c.args.name S st in
       let o = c.asked_alone.ensures in
-      let f1 = rw w.ensures.context at o.came in
+      let f1 = rw w.ensures.stays.1 at o.came in
       calls_builtin S _ start _ _ _ _ _ _ _ _ _ _ c.args.self.now.context.program.now c.args.method to text [] c.args.at none (same_is _ _ (fst _ _ l.fits)) e f1 (on _ g3 refl),
 )
 
 pub send-returns-in-Some-clause-came : goal.send-returns-in-Some-clause-came
 send-returns-in-Some-clause-came g m c = λ S names size st e l.
     let w = c.walk_here-came in
-    let under = moved _ _ w.ensures.base w.ensures.room (sub (every (map (fits S) c.args.args.now)) l (snd _ _ (snd _ _ l.fits))) in
-    let f = rw (c.entered_reader.ensures.none c.in_default-entered_reader.is, w.ensures.context) at c.send_target.ensures.came in (
+    let under = moved _ _ w.ensures.stays.0 w.ensures.stays.3 (sub (every (map (fits S) c.args.args.now)) l (snd _ _ (snd _ _ l.fits))) in
+    let f = rw (c.entered_reader.ensures.none c.in_default-entered_reader.is, w.ensures.stays.1) at c.send_target.ensures.came in (
       λ i p q.
           let first = (w.ensures.came S names size st e (sub (fits S c.args.receiver.now) l (fst _ _ (snd _ _ l.fits)))).0 i p q in
-          (f S names size st e under).0 i p (omega (arith, q, w.ensures.base)) ∙ first,
+          (f S names size st e under).0 i p (omega (arith, q, w.ensures.stays.0)) ∙ first,
       λ start k a.
           let step = ReceiverOf (text_of S c.args.name) (map erase c.args.args.now) None c.args.at in
           let come = (w.ensures.came S names size st e (sub (fits S c.args.receiver.now) l (fst _ _ (snd _ _ l.fits)))).1 start (Then step ∷ k) a in
@@ -5301,11 +5303,11 @@ store_by-returns-in-Some-clause-came g m c = λ S names size st e l.
     let args = single _ _ _ refl c.in-len1.len_at_least c.in-len1.len_below c.only-item.is in
     let all : every (map (fits S) c.args.args.now) names size ≡ true = snd _ _ (snd _ _ l.fits) in
     let fit : fits S c.only-item.result names size ≡ true = fst _ _ (rw args at all) in
-    let under = moved _ _ w.ensures.base w.ensures.room (sub (fits S c.only-item.result) l fit) in
-    let f = rw w.ensures.context at c.store_target.ensures.came in (
+    let under = moved _ _ w.ensures.stays.0 w.ensures.stays.3 (sub (fits S c.only-item.result) l fit) in
+    let f = rw w.ensures.stays.1 at c.store_target.ensures.came in (
       λ i p q.
           let first = (w.ensures.came S names size st e (sub (fits S c.args.receiver.now) l (fst _ _ (snd _ _ l.fits)))).0 i p q in
-          (f S names size st e under).0 i p (omega (arith, q, w.ensures.base)) ∙ first,
+          (f S names size st e under).0 i p (omega (arith, q, w.ensures.stays.0)) ∙ first,
       λ start k a.
           let text = text_of S c.args.name in
           let step = ReceiverToStore text (map erase c.args.args.now) c.args.at in
@@ -5322,13 +5324,13 @@ pub store_by-returns-in-Some-collection_now-clause-came : goal.store_by-returns-
 store_by-returns-in-Some-collection_now-clause-came g m c = λ S names size st e l.
     let w = c.walk-came in
     let all : every (map (fits S) c.args.args.now) names size ≡ true = snd _ _ (snd _ _ l.fits) in
-    let f = rw w.ensures.context at c.store_element.ensures.came in (
+    let f = rw w.ensures.stays.1 at c.store_element.ensures.came in (
       λ i p q.
           let first = (w.ensures.came S names size st e (sub (fits S c.args.receiver.now) l (fst _ _ (snd _ _ l.fits)))).0 i p q in
           let args = two_items _ _ c.index-item.result c.value-item.result refl c.in-len2.len_at_least c.in-len2.len_below c.index-item.is c.value-item.is in
           let right = two _ _ (fst _ _ l.fits) (args_fit S c.index-item.result c.value-item.result names size (rw args at all)) in
-          let under = moved _ _ w.ensures.base w.ensures.room (sub _ l right) in
-          (f S names size st e under).0 i p (omega (arith, q, w.ensures.base)) ∙ first,
+          let under = moved _ _ w.ensures.stays.0 w.ensures.stays.3 (sub _ l right) in
+          (f S names size st e under).0 i p (omega (arith, q, w.ensures.stays.0)) ∙ first,
       λ start k a.
           let text = text_of S c.args.name in
           let step = ReceiverToStore text (map erase c.args.args.now) c.args.at in
@@ -5342,6 +5344,6 @@ store_by-returns-in-Some-collection_now-clause-came g m c = λ S names size st e
           let right = two _ _ (fst _ _ l.fits) (args_fit S first second names size (rw args at all)) in
           let sc = scope_of (me_of c.args.self.now.context.me) names w.new.room in
           let g3 = same g2 (ap (λ args. On (Give to) (Then (ReceiverToStore text (map erase args) c.args.at) ∷ k) sc c.args.depth w.new.self.left) args) in
-          let under = moved _ _ w.ensures.base w.ensures.room (sub _ l right) in
+          let under = moved _ _ w.ensures.stays.0 w.ensures.stays.3 (sub _ l right) in
           (f S names size st e under).1 start k (on _ (on _ g3 refl) refl),
     )

@@ -26,7 +26,7 @@ returns-in-Ok-clause-came g c = λ all vs S start k sc p a.
     let gave = given y.result y.new.self.value y.new.self.leave (sym c.is_left.ensures ∙ c.if-is_left.false) come in
     let t = c.take-text.ensures in
     let said = rw t.value at (c.in-Ok.ensures.text S) in
-    (λ q. absurd (cc), λ q. rw (t.left, t.store) (line_written S _ start _ _ all vs _ c.args.at k sc c.args.depth _ (value_of y.result y.new.self.value) _ said c.in-Ok.ensures.fits gave))
+    (λ q. absurd (cc), λ q. rw (t.stays.2, t.stays.3) (line_written S _ start _ _ all vs _ c.args.at k sc c.args.depth _ (value_of y.result y.new.self.value) _ said c.in-Ok.ensures.fits gave))
 
 pub returns-clause-came : goal.returns-clause-came
 returns-clause-came g c = λ all vs S start k sc p a.
@@ -39,7 +39,7 @@ returns-clause-came g c = λ all vs S start k sc p a.
     let long = rw t.value at (c.in-Err.ensures.too_long S) in
     let z = c.end_text in
     let o = z.ensures in
-    rw (o.gives, o.left, o.store, t.left, t.store) (left_only (is_left z.result) (end_left z.result z.new.self.value z.new.self.leave _ c.args.at o.gives)
+    rw (o.gives, o.stays.2, o.stays.3, t.stays.2, t.stays.3) (left_only (is_left z.result) (end_left z.result z.new.self.value z.new.self.leave _ c.args.at o.gives)
     (line_ends S _ start _ _ all vs _ c.args.at k sc c.args.depth _ (value_of y.result y.new.self.value) c.in-Err.fault (λ e. long (ap Err e)) gave))
 
 pub returns-in-Ok-clause-fits : goal.returns-in-Ok-clause-fits

@@ -24,7 +24,7 @@ returns-in-Err-clause-came g c = λ all vs S start k sc p a.
     let gave = form_given S _ start _ _ all vs _ c.args.at k sc c.args.depth _ program v p (c.collection_of.ensures.none c.in_default.is) a in
     let z = c.end_text in
     let o = z.ensures in
-    rw (o.gives, o.left, o.store) (left_only (is_left z.result) (end_left z.result z.new.self.value z.new.self.leave _ c.args.at o.gives)
+    rw (o.gives, o.stays.2, o.stays.3) (left_only (is_left z.result) (end_left z.result z.new.self.value z.new.self.leave _ c.args.at o.gives)
     (line_ends S _ start _ _ all vs _ c.args.at k sc c.args.depth _ (Str (inspected program v)) c.in-Err.fault (λ e. c.in-Err.ensures.too_long (ap Err e)) gave))
 
 pub returns-in-Ok-clause-fits : goal.returns-in-Ok-clause-fits

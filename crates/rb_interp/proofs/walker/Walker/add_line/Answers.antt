@@ -11,7 +11,7 @@ pub returns-in-Ok-clause-came : goal.returns-in-Ok-clause-came
 returns-in-Ok-clause-came g c = λ S start k sc d a.
     let t = c.take-value.ensures in
     let line = shown c.args.self.now.context.program.now (value_of c.args.came c.args.self.now.value) in
-    let joined = rw (t.context, t.value) at c.in-Ok.ensures.given in
+    let joined = rw (t.stays.1, t.value) at c.in-Ok.ensures.given in
     (λ q. absurd (cc), λ q. line_joins S _ start _ _ c.args.at k sc d _ c.args.draft.now c.give_line.new.draft line joined a)
 
 pub returns-in-Ok-clause-work : goal.returns-in-Ok-clause-work
@@ -23,7 +23,7 @@ returns-in-Err-clause-came g c = λ S start k sc d a.
     let line = shown c.args.self.now.context.program.now (value_of c.args.came c.args.self.now.value) in
     let y = c.end_text in
     let o = y.ensures in
-    let long = rw (t.context, t.value) at c.in-Err.ensures.too_long in
+    let long = rw (t.stays.1, t.value) at c.in-Err.ensures.too_long in
     let ends = line_ends S _ start _ _ c.args.at k sc d _ c.args.draft.now line c.in-Err.fault (λ e. long (ap Err e)) a in
     rw o.gives (left_only (is_left y.result) (end_left y.result y.new.self.value y.new.self.leave _ c.args.at o.gives) ends)
 

@@ -14,7 +14,7 @@ pub returns-in-Ok-Value-clause-came : goal.returns-in-Ok-Value-clause-came
 returns-in-Ok-Value-clause-came g c = λ S start k sc d a.
     let reply = c.in-Ok-Value.ensures in
     let come = asked S _ start _ _ _ (record { sort = c.args.thing.sort; id = c.args.thing.id }) (doing c.args.act) c.in-Ok-Value.field-0 c.args.at k sc d _ (sym c.if-not-holds.ensures) reply.reply reply.private a in
-    rw (c.hand.ensures.gives, c.hand.ensures.store, reply.log) (rw c.in-Ok-Value.field-0-is at come)
+    rw (c.hand.ensures.gives, c.hand.ensures.stays.3, reply.log) (rw c.in-Ok-Value.field-0-is at come)
 
 pub returns-in-Ok-Done-clause-came : goal.returns-in-Ok-Done-clause-came
 returns-in-Ok-Done-clause-came g c = λ S start k sc d a.
@@ -38,7 +38,7 @@ pub returns-in-Ok-Failed-clause-came : goal.returns-in-Ok-Failed-clause-came
 returns-in-Ok-Failed-clause-came g c = λ S start k sc d a.
     let reply = c.in-Ok-Failed.ensures in
     let come = asked S _ start _ _ _ (record { sort = c.args.thing.sort; id = c.args.thing.id }) (doing c.args.act) c.in-Ok-Failed.field-0 c.args.at k sc d _ (sym c.if-not-holds.ensures) reply.reply reply.private a in
-    rw (c.raise.ensures.gives, c.raise.ensures.store, reply.log) (rw c.in-Ok-Failed.field-0-is at come)
+    rw (c.raise.ensures.gives, c.raise.ensures.stays.3, reply.log) (rw c.in-Ok-Failed.field-0-is at come)
 
 pub unreachable-requires : goal.unreachable-requires
 unreachable-requires g c =

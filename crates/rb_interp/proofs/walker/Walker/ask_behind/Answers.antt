@@ -19,7 +19,7 @@ returns-in-Receiver-clause-came g c = λ depth S start k sc p a.
     let y = c.ask_apart-came in
     let come = y.ensures.came S start (Then (Instead (To (thing_of c.args.thing))) ∷ k) sc depth (rw c.in-Receiver.is at a) in
     let g1 = given y.result y.new.self.value y.new.self.leave (sym c.is_left.ensures ∙ c.if-is_left.false) come in
-    rw (c.give.ensures.gives, c.give.ensures.store) (on _ g1 refl)
+    rw (c.give.ensures.gives, c.give.ensures.stays.3) (on _ g1 refl)
 
 pub returns-in-IsZero-clause-came : goal.returns-in-IsZero-clause-came
 returns-in-IsZero-clause-came g c = λ depth S start k sc p a.

@@ -23,12 +23,12 @@ returns-then-push_immediate-clause-came g c = λ name e S start k sc p a.
     let asked = c.is_push.ensures c.if-is_push.true c.args.self.now.context.program.now name v.0 e in
     let waits = Then (Instead (To (thing_of c.args.thing))) ∷ k in
     let put = asked_reply S _ start _ _ _ (thing_of c.args.thing) (Push v.0) reply.Done c.args.at waits sc c.args.depth c.args.self.now.left (y.there done) gives becomes (rw (is, asked) at a) in
-    rw (c.give_thing.ensures.gives, c.give_thing.ensures.left, c.give_thing.ensures.store, y.log) (on _ put refl)
+    rw (c.give_thing.ensures.gives, c.give_thing.ensures.stays.2, c.give_thing.ensures.stays.3, y.log) (on _ put refl)
 
 pub returns-clause-came : goal.returns-clause-came
 returns-clause-came g c =
     let t = c.take-arg.ensures in
-    let came = rw (t.context, t.value, t.left, t.store) at c.asked_value.ensures.came in
+    let came = rw (t.stays.1, t.value, t.stays.2, t.stays.3) at c.asked_value.ensures.came in
     elim c.else-is_push.branch [
       | else-is_push-via-then-is_push+else-push_immediate w ↦
           let y = w.push_immediate.ensures in

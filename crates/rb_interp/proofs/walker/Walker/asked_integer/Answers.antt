@@ -7,7 +7,7 @@ returns-then-is_element-clause-came g c =
     λ name e S start k sc p a.
     let asked = c.is_element.ensures c.if-is_element.true c.args.index c.args.self.now.context.program.now name e in
     let y = c.element.ensures in
-    rw y.left ((rw z at y.came) S start k sc c.args.depth (rw asked at a))
+    rw y.stays.2 ((rw z at y.came) S start k sc c.args.depth (rw asked at a))
 
 pub returns-clause-came : goal.returns-clause-came
 returns-clause-came g c =

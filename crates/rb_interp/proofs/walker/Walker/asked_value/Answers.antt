@@ -12,7 +12,7 @@ returns-in-Some-clause-came g c =
     let q = c.in-Some.ensures in
     let asked = q.asked c.in-Some.index c.args.self.now.context.program.now name e in
     let y = c.element.ensures in
-    rw y.left ((rw z at y.came) S start k sc c.args.depth (rw asked at (rw q.index at a)))
+    rw y.stays.2 ((rw z at y.came) S start k sc c.args.depth (rw asked at (rw q.index at a)))
 
 pub returns-then-is_told-clause-came : goal.returns-then-is_told-clause-came
 returns-then-is_told-clause-came g c = λ name e S start k sc p a.

@@ -33,9 +33,9 @@ statements-preserved g c =
     let short : loop.code-index < length meth.body = rw c.as_slice-statements.ensures at c.statements-test.true in
     let is : c.code-item.result ≡ get_or meth.body loop.code-index c.code-item.result = rw c.as_slice-statements.ensures at c.code-item.is in
     record {
-      base = y.ensures.base ∙ inv.base;
-      context = y.ensures.context ∙ inv.context;
-      steps = omega (arith, y.ensures.left, inv.steps, short, c.requires.steps);
+      base = y.ensures.stays.0 ∙ inv.base;
+      context = y.ensures.stays.1 ∙ inv.context;
+      steps = omega (arith, y.ensures.stays.2, inv.steps, short, c.requires.steps);
       assigns = (subst (AllByRecursion (AssignsParameter (length c.args.args.now))) (next_item meth.body loop.code-index c.code-item.result short is) inv.assigns).1;
       came = (
         plain w,
@@ -44,7 +44,7 @@ statements-preserved g c =
             let deep : c.args.depth < 999 = c.requires.depth in
             let asked = assigning_at S _ start _ _ k sc c.args.depth loop.self.left (me_of (Some c.args.object)) inv.came.0 meth c.args.args.now loop.code-index c.code-item.result w _ _ _ short is c.in-Some.ensures.some c.in-Some.ensures.below c.index-args-assignment.is right more deep (inv.came.1 S start k sc at right a) in
             let f = rw inv.context at y.ensures.came in
-            rw y.ensures.left (assigned S _ start _ _ k sc _ c.args.depth _ _ (plain w) _ y.result y.new.self.value y.new.self.leave (sym c.is_left.ensures ∙ c.if-is_left.false) (f S start _ _ _ asked)),
+            rw y.ensures.stays.2 (assigned S _ start _ _ k sc _ c.args.depth _ _ (plain w) _ y.result y.new.self.value y.new.self.leave (sym c.is_left.ensures ∙ c.if-is_left.false) (f S start _ _ _ asked)),
       );
     }
 
@@ -64,11 +64,11 @@ returns-then-is_left-clause-came g c =
     let asked = assigning_at S _ start _ _ k sc c.args.depth loop.self.left (me_of (Some c.args.object)) inv.came.0 meth c.args.args.now loop.code-index c.code-item.result w _ _ _ short is c.in-Some.ensures.some c.in-Some.ensures.below c.index-args-assignment.is right more deep (inv.came.1 S start k sc at right a) in
     let f = rw inv.context at y.ensures.came in
     unassigned S _ start _ _ k sc _ c.args.depth _ _ (plain w) _ y.result y.new.self.value y.new.self.leave (sym c.is_left.ensures ∙ c.if-is_left.true) (f S start _ _ _ asked) in (
-      λ gone S start k sc at right a. rw (o.gives, o.left, o.store, y.ensures.left) (all S start k sc at right a),
+      λ gone S start k sc at right a. rw (o.gives, o.stays.2, o.stays.3, y.ensures.stays.2) (all S start k sc at right a),
       λ none. (
         value_of c.out_of_call.result c.out_of_call.new.self.value,
         λ S start k sc at right a.
-            given c.out_of_call.result c.out_of_call.new.self.value c.out_of_call.new.self.leave none (rw (o.gives, o.left, o.store, y.ensures.left) (all S start k sc at right a)),
+            given c.out_of_call.result c.out_of_call.new.self.value c.out_of_call.new.self.leave none (rw (o.gives, o.stays.2, o.stays.3, y.ensures.stays.2) (all S start k sc at right a)),
       ),
     )
 

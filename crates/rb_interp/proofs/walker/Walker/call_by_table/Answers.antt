@@ -7,4 +7,4 @@ returns-in-Ok-clause-came g c = λ name e S start k sc p a.
 
 pub returns-in-Err-clause-came : goal.returns-in-Err-clause-came
 returns-in-Err-clause-came g c = λ name e S start k sc p a.
-    rw (c.over.ensures.gives, c.over.ensures.store, c.over.ensures.left) (_, a, left_answered S _ c.args.at k sc _ _)
+    rw (c.over.ensures.gives, c.over.ensures.stays.3, c.over.ensures.stays.2) (_, a, left_answered S _ c.args.at k sc _ _)

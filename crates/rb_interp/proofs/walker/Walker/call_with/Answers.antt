@@ -13,6 +13,6 @@ pub returns-in-None-clause-came : goal.returns-in-None-clause-came
 returns-in-None-clause-came g c = λ name e S start k sc p a.
     let o = c.operated.ensures in
     let answer = deed c.args.self.now.context.program.now (plain c.args.receiver.now) name (plain c.args.arg ∷ []) None in
-    rw (o.store, o.left)
+    rw (o.stays.3, o.stays.2)
     (or_memory S _ start _ _ k sc _ _ (outcome_of answer c.args.at) _ (answered S answer None c.args.at k sc c.args.depth c.args.self.now.left) (o.gives name e) a (left_answered S answer c.args.at k sc _ _)
     (answers S _ start _ _ answer c.args.at k sc _ _ a))

@@ -12,7 +12,7 @@ returns-in-Some-clause-came g c =
     let value = rw z at e.value in
     let private = rw z at e.private in
     let come = asked S _ start _ _ _ (record { sort = c.args.array.sort; id = c.args.array.id }) (At c.args.index) (answered.Value c.in-Some.value) c.args.at k sc d _ e.held value private a in
-    rw (c.hand.ensures.gives, c.hand.ensures.store) come
+    rw (c.hand.ensures.gives, c.hand.ensures.stays.3) come
 
 pub returns-in-None-clause-came : goal.returns-in-None-clause-came
 returns-in-None-clause-came g c =

@@ -14,4 +14,4 @@ returns-clause-came g c = λ S start k sc at right a.
     let more : 1 < c.args.self.now.left = omega (arith, c.if-self-lt2.false) in
     let deep : c.args.depth < 999 = omega (arith, c.if-depth.false) in
     let come = enters_writer S _ start _ _ _ _ k sc c.args.depth c.args.self.now.left (me_of (Some c.args.target.object)) v c.args.target.method.now _ _ at _ r right more deep q.came a in
-    rw q.left (comes S _ start _ _ k sc c.args.depth _ _ _ (sym (settled_exit v (outcome w.result w.new.self.value w.new.self.leave) q.settled)) come)
+    rw q.stays.2 (comes S _ start _ _ k sc c.args.depth _ _ _ (sym (settled_exit v (outcome w.result w.new.self.value w.new.self.leave) q.settled)) come)

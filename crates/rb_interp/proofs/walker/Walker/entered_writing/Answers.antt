@@ -13,5 +13,5 @@ returns-clause-came g c = λ v S start k sc at right a.
     let z : to_z w64 (of_z w64 n) ≡ n = search rules in
     let more : 1 < c.args.self.now.left = omega (arith, c.if-self-lt2.false) in
     let deep : c.args.depth < 999 = omega (arith, c.if-depth.false) in
-    rw (o.gives, o.left, o.store, q.left)
+    rw (o.gives, o.stays.2, o.stays.3, q.stays.2)
     (enters_writer S _ start _ _ _ _ k sc c.args.depth c.args.self.now.left (me_of (Some c.args.target.object)) (Int n) c.args.target.method.now _ _ at _ r right more deep (rw z at q.came) (rw c.in-Int.is at a))

@@ -10,7 +10,7 @@ pub returns-then-not-is_left-clause-came : goal.returns-then-not-is_left-clause-
 returns-then-not-is_left-clause-came g c = λ block S start k sc d kept a.
     let v = value_of c.args.came c.args.self.now.value in
     let t = c.take-value.ensures in
-    let f = rw (t.context, t.left, t.store, t.value) at c.unlock.ensures.came in
+    let f = rw (t.stays.1, t.stays.2, t.stays.3, t.value) at c.unlock.ensures.came in
     let e = gave c.args.came c.args.self.now.value c.args.self.now.leave (sym c.is_left.ensures ∙ c.if-not-is_left.true) in
     value_back S _ start _ _ _ _ (thing_of c.args.mutex) c.args.at block k sc d _ kept v _ f (rw e at a)
 
@@ -42,4 +42,4 @@ returns-else-is_left-clause-came g c = λ block S start k sc d kept a.
     let is = c.replace-value.ensures.value in
     let f = rw is at y.ensures.came in
     let t = c.take.ensures in
-    rw (t.store, t.value) (return_back S _ start _ _ _ _ (thing_of c.args.mutex) c.args.at block k sc d _ kept v y.result y.new.self.value y.new.self.leave (sym c.is_left-in-Return.ensures ∙ c.if-is_left.false) f (rw e at a))
+    rw (t.stays.3, t.value) (return_back S _ start _ _ _ _ (thing_of c.args.mutex) c.args.at block k sc d _ kept v y.result y.new.self.value y.new.self.leave (sym c.is_left-in-Return.ensures ∙ c.if-is_left.false) f (rw e at a))

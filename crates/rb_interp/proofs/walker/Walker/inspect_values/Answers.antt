@@ -25,9 +25,9 @@ values-preserved g c =
     let y = c.add_inspected-came.ensures in
     let given_on = sym c.is_left.ensures ∙ c.if-is_left.false in
     record {
-      base = y.base ∙ inv.base;
-      context = y.context ∙ inv.context;
-      less = omega (arith, y.less, inv.less);
+      base = y.stays.0 ∙ inv.base;
+      context = y.stays.1 ∙ inv.context;
+      less = omega (arith, y.stays.2, inv.less);
       fits = y.fits given_on;
       came = λ S start k sc p a.
           let all = map plain c.args.values.now in
@@ -58,7 +58,7 @@ returns-then-is_left-2-clause-came g c = λ S start k sc p a.
     let z = c.show_bytes-shown in
     let f = rw inv.context at z.ensures.came in
     let come = f S start _ (value_of_p S all) c.args.at k sc c.args.depth b in
-    rw (z.ensures.left, z.ensures.private) (passes S _ start _ z.result z.new.self.value z.new.self.leave _ (value_of_p S all) k sc c.args.depth _ (sym c.is_left-2.ensures ∙ c.if-is_left-2.true) come)
+    rw (z.ensures.stays.2, z.ensures.private) (passes S _ start _ z.result z.new.self.value z.new.self.leave _ (value_of_p S all) k sc c.args.depth _ (sym c.is_left-2.ensures ∙ c.if-is_left-2.true) come)
 
 pub returns-clause-came : goal.returns-clause-came
 returns-clause-came g c = λ S start k sc p a.
@@ -71,5 +71,5 @@ returns-clause-came g c = λ S start k sc p a.
     let f = rw inv.context at z.ensures.came in
     let come = f S start _ (value_of_p S all) c.args.at k sc c.args.depth b in
     let gave = given z.result z.new.self.value z.new.self.leave (sym c.is_left-2.ensures ∙ c.if-is_left-2.false) come in
-    let v = rw (z.ensures.context, inv.context) at c.value_of_p.ensures.came in
-    rw c.value_of_p.ensures.left (v (value_of z.result z.new.self.value) c.args.depth S start k sc p (rw (z.ensures.left, z.ensures.private) gave))
+    let v = rw (z.ensures.stays.1, inv.context) at c.value_of_p.ensures.came in
+    rw c.value_of_p.ensures.stays.2 (v (value_of z.result z.new.self.value) c.args.depth S start k sc p (rw (z.ensures.stays.2, z.ensures.private) gave))

@@ -34,6 +34,6 @@ returns-clause-some g c = λ walk block S start k sc d a.
     let there = asks_element (sym (c.is_above.ensures none) ∙ c.if-not-is_above.false) (given y.result y.new.self.value y.new.self.leave none come) in
     let behind = WithElement t c.args.next walk block c.args.at in
     let place : to_z w64 c.args.next ≡ pos c.args.next = to_z_pos w64 c.args.next (omega (arith, c.ranges.next.fits)) in
-    let f = rw (place, y.ensures.context, y.ensures.left) at c.element.ensures.came in
+    let f = rw (place, y.ensures.stays.1, y.ensures.stays.2) at c.element.ensures.came in
     let found = f S start (Then behind ∷ k) sc d there in
     (λ e. passes S _ start _ c.element.result c.element.new.self.value c.element.new.self.leave _ behind k sc d _ e found, λ e. found)

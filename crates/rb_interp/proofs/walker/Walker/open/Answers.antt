@@ -21,7 +21,7 @@ returns-in-Err-give_copy-clause-opens g c = λ S start k sc d a.
     let y = c.end_text in
     let o = y.ensures in
     let ends = read_ends c.args.at k sc d _ S _ start _ _ (thing_of c.args.thing) (said c.in-Ok.reply) c.args.draft.now c.in-Err-give_copy.fault (λ e. c.in-Err-give_copy.ensures.too_long (ap Err e)) b in
-    rw (o.gives, o.store) (left_only (is_left y.result) (end_left y.result y.new.self.value y.new.self.leave _ c.args.at o.gives) ends)
+    rw (o.gives, o.stays.3) (left_only (is_left y.result) (end_left y.result y.new.self.value y.new.self.leave _ c.args.at o.gives) ends)
 
 pub returns-in-Err-give_copy-clause-work : goal.returns-in-Err-give_copy-clause-work
 returns-in-Err-give_copy-clause-work g c = λ q.

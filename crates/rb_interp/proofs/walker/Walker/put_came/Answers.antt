@@ -31,4 +31,4 @@ returns-clause-came g c =
     let z : to_z w64 (of_z w64 c.args.index) ≡ c.args.index = search rules in
     let y = c.put_immediate.ensures in
     let t = c.take-value.ensures in
-    rw (z, t.context, t.left, t.store, t.value, y.log, y.kept c.if-put_immediate.false) at c.put_own.ensures.came
+    rw (z, t.stays.1, t.stays.2, t.stays.3, t.value, y.log, y.kept c.if-put_immediate.false) at c.put_own.ensures.came

@@ -24,4 +24,4 @@ returns-clause-came g c =
     let f = rw (z, c.in-Ok.ensures.value) at y.ensures.came in
     let come = f S start (Then (Instead v) ∷ k) sc depth a in
     let g1 = given y.result y.new.self.value y.new.self.leave (sym c.is_left.ensures ∙ c.if-is_left.false) come in
-    rw (c.hand.ensures.gives, c.hand.ensures.store) (on _ g1 refl)
+    rw (c.hand.ensures.gives, c.hand.ensures.stays.3) (on _ g1 refl)

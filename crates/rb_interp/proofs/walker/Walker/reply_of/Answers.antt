@@ -10,4 +10,4 @@ returns-in-Done-clause-replies g c =
 pub returns-in-Full-clause-ends : goal.returns-in-Full-clause-ends
 returns-in-Full-clause-ends g c =
     let o = c.end.ensures in
-    rw (o.gives, o.store) (act_filled _ _ _ _ _ _ (reference c.args.thing) (doing c.args.act) c.in-Full.used c.in-Full.asked c.requires.shared c.in-Full.ensures)
+    rw (o.gives, o.stays.3) (act_filled _ _ _ _ _ _ (reference c.args.thing) (doing c.args.act) c.in-Full.used c.in-Full.asked c.requires.shared c.in-Full.ensures)

@@ -14,7 +14,7 @@ returns-clause-came g c = λ S start k names size st e m f len a.
     let given = rw (sym e) at (o.gives (text_of S c.args.name) m) in
     let more : 0 < c.args.self.now.left = omega (arith, c.if-self-lt2.false) in
     let deep : c.args.depth < 1000 = omega (arith, c.if-depth-ge-MAX_DEPTH.false) in
-    rw (o.left, o.store)
+    rw (o.stays.2, o.stays.3)
     (calls_held S _ start _ _ k _ names size c.args.depth c.args.self.now.left c.args.room.now c.args.name c.args.receiver.now c.args.at (plain c.in_ok-held.held.now) _
     (c.in_ok-held.ensures.alone S st) f len more deep c.in_ok-held.ensures.held given a)
 

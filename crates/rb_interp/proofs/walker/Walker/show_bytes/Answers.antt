@@ -19,4 +19,4 @@ returns-in-SinkFailed-clause-came g c = λ S start h after at k sc d a.
     let n : (c.args.bytes.len ≡ 0 → ⊥) = not_zero c.args.bytes.len (sym f) in
     let some : 0 < length c.args.bytes.items = omega (arith, n, ok) in
     let o = c.over-in-SinkFailed.ensures in
-    rw (o.gives, o.store) (refused_print S _ start h _ _ c.args.bytes.items c.in-Ok.text after at (Then after ∷ k) k sc d _ c.in-Ok.ensures some c.requires.fits c.in-SinkFailed.ensures.answers.1 a)
+    rw (o.gives, o.stays.3) (refused_print S _ start h _ _ c.args.bytes.items c.in-Ok.text after at (Then after ∷ k) k sc d _ c.in-Ok.ensures some c.requires.fits c.in-SinkFailed.ensures.answers.1 a)

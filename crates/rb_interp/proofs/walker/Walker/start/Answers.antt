@@ -24,7 +24,7 @@ returns-in-Ok-taken-clause-came g c = λ S start k names d e h len a.
     let t = c.in-Ok-taken.ensures in
     let come = reply_came S _ start _ _ (said c.in-Ok-started.reply) c.args.at k sc d _ r.0 (r.1 S start _ begun (ap (Begin c.args.body) (sym values)) refl) in
     let gives : Gave (plain c.in-Ok-taken.value) ≡ outcome_by (said c.in-Ok-started.reply) c.args.at = t.gives in
-    rw (c.hand.ensures.gives, c.hand.ensures.store, t.store) (subst (λ o. Came S c.args.self.now.context.steps start (g.O.ThreadStore.log c.started.new.self.store) (g.O.ThreadStore.private c.started.new.self.store) o k sc d c.args.self.now.left) (sym gives) come)
+    rw (c.hand.ensures.gives, c.hand.ensures.stays.3, t.stays.3) (subst (λ o. Came S c.args.self.now.context.steps start (g.O.ThreadStore.log c.started.new.self.store) (g.O.ThreadStore.private c.started.new.self.store) o k sc d c.args.self.now.left) (sym gives) come)
 
 pub returns-in-Err-taken-clause-came : goal.returns-in-Err-taken-clause-came
 returns-in-Err-taken-clause-came g c = λ S start k names d e h len a.
@@ -39,7 +39,7 @@ returns-in-Err-taken-clause-came g c = λ S start k names d e h len a.
     let t = c.in-Err-taken.ensures in
     let come = reply_came S _ start _ _ (said c.in-Ok-started.reply) c.args.at k sc d _ r.0 (r.1 S start _ begun (ap (Begin c.args.body) (sym values)) refl) in
     let gives : outcome c.in-Err-taken.came c.taken.new.self.value c.taken.new.self.leave ≡ outcome_by (said c.in-Ok-started.reply) c.args.at = t.gives in
-    rw (gives, t.store) come
+    rw (gives, t.stays.3) come
 
 pub returns-in-Err-clause-came : goal.returns-in-Err-clause-came
 returns-in-Err-clause-came g c = λ S start k names d e h len a.

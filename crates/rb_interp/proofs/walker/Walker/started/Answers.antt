@@ -7,4 +7,4 @@ returns-in-Done-clause-replies g c = start_replied _ _ _ _ _ _ c.args.body c.arg
 pub returns-in-Full-clause-ends : goal.returns-in-Full-clause-ends
 returns-in-Full-clause-ends g c =
     let o = c.end.ensures in
-    rw (o.gives, o.store) (start_full _ _ _ _ _ _ c.args.body c.args.values.items c.in-Full.used c.in-Full.asked c.in-Full.ensures)
+    rw (o.gives, o.stays.3) (start_full _ _ _ _ _ _ c.args.body c.args.values.items c.in-Full.used c.in-Full.asked c.in-Full.ensures)

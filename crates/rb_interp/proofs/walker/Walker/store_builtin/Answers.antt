@@ -9,7 +9,7 @@ use Rattle.rb_interp.proofs.walker.Walker.store_builtin.Goals as goal
 
 pub returns-in_default-last_of-clause-came : goal.returns-in_default-last_of-clause-came
 returns-in_default-last_of-clause-came g c = λ name e S start k sc p a.
-    rw (c.over.ensures.gives, c.over.ensures.store, c.over.ensures.left) (_, a, left_answered S _ c.args.at _ sc _ _)
+    rw (c.over.ensures.gives, c.over.ensures.stays.3, c.over.ensures.stays.2) (_, a, left_answered S _ c.args.at _ sc _ _)
 
 pub returns-then-is_left-clause-came : goal.returns-then-is_left-clause-came
 returns-then-is_left-clause-came g c = λ name e S start k sc p a.
@@ -24,7 +24,7 @@ returns-clause-came g c = λ name e S start k sc p a.
     let step = Instead (last_value S (map plain c.args.args.now)) in
     let come = y.ensures.came name e S start (Then step ∷ k) sc p a in
     let g1 = given y.result y.new.self.value y.new.self.leave (sym c.is_left.ensures ∙ c.if-is_left.false) come in
-    rw (c.give.ensures.gives, c.give.ensures.store, c.give.ensures.left, c.in-Ok.ensures S) (on _ g1 refl)
+    rw (c.give.ensures.gives, c.give.ensures.stays.3, c.give.ensures.stays.2, c.in-Ok.ensures S) (on _ g1 refl)
 
 pub returns-in-Some-clause-came : goal.returns-in-Some-clause-came
 returns-in-Some-clause-came g c =
@@ -34,4 +34,4 @@ returns-in-Some-clause-came g c =
     let q = c.in-Some.ensures in
     let b = rw q.args at a in
     let asked = rw (q.asked c.args.self.now.context.program.now name e) at b in
-    rw c.put.ensures.left (puts c.args.depth S start k sc p asked)
+    rw c.put.ensures.stays.2 (puts c.args.depth S start k sc p asked)

@@ -9,4 +9,4 @@ pub returns-in-Ok-clause-came : goal.returns-in-Ok-clause-came
 returns-in-Ok-clause-came g c = λ S start k sc d a.
     let y = c.in-Ok.ensures in
     let step = Instead (plain c.args.value) in
-    rw (c.give.ensures.gives, c.give.ensures.store) (on _ (y.came S start (Then step ∷ k) sc d a) refl)
+    rw (c.give.ensures.gives, c.give.ensures.stays.3) (on _ (y.came S start (Then step ∷ k) sc d a) refl)

@@ -17,7 +17,7 @@ returns-in-len1-clause-came g c = λ shown depth S start k sc p a.
     let v = plain c.value-item.result in
     let step = value_of_one S c.args.values.now c.value-item.result c.in-len1.len_at_least c.in-len1.len_below c.value-item.is in
     let b = same a (ap (λ (s : Step). On (Give shown) (Then s ∷ k) sc depth c.args.self.now.left) step) in
-    rw c.read_shared.ensures.store
+    rw c.read_shared.ensures.stays.3
     (or_memory S _ start _ _ k sc depth _ (Gave v) _ (On (Give shown) (Then (Instead v) ∷ k) sc depth c.args.self.now.left) c.read_shared.ensures.gives b refl (on _ b refl))
 
 pub returns-in_default-clause-came : goal.returns-in_default-clause-came

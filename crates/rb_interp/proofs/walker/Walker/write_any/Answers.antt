@@ -20,8 +20,5 @@ returns-in_default g c =
     let e : value_of c.args.came c.take.new.self.value ≡ value_of c.args.came c.args.self.now.value = value_kept c.args.came c.take.new.self.value c.args.self.now.value c.requires.came c.in_default.not-Other in
     record {
       written = rw (gave c.args.came c.take.new.self.value c.take.new.self.leave c.requires.came, e) (wrote c.take.result t.value refl);
-      base = t.base;
-      left = t.left;
-      context = t.context;
-      store = t.store;
+      stays = t.stays;
     }

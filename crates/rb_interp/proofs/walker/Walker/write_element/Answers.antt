@@ -21,7 +21,7 @@ returns-then-is_left-clause-came g c = λ S start k sc p a.
     let y = c.call_any-done in
     let same_value : plain c.in-Ok.copy ≡ v = c.in-Ok.ensures.value ∙ t.value in
     let args = ap (map plain) c.as_slice.ensures ∙ ap (λ (w : Val). plain c.args.index ∷ w ∷ []) same_value in
-    let f = rw (t.context, t.left, t.store) at y.ensures.came in
+    let f = rw (t.stays.1, t.stays.2, t.stays.3) at y.ensures.came in
     let come = f (codes "[]=") refl S start (Then (Instead v) ∷ k) sc p (same a (writes_so S _ _ (plain c.args.receiver.now) (plain c.args.index) v c.args.at (Then (Instead v) ∷ k) sc _ _ p args)) in
     passes S _ start _ y.result y.new.self.value y.new.self.leave _ (Instead v) k sc _ _ (sym c.is_left.ensures ∙ c.if-is_left.true) come
 
@@ -32,7 +32,7 @@ returns-clause-came g c = λ S start k sc p a.
     let y = c.call_any-done in
     let same_value : plain c.in-Ok.copy ≡ v = c.in-Ok.ensures.value ∙ t.value in
     let args = ap (map plain) c.as_slice.ensures ∙ ap (λ (w : Val). plain c.args.index ∷ w ∷ []) same_value in
-    let f = rw (t.context, t.left, t.store) at y.ensures.came in
+    let f = rw (t.stays.1, t.stays.2, t.stays.3) at y.ensures.came in
     let come = f (codes "[]=") refl S start (Then (Instead v) ∷ k) sc p (same a (writes_so S _ _ (plain c.args.receiver.now) (plain c.args.index) v c.args.at (Then (Instead v) ∷ k) sc _ _ p args)) in
     let g1 = given y.result y.new.self.value y.new.self.leave (sym c.is_left.ensures ∙ c.if-is_left.false) come in
-    rw (c.give.ensures.gives, c.give.ensures.store, c.give.ensures.left, t.value) (on _ g1 refl)
+    rw (c.give.ensures.gives, c.give.ensures.stays.3, c.give.ensures.stays.2, t.value) (on _ g1 refl)

@@ -5,7 +5,7 @@ use Rattle.rb_interp.proofs.walker.Walker.write_field.Goals as goal
 
 pub returns-in_default-clause-came : goal.returns-in_default-clause-came
 returns-in_default-clause-came g c = λ S start k sc d a.
-    rw (c.raise.ensures.gives, c.raise.ensures.store) (rw c.in_default.is at a)
+    rw (c.raise.ensures.gives, c.raise.ensures.stays.3) (rw c.in_default.is at a)
 
 pub returns-in-Int-clause-came : goal.returns-in-Int-clause-came
 returns-in-Int-clause-came g c = λ S start k sc d a.
