@@ -71,7 +71,6 @@ still_apart : (b : Block) → IsStill b → IsOfTree b → ⊥
 still_apart b (inl p) t = subst IsOfTree p.2 t
 still_apart b (inr p) t = subst IsOfTree p.2 t
 
-
 -- None, or one that has the words which are charged
 abbrev Told : List Block → ℕ → Type 0
 Told bs words = ((bs ≡ []) × (words ≡ 0)) ⊎ ((b : Block) × (bs ≡ b ∷ []) × IsStill b × (words ≡ size_of b))

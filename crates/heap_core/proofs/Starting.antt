@@ -345,7 +345,6 @@ module _ (plan : Plan) (s : State Slot Holder) (r : Kept plan s) (id : ℕ) (k :
       in_own : (i : ℕ) (c : Block) → Has (block ∷ []) c → Inside i c → InOwn i k
       in_own i c q inside = (own, has_own, subst (Inside i) (only c q) inside)
 
-
       pub start_kept : Kept plan (whole (set s.words turn_word 0) homes' (set s.views id k'))
       start_kept =
           let words_held : held k ≡ 8 = let words = ap words_in laid.0 in let ahead = laid.1 in omega (arith, words, ahead) in

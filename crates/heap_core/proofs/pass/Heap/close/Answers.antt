@@ -35,7 +35,7 @@ pub unreachable-requires : goal.unreachable-requires
 unreachable-requires g c =
     let is = ap (λ m. m.0) c.split_seat.ensures.2 ∙ (ap (λ m. maker m.0) c.show.ensures.shows.1 ∙ ap (λ (k : Holder). maker (showing k c.show.ensures.shows.0)) (sym (ap holder_of c.into_seat-seat.ensures.2))) in
     let z = closes_with _ _ _ _ _ (holder_of c.args.pass.badge.views) c.take.result c.show.ensures.shows.0 _ is c.close_with-closed.ensures.values.2 c.take.ensures.value c.args.pass.rests.1.live c.requires.main c.requires.ended c.requires.gathered
-        (c.args.pass.rests.1.size ∙ ap (λ t. t.words) c.requires.of) in
+    (c.args.pass.rests.1.size ∙ ap (λ t. t.words) c.requires.of) in
     none_some z.0 (sym c.in_default.is ∙ z.1)
 
 -- a place that was emptied is empty
@@ -60,7 +60,7 @@ closed : (g : Over) (c : goal.After-into_out g) → SinkClosed (Overflows c.args
 closed g c =
     let is = ap (λ m. m.0) c.split_seat.ensures.2 ∙ (ap (λ m. maker m.0) c.show.ensures.shows.1 ∙ ap (λ (k : Holder). maker (showing k c.show.ensures.shows.0)) (sym (ap holder_of c.into_seat-seat.ensures.2))) in
     let z = closes_with _ _ _ _ _ (holder_of c.args.pass.badge.views) c.take.result c.show.ensures.shows.0 _ is c.close_with-closed.ensures.values.2 c.take.ensures.value c.args.pass.rests.1.live c.requires.main c.requires.ended c.requires.gathered
-        (c.args.pass.rests.1.size ∙ ap (λ t. t.words) c.requires.of) in
+    (c.args.pass.rests.1.size ∙ ap (λ t. t.words) c.requires.of) in
     subst (SinkClosed (Overflows c.args.self.table.shared.table_id.words) c.args.self.table.shared.key.begun c.in-Some.turn.sink) (sym (history_is g c))
     (subst (λ (h : Handed). SinkClosed (Overflows c.args.self.table.shared.table_id.words) c.args.self.table.shared.key.begun h.sink c.show.ensures.shows.0) (some_is z.0 c.in-Some.turn (sym z.1 ∙ c.in-Some.is)) z.2)
 
