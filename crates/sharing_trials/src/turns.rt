@@ -6,9 +6,8 @@ ghost use Rattle.rb_shared.specs.Asking.{MayAsk};
 ghost use Rattle.rb_shared.specs.Threads.{AllGathered};
 ghost use Rattle.rb_shared.specs.View.{first_view, known_logs, to_globals};
 ghost use Rattle.turn_store.specs.Calls.{started_in};
-ghost use Rattle.turn_store.specs.Trial.{IsAsBefore, IsPlain, IsReady, Leaves};
+ghost use Rattle.sharing_trials.specs.Turns.{IsAsBefore, IsPlain, IsReady, Leaves};
 
-use crate::TurnStore;
 use rb_edge::MemorySink;
 use rb_model::{Act, Call, End, Id, Moved, Ref, Reply, SharedText, Sort, Value};
 use rb_shared::{Answer, ClosingStore, Quick, SharedStore};
@@ -17,6 +16,7 @@ use std::alloc::{AllocError, Global};
 use std::sync::Wait;
 use std::test::Fail;
 use std::thread::{Threads, join, yield_now};
+use turn_store::TurnStore;
 
 /// How far the threads count.
 const LAST: i64 = 20;
