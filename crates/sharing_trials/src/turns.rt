@@ -213,21 +213,32 @@ fn count_in_turns<S: SharedStore, R: Threads + Wait + Sync>(
     Some((counted, mine))
 }
 
-/// What two threads counted to, and how many letters they printed.
+/// What two threads counted to, and how many of the letters that this call prints.
+fn counted<R: Threads + Wait + Sync>(
+    rt: &R,
+    alloc: Global,
+    letter: &Call,
+) -> Result<(i64, usize), AllocError>
+    requires { IsPlain letter.now }
+{
+    let out = MemorySink::new(alloc, Vec::new(alloc), 100)?;
+    let Ok((store, pass)) = TurnStore::new(alloc, out, 2) else {
+        return Err(AllocError);
+    };
+    let Some((counted, pass)) = count_in_turns(rt, alloc, &store, pass, letter) else {
+        return Err(AllocError);
+    };
+    let closed = store.close(pass);
+    Ok((counted, closed.out.bytes().len()))
+}
+
+/// The same of the letter a.
 fn two_threads<R: Threads + Wait + Sync>(
     rt: &R,
     alloc: Global,
 ) -> Result<(i64, usize), AllocError> {
     let letter = Call::Print(SharedText::from_slice(alloc, b"a")?);
-    let out = MemorySink::new(alloc, Vec::new(alloc), 100)?;
-    let Ok((store, pass)) = TurnStore::new(alloc, out, 2) else {
-        return Err(AllocError);
-    };
-    let Some((counted, pass)) = count_in_turns(rt, alloc, &store, pass, &letter) else {
-        return Err(AllocError);
-    };
-    let closed = store.close(pass);
-    Ok((counted, closed.out.bytes().len()))
+    counted(rt, alloc, &letter)
 }
 
 #[test]
