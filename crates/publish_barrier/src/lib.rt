@@ -9,8 +9,6 @@ mod laws;
 mod moving;
 mod placing;
 mod sorts;
-#[cfg(test)]
-mod tests;
 
 pub use addressing::{addressed, addressed_act, addressed_all};
 pub use gathering::{gather, gather_act, gather_value};

@@ -38,29 +38,60 @@ fn does(heap: &mut Heap, id: Id, act: Act) -> Result<bool, AllocError> {
     }
 }
 
-/// Whether an object gives a field a value, and the value back.
-fn has_field(heap: &mut Heap, id: Id, name: u32, value: &Value) -> Result<bool, AllocError> {
-    let set = does(heap, id, Act::SetField(NameId(name), value.share()?))?;
-    let read = does(heap, id, Act::GetField(NameId(name)))?;
-    Ok(set && read)
+/// What is asked of a thing.
+#[derive(Clone, Copy)]
+enum Asked {
+    SetField,
+    GetField,
+    Push,
+    Unshift,
+    Put,
+    Last,
+    CopyAll,
+    PutPair,
+    GetPair,
 }
 
-/// Whether a list takes a value in at the back, at the front and behind nil, and gives it back.
-fn has_element(heap: &mut Heap, id: Id, place: i64, value: &Value) -> Result<bool, AllocError> {
-    let last = does(heap, id, Act::Push(value.share()?))?;
-    let first = does(heap, id, Act::Unshift(value.share()?))?;
-    let filled = does(heap, id, Act::Put(place, value.share()?))?;
-    let read = does(heap, id, Act::At(-1))? && heap.element(id, 0)?.is_some();
-    let copied = does(heap, id, Act::Copy)?;
-    Ok(last && first && filled && read && copied)
+use Asked::{CopyAll, GetField, GetPair, Last, Push, Put, PutPair, SetField, Unshift};
+
+/// A field takes a value in, and gives it back.
+const OF_OBJECT: [Asked; 2] = [SetField, GetField];
+
+/// A list takes a value in at the back, at the front and behind nil, and gives it back.
+const OF_LIST: [Asked; 5] = [Push, Unshift, Put, Last, CopyAll];
+
+/// A hash takes a value in under itself, and gives it back.
+const OF_HASH: [Asked; 3] = [PutPair, GetPair, CopyAll];
+
+/// What is asked with a value, of the field of a name or the element at five times its number.
+fn act_of(asked: Asked, name: u32, value: &Value) -> Result<Act, AllocError> {
+    Ok(match asked {
+        SetField => Act::SetField(NameId(name), value.share()?),
+        GetField => Act::GetField(NameId(name)),
+        Push => Act::Push(value.share()?),
+        Unshift => Act::Unshift(value.share()?),
+        Put => Act::Put(5 * i64::from(name), value.share()?),
+        Last => Act::At(-1),
+        CopyAll => Act::Copy,
+        PutPair => Act::KPut(value.share()?, value.share()?),
+        GetPair => Act::KGet(value.share()?),
+    })
 }
 
-/// Whether a hash takes a value in under itself, and gives it back.
-fn has_pair(heap: &mut Heap, id: Id, value: &Value) -> Result<bool, AllocError> {
-    let put = does(heap, id, Act::KPut(value.share()?, value.share()?))?;
-    let read = does(heap, id, Act::KGet(value.share()?))?;
-    let copied = does(heap, id, Act::Copy)?;
-    Ok(put && read && copied)
+/// Whether a thing does all that is asked.
+fn does_all(
+    heap: &mut Heap,
+    id: Id,
+    asked: &[Asked],
+    name: u32,
+    value: &Value,
+) -> Result<bool, AllocError> {
+    for one in asked {
+        if !does(heap, id, act_of(*one, name, value)?)? {
+            return Ok(false);
+        }
+    }
+    Ok(true)
 }
 
 /// Values that come into one field, one list and one hash in turn, each with a name of its own: the field is widened, and then holds texts and integers of 64 bits.
@@ -72,14 +103,22 @@ const COMING: [(u32, Immediate); 5] = [
     (5, Other),
 ];
 
-/// Whether an object, a list and a hash take them all in.
-fn take_all(heap: &mut Heap, alloc: Global, things: [Id; 3]) -> Result<bool, AllocError> {
+/// Whether an object, a list and a hash take a value in.
+fn take(heap: &mut Heap, things: [Id; 3], name: u32, value: &Value) -> Result<bool, AllocError> {
     let [object, list, hash] = things;
+    Ok(
+        does_all(heap, object, &OF_OBJECT, 0, value)?
+            && does_all(heap, object, &OF_OBJECT, name, value)?
+            && does_all(heap, list, &OF_LIST, name, value)?
+            && heap.element(list, 0)?.is_some()
+            && does_all(heap, hash, &OF_HASH, name, value)?,
+    )
+}
+
+/// Whether they take them all in.
+fn take_all(heap: &mut Heap, alloc: Global, things: [Id; 3]) -> Result<bool, AllocError> {
     for (name, told) in COMING {
-        let value = value_of(alloc, told)?;
-        let fields = has_field(heap, object, 0, &value)? && has_field(heap, object, name, &value)?;
-        let elements = has_element(heap, list, 5 * i64::from(name), &value)?;
-        if !fields || !elements || !has_pair(heap, hash, &value)? {
+        if !take(heap, things, name, &value_of(alloc, told)?)? {
             return Ok(false);
         }
     }
@@ -123,25 +162,25 @@ const PUTS: [(&[Immediate], Immediate, bool); 8] = [
     (&[], Int(1), false),
 ];
 
-/// Whether it is.
-fn is_put(
-    heap: &mut Heap,
-    alloc: Global,
-    elements: &[Immediate],
-    told: Immediate,
-) -> Result<bool, AllocError> {
+/// The elements that are told so.
+fn values_of(alloc: Global, told: &[Immediate]) -> Result<Vec<Value>, AllocError> {
     let mut values = Vec::new(alloc);
-    for element in elements {
+    for element in told {
         values.push(value_of(alloc, *element)?)?;
     }
-    let list = heap.make(Make::Elements(values))?;
-    Ok(heap.put_immediate(list.id, 0, told))
+    Ok(values)
+}
+
+/// A list of elements that are told so.
+fn list_of(heap: &mut Heap, alloc: Global, told: &[Immediate]) -> Result<Id, AllocError> {
+    Ok(heap.make(Make::Elements(values_of(alloc, told)?))?.id)
 }
 
 /// The number of the first put that does not come out as its row says.
 fn first_wrong_put(heap: &mut Heap, alloc: Global) -> Result<Option<usize>, AllocError> {
     for (at, (elements, told, done)) in PUTS.iter().enumerate() {
-        if is_put(heap, alloc, elements, *told)? != *done {
+        let list = list_of(heap, alloc, elements)?;
+        if heap.put_immediate(list, 0, *told) != *done {
             return Ok(Some(at));
         }
     }
@@ -150,10 +189,7 @@ fn first_wrong_put(heap: &mut Heap, alloc: Global) -> Result<Option<usize>, Allo
 
 /// What a list takes in behind its elements, and gives out at both ends.
 fn passed(heap: &mut Heap, alloc: Global) -> Result<(bool, [Immediate; 3]), AllocError> {
-    let mut values = Vec::new(alloc);
-    values.push(Value::Int(1))?;
-    values.push(value_of(alloc, Other)?)?;
-    let id = heap.make(Make::Elements(values))?.id;
+    let id = list_of(heap, alloc, &[Int(1), Other])?;
     let pushed = heap.push_immediate(id, True)? && !heap.push_immediate(id, Other)?;
     let first = heap.take_immediate(id, Side::First);
     let last = heap.take_immediate(id, Side::Last);
@@ -164,7 +200,8 @@ fn passed(heap: &mut Heap, alloc: Global) -> Result<(bool, [Immediate; 3]), Allo
 /// Whether an integer is added to a field that holds integers alone, and none to one that was widened.
 fn gains(heap: &mut Heap) -> Result<bool, AllocError> {
     let id = make_with(heap, 8, NameId(1), -5)?.id;
-    let set = has_field(heap, id, 2, &Value::Nil)? && has_field(heap, id, 2, &Value::Int(1))?;
+    let set = does_all(heap, id, &OF_OBJECT, 2, &Value::Nil)?
+        && does_all(heap, id, &OF_OBJECT, 2, &Value::Int(1))?;
     let sum = heap.add_to_field(id, NameId(1), 8);
     let none = heap.add_to_field(id, NameId(2), 8);
     Ok(set && sum == Some(3) && none.is_none())

@@ -5,23 +5,36 @@ use rb_model::{SharedText, Value};
 use std::alloc::Global;
 use std::test::Fail;
 
-/// Pairs of so many keys, from 1 on.
-fn filled(alloc: Global, count: i64) -> Result<OrderedPairs, PutFault> {
-    let mut pairs = OrderedPairs::new(alloc)?;
+/// Puts so many keys in, from 1 on.
+fn fill(pairs: &mut OrderedPairs, count: i64) -> Result<(), PutFault> {
     for key in 1..=count {
         pairs.put(Value::Int(key), Value::Nil)?;
     }
-    Ok(pairs)
+    Ok(())
+}
+
+/// A text.
+fn word(alloc: Global) -> Result<Value, PutFault> {
+    Ok(Value::Str(SharedText::from_slice(alloc, b"word")?))
+}
+
+/// Puts a text in under itself.
+fn put_text(pairs: &mut OrderedPairs, text: Value) -> Result<(), PutFault> {
+    pairs.put(text.share()?, text)?;
+    Ok(())
 }
 
 /// Whether a text is given back by a text with the same bytes.
+fn has_text(pairs: &OrderedPairs, same: &Value) -> Result<bool, PutFault> {
+    Ok(matches!(pairs.get(same)?, Value::Str(_)))
+}
+
+/// Whether a text is put in behind two keys, given back by its bytes, and copied with them.
 fn gives_text(alloc: Global) -> Result<bool, PutFault> {
-    let mut pairs = filled(alloc, 2)?;
-    let word = Value::Str(SharedText::from_slice(alloc, b"word")?);
-    pairs.put(word.share()?, word)?;
-    let same = Value::Str(SharedText::from_slice(alloc, b"word")?);
-    let found = pairs.get(&same)?;
-    Ok(matches!(found, Value::Str(_)) && pairs.copy(alloc)?.len() == 3)
+    let mut pairs = OrderedPairs::new(alloc)?;
+    fill(&mut pairs, 2)?;
+    put_text(&mut pairs, word(alloc)?)?;
+    Ok(has_text(&pairs, &word(alloc)?)? && pairs.copy(alloc)?.len() == 3)
 }
 
 const MANY: u16 = 20_000;
@@ -31,7 +44,8 @@ const STEPS: [u16; 3] = [1, 19_999, 7_919];
 
 /// Whether so many pairs are gone behind it.
 fn are_taken_out(alloc: Global, step: u16) -> Result<bool, PutFault> {
-    let mut pairs = filled(alloc, i64::from(MANY))?;
+    let mut pairs = OrderedPairs::new(alloc)?;
+    fill(&mut pairs, i64::from(MANY))?;
     for at in 0..MANY {
         let key = i64::from(at) * i64::from(step) % i64::from(MANY) + 1;
         drop(pairs.delete(&Value::Int(key)));

@@ -13,7 +13,10 @@ use std::test::Fail;
 
 /// The shape behind an edge of a shape, where it may follow.
 fn step(tree: &mut Tree, shape: ShapeId, edge: Edge) -> Result<Option<ShapeId>, AllocError> {
-    if shape.0 >= tree.len() as u64 || !may_follow(tree, shape, edge) {
+    if shape.0 >= tree.len() as u64 {
+        return Ok(None);
+    }
+    if !may_follow(tree, shape, edge) {
         return Ok(None);
     }
     Ok(Some(tree.follow(shape, edge)?))

@@ -1,4 +1,3 @@
 pub mod Kept
 pub mod Fields
 pub mod Counted
-pub mod Trial

@@ -9,8 +9,6 @@ mod mutexes;
 mod objects;
 mod store;
 mod table;
-#[cfg(test)]
-mod tests;
 mod threads;
 
 // A crate can name a store in a contract only if the types of its fields are exported.

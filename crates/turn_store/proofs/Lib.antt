@@ -4,4 +4,3 @@ mod Closes
 mod Fitting
 mod Asks
 mod Tells
-mod Trials

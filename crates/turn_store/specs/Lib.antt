@@ -4,4 +4,3 @@ pub mod Slot
 pub mod Passes
 pub mod Calls
 pub mod Fronts
-pub mod Trial

@@ -8,8 +8,6 @@ mod rule;
 mod shared;
 mod slot;
 mod store;
-#[cfg(test)]
-mod tests;
 
 pub use close::TurnFront;
 pub use store::{TurnPass, TurnStore};

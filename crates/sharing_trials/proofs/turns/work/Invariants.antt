@@ -1,6 +1,6 @@
 use Rattle.std.proofs.Common.{◌≡◌}
-use Rattle.turn_store.specs.Trial.{IsAsBefore, IsReady}
-use Rattle.turn_store.proofs.tests.work.Given as goal
+use Rattle.sharing_trials.specs.Turns.{IsAsBefore, IsReady}
+use Rattle.sharing_trials.proofs.turns.work.Given as goal
 
 abbrev pub invariant-turns : goal.invariant-turns
 invariant-turns g l =

@@ -1,8 +1,8 @@
 use Rattle.std.proofs.Common.{refl}
 use Rattle.rb_model.specs.declared.call.Call.TheVariants.{End}
 use Rattle.rb_model.specs.declared.call.End.TheVariants.{Steps}
-use Rattle.turn_store.proofs.Trials.{end_may, sure_ends, starts_none, end_starts, as_on}
-use Rattle.turn_store.proofs.tests.work_and_end.Goals as goal
+use Rattle.sharing_trials.proofs.Asking.{end_may, sure_ends, starts_none, end_starts, as_on}
+use Rattle.sharing_trials.proofs.turns.work_and_end.Goals as goal
 
 pub ask-requires-clause-may : goal.ask-requires-clause-may
 ask-requires-clause-may g c κs within = end_may (g.S.SharedStore.view c.work-pass.result)

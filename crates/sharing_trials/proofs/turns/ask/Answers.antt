@@ -2,8 +2,8 @@ use Rattle.std.proofs.Common.{sym, ap, ◌∙◌, subst}
 use Rattle.rb_shared.specs.Answers.{AnswersIn}
 use Rattle.rb_shared.specs.Asking.{MayAsk}
 use Rattle.rb_shared.specs.View.{View}
-use Rattle.turn_store.proofs.Trials.{quick_leaves, quick_noted, noted_may, polled_may, answer_leaves, leaves_from, noted_as}
-use Rattle.turn_store.proofs.tests.ask.Goals as goal
+use Rattle.sharing_trials.proofs.Asking.{quick_leaves, quick_noted, noted_may, polled_may, answer_leaves, leaves_from, noted_as}
+use Rattle.sharing_trials.proofs.turns.ask.Goals as goal
 
 pub returns-in-Done-clause-leaves : goal.returns-in-Done-clause-leaves
 returns-in-Done-clause-leaves g c =

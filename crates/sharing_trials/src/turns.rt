@@ -6,9 +6,8 @@ ghost use Rattle.rb_shared.specs.Asking.{MayAsk};
 ghost use Rattle.rb_shared.specs.Threads.{AllGathered};
 ghost use Rattle.rb_shared.specs.View.{first_view, known_logs, to_globals};
 ghost use Rattle.turn_store.specs.Calls.{started_in};
-ghost use Rattle.turn_store.specs.Trial.{IsAsBefore, IsPlain, IsReady, Leaves};
+ghost use Rattle.sharing_trials.specs.Turns.{IsAsBefore, IsPlain, IsReady, Leaves};
 
-use crate::TurnStore;
 use rb_edge::MemorySink;
 use rb_model::{Act, Call, End, Id, Moved, Ref, Reply, SharedText, Sort, Value};
 use rb_shared::{Answer, ClosingStore, Quick, SharedStore};
@@ -17,6 +16,7 @@ use std::alloc::{AllocError, Global};
 use std::sync::Wait;
 use std::test::Fail;
 use std::thread::{Threads, join, yield_now};
+use turn_store::TurnStore;
 
 /// How far the threads count.
 const LAST: i64 = 20;
@@ -213,21 +213,32 @@ fn count_in_turns<S: SharedStore, R: Threads + Wait + Sync>(
     Some((counted, mine))
 }
 
-/// What two threads counted to, and how many letters they printed.
+/// What two threads counted to, and how many of the letters that this call prints.
+fn counted<R: Threads + Wait + Sync>(
+    rt: &R,
+    alloc: Global,
+    letter: &Call,
+) -> Result<(i64, usize), AllocError>
+    requires { IsPlain letter.now }
+{
+    let out = MemorySink::new(alloc, Vec::new(alloc), 100)?;
+    let Ok((store, pass)) = TurnStore::new(alloc, out, 2) else {
+        return Err(AllocError);
+    };
+    let Some((counted, pass)) = count_in_turns(rt, alloc, &store, pass, letter) else {
+        return Err(AllocError);
+    };
+    let closed = store.close(pass);
+    Ok((counted, closed.out.bytes().len()))
+}
+
+/// The same of the letter a.
 fn two_threads<R: Threads + Wait + Sync>(
     rt: &R,
     alloc: Global,
 ) -> Result<(i64, usize), AllocError> {
     let letter = Call::Print(SharedText::from_slice(alloc, b"a")?);
-    let out = MemorySink::new(alloc, Vec::new(alloc), 100)?;
-    let Ok((store, pass)) = TurnStore::new(alloc, out, 2) else {
-        return Err(AllocError);
-    };
-    let Some((counted, pass)) = count_in_turns(rt, alloc, &store, pass, &letter) else {
-        return Err(AllocError);
-    };
-    let closed = store.close(pass);
-    Ok((counted, closed.out.bytes().len()))
+    counted(rt, alloc, &letter)
 }
 
 #[test]

@@ -3,8 +3,8 @@ use Rattle.rb_model.specs.Doing.{pair, slot}
 use Rattle.rb_model.specs.Values.{plain}
 use Rattle.rb_model.specs.Moving.{items_of}
 use Rattle.rb_model.specs.Things.{Object, Elements, Pairs}
-use Rattle.thing_store.specs.Trial.{main_id}
-use Rattle.thing_store.proofs.tests.four_things.Goals as goal
+use Rattle.sharing_trials.specs.Things.{main_id}
+use Rattle.sharing_trials.proofs.things.four_things.Goals as goal
 
 pub returns : goal.returns
 returns c =

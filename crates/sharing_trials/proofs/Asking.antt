@@ -31,7 +31,7 @@ use Rattle.rb_shared.specs.Threads.{ThreadLog, HasEnded, AllGathered}
 use Rattle.rb_shared.specs.View.{View, polled_view, asking, ask_of, unasked, with_entry, with_refused, started_number, own_log, known_logs, first_view, split_view, newborn, joined_view, to_globals}
 use Rattle.rb_shared.proofs.Runs.{has_front}
 use Rattle.turn_store.specs.Calls.{started_in}
-use Rattle.turn_store.specs.Trial.{IsReady, IsPlain, Leaves, IsAsBefore, StillKnows}
+use Rattle.sharing_trials.specs.Turns.{IsReady, IsPlain, Leaves, IsAsBefore, StillKnows}
 use Rattle.shared_run.proofs.Events.{started_more}
 
 -- ---- what may be asked

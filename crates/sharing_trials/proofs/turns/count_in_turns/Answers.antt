@@ -2,9 +2,9 @@ use Rattle.std.proofs.Common.{rules, refl, sym, ◌∙◌}
 use Rattle.rb_model.specs.declared.call.Call.TheVariants.{Start, End}
 use Rattle.rb_model.specs.declared.call.End.TheVariants.{Steps}
 use Rattle.rb_model.specs.declared.value.Id.{Id}
-use Rattle.turn_store.specs.Trial.{IsReady}
-use Rattle.turn_store.proofs.Trials.{start_may, first_ready, started_ready, maker_ready, newborn_ready, joined_ready, end_may, sure_ends, starts_none, end_starts, as_on, turns_gather}
-use Rattle.turn_store.proofs.tests.count_in_turns.Goals as goal
+use Rattle.sharing_trials.specs.Turns.{IsReady}
+use Rattle.sharing_trials.proofs.Asking.{start_may, first_ready, started_ready, maker_ready, newborn_ready, joined_ready, end_may, sure_ends, starts_none, end_starts, as_on, turns_gather}
+use Rattle.sharing_trials.proofs.turns.count_in_turns.Goals as goal
 
 abbrev body : Id
 body = record { thread = 0; serial = 9223372036854775809 }

@@ -1,5 +1,5 @@
-use Rattle.turn_store.proofs.Trials.{plain_may, plain_goes, still_ready, starts_none, plain_starts}
-use Rattle.turn_store.proofs.tests.ask_plain.Goals as goal
+use Rattle.sharing_trials.proofs.Asking.{plain_may, plain_goes, still_ready, starts_none, plain_starts}
+use Rattle.sharing_trials.proofs.turns.ask_plain.Goals as goal
 
 pub ask-requires-clause-may : goal.ask-requires-clause-may
 ask-requires-clause-may g c κs within = plain_may (g.S.SharedStore.view c.args.pass.now) c.args.call.now c.requires.ready c.requires.plain
