@@ -219,6 +219,7 @@ module _ (m m' : Moment) where
     pub shape_frame : ShapeStands m shape at → ShapeStands m' shape at
     shape_frame s = record {
       narrow = s.narrow;
+      legal = s.legal;
       tag = shape_word at (omega arith) (omega arith) ∙ s.tag;
       leads = leads_on shape.class shape.path s.leads;
       count = shape_word (at + 4) (omega arith) (omega arith) ∙ s.count;

@@ -44,6 +44,7 @@ tree_is plan s r size long = record {
   few = λ number at nth. let le = r.few number at nth in let top = r.laid.used_in in omega (arith, le, top, long);
   deep = λ shape at h. let le = r.deep shape at h in let top = r.laid.used_in in omega (arith, le, top, long);
   narrow = λ shape at h. (r.each (ShapeAt shape at) h).narrow;
+  legal = λ shape at h. (r.each (ShapeAt shape at) h).legal;
 }
   where
     some_is : (a b : Shape) → Some a ≡ Some b → a ≡ b
@@ -71,6 +72,7 @@ tree_among size bs cs to back t = record {
   few = λ number at nth. t.few number at (nth_among cs bs back number at nth);
   deep = λ shape at h. t.deep shape at (back (ShapeAt shape at) h);
   narrow = λ shape at h. t.narrow shape at (back (ShapeAt shape at) h);
+  legal = λ shape at h. t.legal shape at (back (ShapeAt shape at) h);
 }
 
 -- ---- a word is looked at
@@ -294,6 +296,7 @@ module _ (plan : Plan) (s : State Slot Holder) (r : Kept plan s) (id : ℕ) (k :
   shape_stands : ShapeStands then g.shape g.to
   shape_stands = record {
     narrow = c.narrow;
+    legal = c.legal;
     tag = ap (λ x. get_or words' x 0) (let z : g.to ≡ g.to + 0 = omega arith in z) ∙ laid 0 (omega arith);
     leads = leads_new g.shape.class g.shape.path c.up (laid 1 (omega arith)) (laid 2 (omega arith)) (laid 3 (omega arith));
     count = laid 4 (omega arith);
@@ -319,6 +322,7 @@ module _ (plan : Plan) (s : State Slot Holder) (r : Kept plan s) (id : ℕ) (k :
       let rule = r.each (ShapeAt before g.home) here in
       let far : (i : ℕ) → i < 5 → get_or words' (g.home + i) 0 ≡ get_or s.words (g.home + i) 0 = λ i lt. other_word (g.home + i) (λ e. far_link i lt e within.2) in record {
         narrow = rule.narrow;
+        legal = rule.legal;
         tag = ap (λ x. get_or words' x 0) (let z : g.home ≡ g.home + 0 = omega arith in z) ∙ (far 0 (omega arith) ∙ (ap (λ x. get_or s.words x 0) (let z : g.home + 0 ≡ g.home = omega arith in z) ∙ rule.tag));
         leads = leads_again before.class before.path rule.leads (far 1 (omega arith)) (far 2 (omega arith)) (far 3 (omega arith));
         count = far 4 (omega arith) ∙ rule.count;

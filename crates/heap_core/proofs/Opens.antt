@@ -408,6 +408,7 @@ starts ws what p lines_are sink_is none_started fine some_slots some_words size 
         (no_lock tree_lock tree_lock)
         record {
           narrow = (omega arith, tt);
+          legal = tt;
           tag = o.root;
           leads = (o.rest 18 refl, o.rest 19 refl, o.rest 20 refl);
           count = o.rest 21 refl;
@@ -416,6 +417,7 @@ starts ws what p lines_are sink_is none_started fine some_slots some_words size 
         }
         record {
           narrow = (omega arith, (tt, tt));
+          legal = (refl, tt);
           tag = o.shared;
           leads = (subst (λ x. Has opening_blocks (ShapeAt (root_of globals_class) x)) (sym o.parent) (inr (inr (inr (inl refl)))), o.edge, o.rest 27 refl);
           count = o.rest 28 refl;

@@ -1,7 +1,7 @@
 -- What the steps on the words of a shape tell: those that look, and the one that makes a shape.
 use Rattle.std.specs.Prelude.{◌≡◌, ◌≢◌, ◌⊎◌, ℕ, zero, suc, ◌+◌, List, [], ◌∷◌, ◌++◌, Option, Some, None}
 use Rattle.rb_shared.specs.Lists.{Has}
-use Rattle.shape_core.specs.Path.{is_shared, places_of}
+use Rattle.shape_core.specs.Path.{IsPath, is_shared, places_of}
 use Rattle.shape_core.specs.Shape.{Shape}
 use Rattle.heap_core.specs.Places.{shape_words}
 use Rattle.heap_core.specs.Blocks.{Block, ShapeAt, LinkAt, IsOfTree}
@@ -68,6 +68,7 @@ pub record MayGrow (k : Holder) (before : Shape) (parent : ℕ) (g : Growth) : T
   pub missing : (at : ℕ) → Knows k (ShapeAt g.shape at) → ⊥
   pub up : LeadsUp k.blocks (parent_of g.shape) parent
   pub narrow : IsNarrow g.shape
+  pub legal : IsPath g.shape.path
   pub laid : k.own ≡ record { at = g.to; words = shape_block g.shape parent ++ g.left } ∷ []
 
 -- what comes, and the pass afterwards

@@ -1,6 +1,7 @@
 -- The rule of a link, and how links make a tree of all shapes: roots and the children of a shape stand in rows, each linked from the one before.
 use Rattle.std.specs.Prelude.{◌≡◌, ◌≢◌, ◌≤◌, ◌⊎◌, ℕ, zero, suc, ◌*◌, List, length, Some}
 use Rattle.rb_shared.specs.Lists.{Has}
+use Rattle.shape_core.specs.Path.{IsPath}
 use Rattle.shape_core.specs.Shape.{Shape, root_of}
 use Rattle.heap_core.specs.Places.{first_root, shape_words}
 use Rattle.heap_core.specs.Blocks.{Block, ShapeAt, LinkAt}
@@ -39,3 +40,5 @@ pub record IsTree (size : ℕ) (bs : List Block) : Type 0 where
   pub few : (number at : ℕ) → IsNth bs number at → shape_words * number ≤ size
   pub deep : (shape : Shape) (at : ℕ) → Has bs (ShapeAt shape at) → shape_words * length shape.path ≤ size
   pub narrow : (shape : Shape) (at : ℕ) → Has bs (ShapeAt shape at) → IsNarrow shape
+  -- and each edge of a path was allowed where it stands
+  pub legal : (shape : Shape) (at : ℕ) → Has bs (ShapeAt shape at) → IsPath shape.path

@@ -4,7 +4,7 @@ use Rattle.rb_shared.specs.Lists.{Has, Each}
 use Rattle.shape_core.specs.declared.edge.Edge.{Edge}
 use Rattle.shape_core.specs.declared.edge.Edge.TheVariants.{Add, Widen, Share}
 use Rattle.shape_core.specs.declared.edge.Kind.TheVariants.{IntLoc, AnyLoc}
-use Rattle.shape_core.specs.Path.{Path, places_of, is_shared}
+use Rattle.shape_core.specs.Path.{Path, IsPath, places_of, is_shared}
 use Rattle.shape_core.specs.Shape.{Shape}
 use Rattle.typed_location.specs.Word.{tagged}
 use Rattle.heap_core.specs.Blocks.{Block, ShapeAt, LinkAt}
@@ -61,6 +61,8 @@ parent_of shape = parent_on shape.class shape.path
 -- The rule of a shape.
 pub record ShapeStands (m : Moment) (shape : Shape) (at : ℕ) : Type 0 where
   pub narrow : IsNarrow shape
+  -- each edge was allowed where it stands
+  pub legal : IsPath shape.path
   pub tag : word m at ≡ flagged shape.class (is_shared shape.path)
   pub leads : Leads m shape.class shape.path at
   pub count : word m (at + 4) ≡ places_of shape.path

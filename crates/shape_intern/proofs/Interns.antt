@@ -4,7 +4,7 @@ use Rattle.rb_shared.specs.Lists.{Has}
 use Rattle.rb_shared.proofs.Runs.{has_behind}
 use Rattle.shape_core.specs.declared.edge.Edge.{Edge}
 use Rattle.shape_core.specs.declared.edge.Edge.TheVariants.{Add, Widen, Share}
-use Rattle.shape_core.specs.Path.{Path, is_shared, places_of}
+use Rattle.shape_core.specs.Path.{MayFollow, Path, is_shared, places_of}
 use Rattle.shape_core.specs.Shape.{Shape, child_of, root_of}
 use Rattle.heap_core.specs.Blocks.{ShapeAt}
 use Rattle.heap_core.specs.Growing.{Learns, shape_block}
@@ -82,13 +82,13 @@ places_few k shape at n t size kn fixed =
     omega (arith, is, few, deep, size)
 
 -- a child that is missing may be made
-pub child_wanted : (k : Holder) (shape : Shape) (edge : Edge) (at link : ℕ) (words : List ℕ) → KnowsTree k → Knows k (ShapeAt shape at) → IsNarrowEdge edge → IsMissing k.blocks (child_of shape edge) × Ends k.blocks (Some shape) link
+pub child_wanted : (k : Holder) (shape : Shape) (edge : Edge) (at link : ℕ) (words : List ℕ) → KnowsTree k → Knows k (ShapeAt shape at) → IsNarrowEdge edge → MayFollow shape.path edge → IsMissing k.blocks (child_of shape edge) × Ends k.blocks (Some shape) link
     → words ≡ shape_block (child_of shape edge) at → IsWanted k link words (child_of shape edge)
-child_wanted k shape edge at link words t kn narrow gone is = let n = t.narrow shape at kn in (at, gone.0, gone.1, (n.0, (narrow, n.1)), kn, is)
+child_wanted k shape edge at link words t kn narrow allowed gone is = let n = t.narrow shape at kn in (at, gone.0, gone.1, (n.0, (narrow, n.1)), kn, is, (allowed, t.legal shape at kn))
 
 -- and so may a root
 pub root_wanted : (k : Holder) (class link : ℕ) (words : List ℕ) → class < 2 ^ 32 → IsMissing k.blocks (root_of class) × Ends k.blocks None link → words ≡ shape_block (root_of class) 0 → IsWanted k link words (root_of class)
-root_wanted k class link words narrow gone is = (0, gone.0, gone.1, (narrow, tt), refl, is)
+root_wanted k class link words narrow gone is = (0, gone.0, gone.1, (narrow, tt), refl, is, tt)
 
 pub root_words : (class w : ℕ) → w ≡ class * 8 → w ∷ 0 ∷ 0 ∷ 0 ∷ 0 ∷ 0 ∷ 0 ∷ [] ≡ shape_block (root_of class) 0
 root_words class w is = ap (λ n. n ∷ 0 ∷ 0 ∷ 0 ∷ 0 ∷ 0 ∷ 0 ∷ []) (let z : w ≡ class * 8 + 0 = omega (arith, is) in z)

@@ -68,6 +68,7 @@ module _ (k : Holder) (link at : ℕ) (words : List ℕ) (room : HasRoom k at) w
             missing = w.1;
             up = w.4;
             narrow = w.3;
+            legal = w.6;
             laid = ap (λ ws. record { at = at; words = ws ++ drop (length words) room.0 } ∷ []) w.5;
           },
         ),

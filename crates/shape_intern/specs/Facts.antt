@@ -6,7 +6,7 @@ use Rattle.shape_core.specs.declared.edge.Edge.{Edge}
 use Rattle.shape_core.specs.declared.edge.Edge.TheVariants.{Add, Widen, Share}
 use Rattle.shape_core.specs.declared.edge.Kind.{Kind}
 use Rattle.shape_core.specs.declared.edge.Kind.TheVariants.{AnyLoc}
-use Rattle.shape_core.specs.Path.{is_shared, last_edge, places_of}
+use Rattle.shape_core.specs.Path.{IsPath, is_shared, last_edge, places_of}
 use Rattle.shape_core.specs.Shape.{Shape}
 use Rattle.heap_core.specs.Blocks.{Block, ShapeAt}
 use Rattle.heap_core.specs.Shapes.{parent_of}
@@ -33,3 +33,5 @@ pub record AreFacts (bs : List Block) (shape : Shape) (facts : ShapeFacts) : Typ
   pub parent : IsParent bs (parent_of shape) facts.parent
   pub places : facts.places ≡ places_of shape.path
   pub shared : facts.shared ≡ is_shared shape.path
+  -- each edge was allowed where it stands
+  pub legal : IsPath shape.path

@@ -1,6 +1,7 @@
 -- What it leaves of a pass that a shape is there.
 use Rattle.std.specs.Prelude.{◌≡◌, ◌≤◌, ◌⊎◌, ℕ, ◌+◌, List, [], ◌∷◌, drop, length}
 use Rattle.shape_core.specs.declared.edge.Edge.{Edge}
+use Rattle.shape_core.specs.Path.{IsPath}
 use Rattle.shape_core.specs.Shape.{Shape, child_of}
 use Rattle.heap_core.specs.Blocks.{Block, ShapeAt}
 use Rattle.rb_shared.specs.Lists.{Has}
@@ -34,11 +35,11 @@ Makes shape at k k' = (bs : List Block) × Has bs (ShapeAt shape at) × (k' ≡ 
 abbrev pub MayMake : Holder → (link to : ℕ) → Type 0
 MayMake k link to = (g : Growth) × (g.link ≡ link) × (g.to ≡ to) × ((before : Shape) × (parent : ℕ) × MayGrow k before parent g)
 
--- the shape is missing, these are its words, and its row ends with this link word
+-- the shape is missing, these are its words, its row ends with this link word, and each edge of its path was allowed
 abbrev pub IsWanted : Holder → (link : ℕ) → List ℕ → Shape → Type 0
 IsWanted k link words shape =
     (parent : ℕ) × IsMissing k.blocks shape × Ends k.blocks (parent_of shape) link × IsNarrow shape × LeadsUp k.blocks (parent_of shape) parent
-    × (words ≡ shape_block shape parent)
+    × (words ≡ shape_block shape parent) × IsPath shape.path
 
 -- the root of the globals, from which the row of roots begins
 abbrev pub KnowsRoot : Holder → Type 0

@@ -1,6 +1,7 @@
 // Shapes are made, under the lock of the tree.
 
 ghost use Rattle.std.specs.Prelude.{◌≡◌, ◌+◌, ◌⊎◌, ◌≤◌, ◌<◌, ℕ, None};
+ghost use Rattle.shape_core.specs.Path.{MayFollow};
 ghost use Rattle.shape_core.specs.Shape.{Shape, child_of, root_of};
 ghost use Rattle.heap_core.specs.Blocks.{ShapeAt};
 ghost use Rattle.heap_core.specs.Growing.{Learns, MakesShape, shape_block};
@@ -83,6 +84,7 @@ pub fn follow<K: Sink>(
 ) -> u64
     requires of { IsOf heap.now pass.old }
     requires known { KnowsShapeAt (holder pass.old) shape_at }
+    requires allowed { (shape : Shape) → Knows (holder pass.old) (ShapeAt shape shape_at) → MayFollow shape.path edge.now }
     requires has { HasTree (holder pass.old) }
     requires room { HasRoom (holder pass.old) room.old ⊎ KnowsChild (holder pass.old) shape_at edge.now }
     ensures of { SameHeap pass.old pass.new }

@@ -31,7 +31,7 @@ intern-requires g c =
       wanted = (
         child_of shape c.args.edge.now,
         subst (λ (h : Holder). IsWanted h c.in-Missing.link c.child_words-words.result (child_of shape c.args.edge.now)) same
-            (child_wanted w shape c.args.edge.now c.args.shape_at c.in-Missing.link c.child_words-words.result sought.tree known c.child_words-words.ensures.narrow (sought.sought shape c.requires.known.1) (c.child_words-words.ensures.words shape known)),
+            (child_wanted w shape c.args.edge.now c.args.shape_at c.in-Missing.link c.child_words-words.result sought.tree known c.child_words-words.ensures.narrow (c.requires.allowed shape c.requires.known.1) (sought.sought shape c.requires.known.1) (c.child_words-words.ensures.words shape known)),
       );
       room = subst (λ (h : Holder). HasRoom h c.args.room.now) same (⊎_elim
           (λ (room : HasRoom k c.args.room.now). still_room k w sought.learns c.requires.has c.args.room.now room)
@@ -53,7 +53,7 @@ returns-in-Missing g c = record {
       let same = c.child_words-words.ensures.same in
       let w : Holder = holder c.seek_child.new.pass in
       let known = learns_among (holder c.args.pass.now) w sought.learns (ShapeAt shape c.args.shape_at) kn in
-      let wanted = child_wanted w shape c.args.edge.now c.args.shape_at c.in-Missing.link c.child_words-words.result sought.tree known c.child_words-words.ensures.narrow (sought.sought shape kn) (c.child_words-words.ensures.words shape known) in
+      let wanted = child_wanted w shape c.args.edge.now c.args.shape_at c.in-Missing.link c.child_words-words.result sought.tree known c.child_words-words.ensures.narrow (c.requires.allowed shape kn) (sought.sought shape kn) (c.child_words-words.ensures.words shape known) in
       interned_made (holder c.args.pass.now) w sought.learns c.requires.has (holder c.intern.new.pass) _ _ (child_of shape c.args.edge.now) _ (sought.sought shape kn).0
       (subst (λ (h : Holder). Makes (child_of shape c.args.edge.now) c.intern.result h (holder c.intern.new.pass)) same
       (c.intern.ensures.made (child_of shape c.args.edge.now) (subst (λ (h : Holder). IsWanted h c.in-Missing.link c.child_words-words.result (child_of shape c.args.edge.now)) (sym same) wanted)))

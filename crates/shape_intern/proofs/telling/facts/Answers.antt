@@ -87,5 +87,6 @@ returns g c =
                 (parent_is w.blocks shape.class shape.path _ _ edge (c.parent-up.ensures.leads shape (subst (λ (h : Holder). Knows h (ShapeAt shape c.args.shape_at)) (sym third) kn)));
             places = places_found k shape c.args.shape_at _ kn (subst (λ (h : Holder). FixedIs h (c.args.shape_at + 4) c.load_fixed-places.result) second c.load_fixed-places.ensures.word);
             shared = c.flag_in.ensures shape.class (is_shared shape.path) tag;
+            legal = c.parent-up.ensures.tree.legal shape c.args.shape_at (learns_among k w (subst (λ (h : Holder). Learns h w) third c.parent-up.ensures.learns) (ShapeAt shape c.args.shape_at) kn);
           };
     }
