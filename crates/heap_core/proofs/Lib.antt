@@ -28,3 +28,4 @@ pub mod Starting
 pub mod Laying
 pub mod Finishing
 pub mod Parting
+pub mod Knowing

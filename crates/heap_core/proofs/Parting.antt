@@ -14,14 +14,13 @@ use Rattle.rb_shared.specs.Lists.{Has, Each}
 use Rattle.rb_shared.specs.Step.{ended_item, ended_thing, ids_in}
 use Rattle.rb_shared.specs.Store.{Store, is_there}
 use Rattle.rb_shared.proofs.Runs.{each_append, has_front, has_behind}
-use Rattle.shape_core.specs.Shape.{Shape}
 use Rattle.shared_run.specs.Standing.{Fits as FitsStore}
 use Rattle.shared_run.specs.Run.{Run, run_after}
 use Rattle.shared_run.proofs.Events.{has_either}
 use Rattle.shared_run.proofs.Sinking.{stands_silent}
 use Rattle.heap_core.specs.Places.{turn_word, tree_lock}
 use Rattle.heap_core.specs.Handing.{Plan, Handed, Slot, Homes}
-use Rattle.heap_core.specs.Blocks.{Block, ObjectAt, ChunkAt, MutexAt, ThreadAt, TextAt, BoxAt, ShapeAt, LockAt, TheTurn, LinkAt, IsOfTree, home_of, id_of, number_of, size_of, HasHome, words_of_shapes}
+use Rattle.heap_core.specs.Blocks.{Block, ThreadAt, TextAt, BoxAt, TheTurn, IsOfTree, home_of, id_of, number_of, size_of, HasHome, words_of_shapes}
 use Rattle.heap_core.specs.Charges.{is_small, blocks_of_all, tally_of}
 use Rattle.heap_core.specs.Ending.{ended_by, value_block, end_blocks, own_place, LaidAs, OwnsBlocks, IsOwnThread, IsEndTold, with_end, EndsInTurn}
 use Rattle.heap_core.specs.Threads.{ThreadStands, SaysEnd, EndIs, state_of, result_of}

@@ -28,3 +28,4 @@ pub mod Ending
 pub mod Starting
 pub mod Heaps
 pub mod Closing
+pub mod Named
